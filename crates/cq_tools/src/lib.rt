@@ -1,0 +1,20 @@
+//! The commands of the program `cq`, over any reader and writer.
+//!
+//! The program itself only hands in its words and streams: what can be wrong with them is found here.
+#![tactic(auto)]
+
+mod echoing;
+mod fault;
+mod input;
+pub mod laws;
+mod lines;
+mod order;
+mod records;
+mod text;
+
+pub use echoing::echo;
+pub use fault::{Refusal, ToolFault};
+pub use order::{Order, ParseFault, parse};
+
+#[cfg(test)]
+mod tests;
