@@ -62,5 +62,16 @@ fn run<R: AllocGlobal + Input + Print>(rt: &R, order: Order) -> Result<(), ToolF
             cq_tools::echo(rt.alloc(), &mut rt.reader(), &mut io::writer(rt))?;
             Ok(())
         }
+        Order::Cycle {
+            roll,
+            epoch,
+            moment,
+        } => cq_tools::cycle(
+            rt.alloc(),
+            roll.as_str(),
+            epoch,
+            moment,
+            &mut io::writer(rt),
+        ),
     }
 }

@@ -1,4 +1,6 @@
 pub mod Lines
 pub mod Records
 pub mod Echo
+pub mod RollWord
+pub mod CycleLine
 pub mod CommandLine

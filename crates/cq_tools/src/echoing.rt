@@ -5,6 +5,7 @@ ghost use Rattle.cq_tools.specs.Lines.{input_lines};
 
 use crate::fault::ToolFault;
 use crate::input::read_input;
+use crate::output::print;
 use crate::text::echo_lines;
 use std::alloc::Global;
 use std::io::{Read, Write};
@@ -43,13 +44,4 @@ pub fn echo<R: Read, W: Write>(
     let (count, text) = echo_lines(alloc, bytes.as_slice())?;
     print(output, text.as_slice())?;
     Ok(count)
-}
-
-/// Writes a text, and all that the writer still keeps back.
-fn print<W: Write>(output: &mut W, text: &[u8]) -> Result<(), ToolFault>
-    ensures written { OnOk result (Appends (W.contents output.old) (W.contents output.new) text.now) }
-    ensures fault { IfErr result (λ fault. fault ≡ ToolFault.WriteFault) }
-{
-    output.write_all(text).map_err(|_| ToolFault::WriteFault)?;
-    output.flush().map_err(|_| ToolFault::WriteFault)
 }

@@ -47,6 +47,12 @@ pub enum ToolFault {
     /// The line has more bytes than the command takes.
     #[error("line {0}: too long")]
     TooLong(u64),
+    /// The settings are outside the limits, or name no roll.
+    #[error("BadConfig")]
+    BadConfig,
+    /// The moment lies in no cycle.
+    #[error("BadMoment")]
+    BadMoment,
     /// Standard output could not be written.
     #[error("write fault")]
     WriteFault,

@@ -1,4 +1,4 @@
-use crate::{Order, ParseFault, Refusal, ToolFault, echo, parse};
+use crate::{Order, ParseFault, Refusal, ToolFault, cycle, echo, parse};
 use std::alloc::Global;
 use std::io;
 use std::io::{ErrorKind, Read, Write};
@@ -187,6 +187,8 @@ fn prints_faults(rt: HostRuntime) -> Result<(), Fail> {
         (ToolFault::TooMany(1001), "line 1001: too many"),
         (ToolFault::Refused(2, Refusal::BadRoom), "line 2: BadRoom"),
         (ToolFault::TooLong(3), "line 3: too long"),
+        (ToolFault::BadConfig, "BadConfig"),
+        (ToolFault::BadMoment, "BadMoment"),
         (ToolFault::WriteFault, "write fault"),
     ];
     for (fault, want) in table {
@@ -196,40 +198,100 @@ fn prints_faults(rt: HostRuntime) -> Result<(), Fail> {
 }
 
 #[test]
-fn parses_words(rt: HostRuntime) -> Result<(), Fail> {
+fn prints_cycles(rt: HostRuntime) -> Result<(), Fail> {
     let alloc = rt.alloc();
-    let table: [(&[&str], Option<&str>); 8] = [
-        (&["cq", "echo"], None),
-        (&["another name", "echo"], None),
-        (&["cq"], Some("requires a subcommand")),
+    let table = [
         (
-            &["cq", "nonsense"],
-            Some("unrecognized subcommand 'nonsense'"),
+            "daily",
+            0,
+            1_728_000_000_000,
+            "20000 20241004 00004e2000000000\n",
+            "done",
         ),
         (
-            &["cq", "echo", "extra"],
-            Some("unexpected argument 'extra'"),
+            "hourly",
+            0,
+            1_728_000_000_000,
+            "480000 20241004-00 0007530000000000\n",
+            "done",
         ),
         (
-            &["cq", "--version"],
-            Some("unexpected argument '--version'"),
+            "minutely",
+            3_600_000,
+            3_600_000,
+            "0 19700101-0100 0000000000000000\n",
+            "done",
         ),
-        (&["cq", "--help"], Some("Usage: cq <COMMAND>")),
-        (&["cq", "echo", "--help"], Some("Usage: cq echo")),
+        ("weekly", 0, 0, "", "BadConfig"),
+        ("", 0, 0, "", "BadConfig"),
+        ("Daily", 0, 0, "", "BadConfig"),
+        // The roll is looked at before the moment.
+        ("weekly", 1, 0, "", "BadConfig"),
+        ("daily", 1, 0, "", "BadMoment"),
+        ("daily", 0, 253_402_300_800_000, "", "BadMoment"),
+        ("daily", u64::MAX, u64::MAX, "", "BadMoment"),
+    ];
+    for (roll, epoch, moment, text, want) in table {
+        let mut output = Vec::new(alloc);
+        let said = match cycle(alloc, roll, epoch, moment, &mut output) {
+            Ok(()) => format!(in alloc; "done")?,
+            Err(fault) => format!(in alloc; "{fault}")?,
+        };
+        assert_eq!(rt; said.as_str(), want, "at {roll} {epoch} {moment}");
+        assert_eq!(rt; output.as_slice(), text.as_bytes());
+    }
+    let mut output = Writer {
+        room: 7,
+        refuses_flush: false,
+        taken: Vec::new(alloc),
+    };
+    let result = cycle(alloc, "daily", 0, 0, &mut output);
+    assert!(rt; matches!(result, Err(ToolFault::WriteFault)));
+    Ok(())
+}
+
+/// What the words are, or the beginning of what is said of them.
+fn parsed(alloc: Global, given: &[&str]) -> Result<String, Fail> {
+    let mut words = Vec::new(alloc);
+    for word in given {
+        words.push(String::from_str(alloc, word)?)?;
+    }
+    Ok(match parse(alloc, words.as_slice()) {
+        Ok(order) => format!(in alloc; "{order:?}")?,
+        Err(ParseFault::NotUnderstood(error)) => error.to_string(alloc)?,
+        Err(ParseFault::OutOfMemory) => format!(in alloc; "want of memory")?,
+    })
+}
+
+#[test]
+fn parses_words(rt: HostRuntime) -> Result<(), Fail> {
+    let table: [(&[&str], &str); 13] = [
+        (&["cq", "echo"], "Echo"),
+        (&["another name", "echo"], "Echo"),
+        (&["cq"], "requires a subcommand"),
+        (&["cq", "nonsense"], "unrecognized subcommand 'nonsense'"),
+        (&["cq", "echo", "extra"], "unexpected argument 'extra'"),
+        (&["cq", "--version"], "unexpected argument '--version'"),
+        (&["cq", "--help"], "Usage: cq <COMMAND>"),
+        (&["cq", "echo", "--help"], "Usage: cq echo"),
+        (
+            &["cq", "cycle", "weekly", "007", "18446744073709551615"],
+            "Cycle { roll: \"weekly\", epoch: 7, moment: 18446744073709551615 }",
+        ),
+        (&["cq", "cycle", "daily", "0"], "<MOMENT>"),
+        (
+            &["cq", "cycle", "daily", "0", "18446744073709551616"],
+            "invalid value '18446744073709551616'",
+        ),
+        (&["cq", "cycle", "daily", "0x0", "0"], "invalid value '0x0'"),
+        (
+            &["cq", "cycle", "daily", "0", "0", "0"],
+            "unexpected argument '0'",
+        ),
     ];
     for (given, want) in table {
-        let mut words = Vec::new(alloc);
-        for word in given {
-            words.push(String::from_str(alloc, word)?)?;
-        }
-        match (parse(alloc, words.as_slice()), want) {
-            (Ok(Order::Echo), None) => {}
-            (Err(ParseFault::NotUnderstood(error)), Some(text)) => {
-                let said = error.to_string(alloc)?;
-                assert!(rt; said.as_str().contains(text), "{said}");
-            }
-            _ => assert!(rt; false, "at {given:?}"),
-        }
+        let said = parsed(rt.alloc(), given)?;
+        assert!(rt; said.as_str().contains(want), "{said}");
     }
     Ok(())
 }

@@ -1,0 +1,3 @@
+pub mod CalendarLemmas
+pub mod CycleLemmas
+pub mod NameLemmas

@@ -1,0 +1,81 @@
+//! The names of cycles.
+
+ghost use Rattle.std.specs.Prelude.{◌≡◌, IfErr, IfOk, IfSome, Ok, Some, string_bytes, ℕ};
+ghost use Rattle.cq_cycle.specs.Cycle.{HasCycle};
+ghost use Rattle.cq_cycle.specs.Name.{IsName, NamesNoCycle};
+
+use crate::date::WrittenDate;
+use crate::roll::MILLIS_PER_DAY;
+use crate::time::{first_time, push_time};
+use crate::{Roll, cycle_of};
+use std::alloc::{AllocError, Global};
+use std::error::Error;
+use std::fmt;
+
+/// Why a name gives no cycle.
+#[derive(Clone, Copy, Debug, PartialEq, Eq, Hash)]
+pub enum NameFault {
+    /// No cycle has the name.
+    BadName,
+    /// Memory ran out.
+    OutOfMemory,
+}
+
+impl fmt::Display for NameFault {
+    ghost use Rattle.std.specs.Prelude.{Some};
+    ghost use Rattle.cq_cycle.specs.Name.{fault_text};
+
+    ghost output = { λ fault. Some (fault_text fault) };
+
+    fn fmt<W: fmt::Write>(&self, f: &mut fmt::Formatter<W>) -> fmt::Result {
+        f.write_str(match self {
+            NameFault::BadName => "BadName",
+            NameFault::OutOfMemory => "want of memory",
+        })
+    }
+}
+
+impl Error for NameFault {}
+
+/// The name of a cycle: the civil date and time in UTC of its start, `epoch + cycle * length`, cut to the day, the hour
+/// or the minute (the queue's documentation; that it is UTC is this project's profile). `epoch` is in milliseconds of
+/// Unix time, and the cycle is one that `has_cycle` tells a queue may have.
+///
+/// Answers `AllocError` where no memory is left for the name.
+pub fn name_of(alloc: Global, roll: Roll, epoch: u64, cycle: u32) -> Result<String, AllocError>
+    requires { HasCycle roll epoch cycle }
+    ensures { IfOk result (λ name. IsName roll epoch cycle (string_bytes name)) }
+{
+    let start = epoch + u64::from(cycle) * roll.millis();
+    let mut name = String::new(alloc);
+    WrittenDate::of_day(start / MILLIS_PER_DAY).push_to(&mut name)?;
+    push_time(&mut name, roll, start % MILLIS_PER_DAY)?;
+    Ok(name)
+}
+
+/// The one cycle with this name. `epoch` is in milliseconds of Unix time.
+///
+/// Answers `BadName` where no cycle that a queue may have has the name. It takes no memory, and so never answers
+/// `OutOfMemory`.
+pub fn cycle_named(roll: Roll, epoch: u64, name: &str) -> Result<u32, NameFault>
+    ensures found { IfOk result (λ cycle. HasCycle roll epoch cycle × IsName roll epoch cycle name.now) }
+    ensures only { (cycle : ℕ) → HasCycle roll epoch cycle → IsName roll epoch cycle name.now → result ≡ Ok cycle }
+    ensures refused { IfErr result (λ fault. (fault ≡ NameFault.BadName) × NamesNoCycle roll epoch name.now) }
+{
+    find_cycle(roll, epoch, name.as_bytes()).ok_or(NameFault::BadName)
+}
+
+/// The cycle with this name, if there is one.
+///
+/// A cycle is as long as the time that a name stands for, so at most one cycle begins in that time: the one in which
+/// its last millisecond lies.
+fn find_cycle(roll: Roll, epoch: u64, name: &[u8]) -> Option<u32>
+    ensures found { IfSome result (λ cycle. HasCycle roll epoch cycle × IsName roll epoch cycle name.now) }
+    ensures only { (cycle : ℕ) → HasCycle roll epoch cycle → IsName roll epoch cycle name.now → result ≡ Some cycle }
+{
+    let (date, rest) = WrittenDate::take_from(name)?;
+    let day = date.day_number()?;
+    let time = first_time(roll, rest)?;
+    let last = day * MILLIS_PER_DAY + time + (roll.millis() - 1);
+    cycle_of(roll, epoch, last).ok()
+}
