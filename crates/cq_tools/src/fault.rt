@@ -1,30 +1,8 @@
 ghost use Rattle.std.specs.Prelude.{◌≡◌};
 ghost use Rattle.cq_tools.specs.declared.fault.ToolFault.TheVariants.{OutOfMemory};
 
+use cq_model::Refusal;
 use std::alloc::AllocError;
-use std::error::Error;
-use std::fmt;
-
-/// Why a message is not stored.
-#[derive(Clone, Copy, Debug, PartialEq, Eq, Hash)]
-pub enum Refusal {
-    /// The message is empty: its header would be the empty header (this project's profile).
-    BadRoom,
-}
-
-impl fmt::Display for Refusal {
-    ghost use Rattle.std.specs.Prelude.{Some, codes};
-
-    ghost output = { λ _. Some (codes "BadRoom") };
-
-    fn fmt<W: fmt::Write>(&self, f: &mut fmt::Formatter<W>) -> fmt::Result {
-        f.write_str(match self {
-            Refusal::BadRoom => "BadRoom",
-        })
-    }
-}
-
-impl Error for Refusal {}
 
 /// Why a command is not done. It prints the text that stands behind `cq: ` on standard error. Lines are counted from 1.
 #[derive(Debug, Drop, thiserror::Error)]

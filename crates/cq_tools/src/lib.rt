@@ -17,7 +17,7 @@ mod text;
 
 pub use cycle_line::cycle;
 pub use echoing::echo;
-pub use fault::{Refusal, ToolFault};
+pub use fault::ToolFault;
 pub use order::{Order, ParseFault, parse};
 
 #[cfg(test)]

@@ -1,4 +1,5 @@
-use crate::{Order, ParseFault, Refusal, ToolFault, cycle, echo, parse};
+use crate::{Order, ParseFault, ToolFault, cycle, echo, parse};
+use cq_model::Refusal;
 use std::alloc::Global;
 use std::io;
 use std::io::{ErrorKind, Read, Write};

@@ -1,0 +1,16 @@
+pub mod CallLemmas
+pub mod Decided
+pub mod Each
+pub mod FindLemmas
+pub mod Grows
+pub mod Inversions
+pub mod Legal
+pub mod NameLemmas
+pub mod OpenLemmas
+pub mod ReplyLemmas
+pub mod SeenLemmas
+pub mod Sound
+pub mod StayLemmas
+pub mod TakeLemmas
+pub mod TestLemmas
+pub mod WriterLemmas

@@ -1,0 +1,10 @@
+pub mod Callers
+pub mod Finds
+pub mod Histories
+pub mod Replies
+pub mod Rows
+pub mod Settings
+pub mod States
+pub mod Takes
+pub mod Writers
+pub mod Refusal
