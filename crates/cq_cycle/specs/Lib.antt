@@ -1,3 +1,4 @@
 pub mod Cycle
 pub mod Index
 pub mod Name
+pub mod RollWord

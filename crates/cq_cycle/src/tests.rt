@@ -1,5 +1,6 @@
 use crate::{
     BadMoment, Index, LAST_MOMENT, NameFault, Roll, cycle_named, cycle_of, has_cycle, name_of,
+    roll_named,
 };
 use std::alloc::AllocGlobal;
 use std::process::Abort;
@@ -195,6 +196,22 @@ fn prints_faults(rt: HostRuntime) -> Result<(), Fail> {
         (NameFault::OutOfMemory, "want of memory"),
     ] {
         assert_eq!(rt; format!(in rt.alloc(); "{fault}")?.as_str(), want);
+    }
+    Ok(())
+}
+
+#[test]
+fn words_name_rolls(rt: HostRuntime) -> Result<(), Fail> {
+    for (roll, word) in [
+        (Roll::Daily, "daily"),
+        (Roll::Hourly, "hourly"),
+        (Roll::Minutely, "minutely"),
+    ] {
+        assert_eq!(rt; roll_named(word), Some(roll), "{word}");
+        assert_eq!(rt; format!(in rt.alloc(); "{roll}")?.as_str(), word);
+    }
+    for word in ["", "Daily", "daily ", "dail", "weekly", "minutely\n"] {
+        assert_eq!(rt; roll_named(word), None, "{word:?}");
     }
     Ok(())
 }

@@ -1,0 +1,36 @@
+//! The words that name the rolls.
+
+ghost use Rattle.std.specs.Prelude.{◌≡◌, IfSome, Some};
+ghost use Rattle.cq_cycle.specs.declared.roll.Roll.{Roll};
+ghost use Rattle.cq_cycle.specs.RollWord.{roll_word};
+
+use crate::Roll;
+use std::fmt;
+
+/// The roll that a word names: `daily`, `hourly` or `minutely` (this project's profile). `None` for any other word.
+pub fn roll_named(word: &str) -> Option<Roll>
+    ensures found { IfSome result (λ roll. word.now ≡ roll_word roll) }
+    ensures only { (roll : Roll) → word.now ≡ roll_word roll → result ≡ Some roll }
+{
+    match word {
+        "daily" => Some(Roll::Daily),
+        "hourly" => Some(Roll::Hourly),
+        "minutely" => Some(Roll::Minutely),
+        _ => None,
+    }
+}
+
+impl fmt::Display for Roll {
+    ghost use Rattle.std.specs.Prelude.{Some};
+    ghost use Rattle.cq_cycle.specs.RollWord.{roll_word};
+
+    ghost output = { λ roll. Some (roll_word roll) };
+
+    fn fmt<W: fmt::Write>(&self, f: &mut fmt::Formatter<W>) -> fmt::Result {
+        f.write_str(match self {
+            Roll::Daily => "daily",
+            Roll::Hourly => "hourly",
+            Roll::Minutely => "minutely",
+        })
+    }
+}
