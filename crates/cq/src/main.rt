@@ -4,10 +4,11 @@
 //! wrong goes to standard error.
 #![tactic(auto)]
 
+use cq_folder::RealFolder;
 use cq_tools::{Order, ParseFault, ToolFault};
 use std::io::ErrorKind;
 use std::process::ExitCode;
-use std::rt::Env;
+use std::rt::{Env, Files};
 use std::{env, io};
 
 const DONE: u8 = 0;
@@ -21,7 +22,7 @@ fn main(rt: HostRuntime) -> ExitCode {
 }
 
 /// Does what the words of the command line ask for, and gives the exit status.
-fn status<R: AllocGlobal + Env + Input + Print + Eprint>(rt: &R) -> u8 {
+fn status<R: AllocGlobal + Env + Files + Input + Print + Eprint + Clone + Drop>(rt: &R) -> u8 {
     let words = match words(rt) {
         Ok(words) => words,
         Err(error) if error.kind() == ErrorKind::InvalidData => {
@@ -55,23 +56,57 @@ fn words<R: AllocGlobal + Env>(rt: &R) -> io::Result<Vec<String>> {
     Ok(env::args(rt)?.collect(rt.alloc())?)
 }
 
-/// Does what is asked for, over the standard streams.
-fn run<R: AllocGlobal + Input + Print>(rt: &R, order: Order) -> Result<(), ToolFault> {
+/// Does what is asked for, over the folder that is named and the standard streams.
+fn run<R: AllocGlobal + Files + Input + Print + Clone + Drop>(
+    rt: &R,
+    order: Order,
+) -> Result<(), ToolFault> {
+    let alloc = rt.alloc();
     match order {
         Order::Echo => {
-            cq_tools::echo(rt.alloc(), &mut rt.reader(), &mut io::writer(rt))?;
+            cq_tools::echo(alloc, &mut rt.reader(), &mut io::writer(rt))?;
             Ok(())
         }
         Order::Cycle {
             roll,
             epoch,
             moment,
-        } => cq_tools::cycle(
-            rt.alloc(),
-            roll.as_str(),
-            epoch,
+        } => cq_tools::cycle(alloc, roll.as_str(), epoch, moment, &mut io::writer(rt)),
+        Order::Init { folder, settings } => {
+            cq_tools::init(alloc, &mut RealFolder::new(rt, folder), settings)
+        }
+        Order::Write { folder, moment } => cq_tools::write(
+            alloc,
+            &mut RealFolder::new(rt, folder),
             moment,
+            &mut rt.reader(),
             &mut io::writer(rt),
         ),
+        Order::Read { folder, back, from } => cq_tools::read(
+            alloc,
+            &mut RealFolder::new(rt, folder),
+            back,
+            word_of(&from),
+            &mut io::writer(rt),
+        ),
+        Order::Check { folder } => cq_tools::check(
+            alloc,
+            &mut RealFolder::new(rt, folder),
+            &mut io::writer(rt),
+        ),
+        Order::Dump { folder, file } => cq_tools::dump(
+            alloc,
+            &mut RealFolder::new(rt, folder),
+            file.as_str(),
+            &mut io::writer(rt),
+        ),
+    }
+}
+
+/// The word, if one was given.
+fn word_of(word: &Option<String>) -> Option<&str> {
+    match word {
+        None => None,
+        Some(text) => Some(text.as_str()),
     }
 }

@@ -1,3 +1,2 @@
 pub mod CommandLemmas
-pub mod LinesLemmas
-pub mod RecordsLemmas
+pub mod OrderLemmas

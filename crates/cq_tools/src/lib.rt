@@ -1,24 +1,16 @@
-//! The commands of the program `cq`, over any reader and writer.
+//! The command line of the program `cq`: the order in its words, and the commands that carry it out.
 //!
-//! The program itself only hands in its words and streams: what can be wrong with them is found here.
+//! The program itself only hands in its words and streams: what can be wrong with them is found here and in `cq_commands`.
 #![tactic(auto)]
 
-mod cycle_line;
-mod echoing;
-mod fault;
-mod input;
-pub mod laws;
-mod lines;
-mod order;
-mod output;
-mod records;
-mod roll_word;
-mod text;
+mod command_line;
+mod orders;
+mod parsing;
 
-pub use cycle_line::cycle;
-pub use echoing::echo;
-pub use fault::ToolFault;
-pub use order::{Order, ParseFault, parse};
+pub use cq_commands::{
+    InitSettings, Order, ToolFault, check, cycle, dump, echo, init, read, write,
+};
+pub use parsing::{ParseFault, parse};
 
 #[cfg(test)]
 mod tests;

@@ -1,255 +1,7 @@
-use crate::{Order, ParseFault, ToolFault, cycle, echo, parse};
-use cq_model::Refusal;
+use crate::{Order, ParseFault, parse};
 use std::alloc::Global;
-use std::io;
-use std::io::{ErrorKind, Read, Write};
+use std::process::Abort;
 use std::test::Fail;
-
-/// What `echo` writes, and how many lines it gives or the text of its fault.
-fn echoed(alloc: Global, input: &[u8]) -> Result<(Vec<u8>, String), Fail> {
-    let mut output = Vec::new(alloc);
-    let mut rest = input;
-    let said = match echo(alloc, &mut rest, &mut output) {
-        Ok(count) => format!(in alloc; "{count} lines")?,
-        Err(fault) => format!(in alloc; "{fault}")?,
-    };
-    Ok((output, said))
-}
-
-#[test]
-fn echoes_lines(rt: HostRuntime) -> Result<(), Fail> {
-    let cases: [(&[u8], &[u8], &str); 8] = [
-        (b"hello\nworld\n", b"0 hello\n1 world\n", "2 lines"),
-        (b"", b"", "0 lines"),
-        (b"a", b"0 a\n", "1 lines"),
-        (b"a\r\n\x00\xff\n", b"0 a\r\n1 \x00\xff\n", "2 lines"),
-        (b"a\n\n", b"", "line 2: BadRoom"),
-        (b"\n", b"", "line 1: BadRoom"),
-        (b"a\n\nb", b"", "line 2: BadRoom"),
-        (b"a b c d e\n", b"0 a b c d e\n", "1 lines"),
-    ];
-    for (input, want, text) in cases {
-        let (output, said) = echoed(rt.alloc(), input)?;
-        assert_eq!(rt; output.as_slice(), want);
-        assert_eq!(rt; said.as_str(), text);
-    }
-    Ok(())
-}
-
-/// So many lines of so many bytes.
-fn lines_of(alloc: Global, lines: usize, bytes: usize) -> Result<Vec<u8>, Fail> {
-    let mut text = Vec::new(alloc);
-    for _ in 0..lines {
-        for _ in 0..bytes {
-            text.push(b'x')?;
-        }
-        text.push(b'\n')?;
-    }
-    Ok(text)
-}
-
-#[test]
-fn bounds_the_input(rt: HostRuntime) -> Result<(), Fail> {
-    let alloc = rt.alloc();
-    let cases = [
-        (1, 128, "", "1 lines"),
-        (1, 129, "", "line 1: too long"),
-        (2, 129, "", "line 1: too long"),
-        (1, 128, "\n", "line 2: BadRoom"),
-        (1000, 1, "", "1000 lines"),
-        (1000, 1, "a", "line 1001: too many"),
-        (1000, 1, "\n", "line 1001: too many"),
-        (1002, 1, "", "line 1001: too many"),
-        // 129,000 bytes, and one more.
-        (1000, 128, "", "1000 lines"),
-        (1000, 128, "a", "input too long"),
-        (1, 129_000, "", "input too long"),
-    ];
-    for (lines, bytes, more, want) in cases {
-        let mut input = lines_of(alloc, lines, bytes)?;
-        input.extend_from_slice(more.as_bytes())?;
-        let (output, said) = echoed(alloc, input.as_slice())?;
-        assert_eq!(rt; said.as_str(), want, "at {lines} lines of {bytes} bytes");
-        assert_eq!(rt; output.is_empty(), !want.ends_with(" lines"));
-    }
-    Ok(())
-}
-
-/// A reader that gives this many single bytes, and then only this answer.
-#[derive(Drop)]
-struct Reader {
-    bytes: u32,
-    then: Result<usize, ErrorKind>,
-}
-
-impl Read for Reader {
-    fn read(&mut self, buf: &mut [u8]) -> io::Result<usize> {
-        if buf.is_empty() {
-            return Ok(0);
-        }
-        buf[0] = b'a';
-        if self.bytes > 0 {
-            self.bytes -= 1;
-            return Ok(1);
-        }
-        match self.then {
-            Ok(0) => Ok(0),
-            Ok(_) => Ok(1),
-            Err(kind) => Err(io::Error::from(kind)),
-        }
-    }
-}
-
-#[test]
-fn reads_to_the_end(rt: HostRuntime) -> Result<(), Fail> {
-    let alloc = rt.alloc();
-    let cases = [
-        (3, Ok(0), "1 lines", "0 aaa\n"),
-        (3, Err(ErrorKind::Other), "read fault", ""),
-        (0, Err(ErrorKind::IsADirectory), "read fault", ""),
-        // The whole input is read before its length is looked at.
-        (129_001, Ok(0), "input too long", ""),
-        (129_001, Err(ErrorKind::Other), "read fault", ""),
-        // A reader that never ends.
-        (0, Ok(1), "read fault", ""),
-        (3, Err(ErrorKind::Interrupted), "read fault", ""),
-    ];
-    for (bytes, then, want, text) in cases {
-        let mut output = Vec::new(alloc);
-        let said = match echo(alloc, &mut Reader { bytes, then }, &mut output) {
-            Ok(count) => format!(in alloc; "{count} lines")?,
-            Err(fault) => format!(in alloc; "{fault}")?,
-        };
-        assert_eq!(rt; said.as_str(), want, "after {bytes} bytes");
-        assert_eq!(rt; output.as_slice(), text.as_bytes());
-    }
-    Ok(())
-}
-
-/// A writer that takes one byte at a time, this many of them, and refuses the flush where it is told to.
-#[derive(Drop)]
-struct Writer {
-    room: usize,
-    refuses_flush: bool,
-    taken: Vec<u8>,
-}
-
-impl Write for Writer {
-    fn write(&mut self, buf: &[u8]) -> io::Result<usize> {
-        let [first, ..] = buf else {
-            return Ok(0);
-        };
-        if self.room == 0 {
-            return Err(io::Error::from(ErrorKind::Other));
-        }
-        self.taken.push(*first)?;
-        self.room -= 1;
-        Ok(1)
-    }
-
-    fn flush(&mut self) -> io::Result<()> {
-        if self.refuses_flush {
-            return Err(io::Error::from(ErrorKind::Other));
-        }
-        Ok(())
-    }
-}
-
-#[test]
-fn passes_write_faults_on(rt: HostRuntime) -> Result<(), Fail> {
-    let alloc = rt.alloc();
-    let cases = [
-        (8, false, true, "0 a\n1 b\n"),
-        (7, false, false, "0 a\n1 b"),
-        (0, false, false, ""),
-        (8, true, false, "0 a\n1 b\n"),
-    ];
-    for (room, refuses_flush, succeeds, text) in cases {
-        let mut output = Writer {
-            room,
-            refuses_flush,
-            taken: Vec::new(alloc),
-        };
-        let mut input: &[u8] = b"a\nb\n";
-        let result = echo(alloc, &mut input, &mut output);
-        assert_eq!(rt; result.is_ok(), succeeds, "at {room}");
-        assert!(rt; succeeds || matches!(result, Err(ToolFault::WriteFault)));
-        assert_eq!(rt; output.taken.as_slice(), text.as_bytes());
-    }
-    Ok(())
-}
-
-#[test]
-fn prints_faults(rt: HostRuntime) -> Result<(), Fail> {
-    let table = [
-        (ToolFault::OutOfMemory, "want of memory"),
-        (ToolFault::ReadFault, "read fault"),
-        (ToolFault::InputTooLong, "input too long"),
-        (ToolFault::TooMany(1001), "line 1001: too many"),
-        (ToolFault::Refused(2, Refusal::BadRoom), "line 2: BadRoom"),
-        (ToolFault::TooLong(3), "line 3: too long"),
-        (ToolFault::BadConfig, "BadConfig"),
-        (ToolFault::BadMoment, "BadMoment"),
-        (ToolFault::WriteFault, "write fault"),
-    ];
-    for (fault, want) in table {
-        assert_eq!(rt; fault.to_string(rt.alloc())?.as_str(), want);
-    }
-    Ok(())
-}
-
-#[test]
-fn prints_cycles(rt: HostRuntime) -> Result<(), Fail> {
-    let alloc = rt.alloc();
-    let table = [
-        (
-            "daily",
-            0,
-            1_728_000_000_000,
-            "20000 20241004 00004e2000000000\n",
-            "done",
-        ),
-        (
-            "hourly",
-            0,
-            1_728_000_000_000,
-            "480000 20241004-00 0007530000000000\n",
-            "done",
-        ),
-        (
-            "minutely",
-            3_600_000,
-            3_600_000,
-            "0 19700101-0100 0000000000000000\n",
-            "done",
-        ),
-        ("weekly", 0, 0, "", "BadConfig"),
-        ("", 0, 0, "", "BadConfig"),
-        ("Daily", 0, 0, "", "BadConfig"),
-        // The roll is looked at before the moment.
-        ("weekly", 1, 0, "", "BadConfig"),
-        ("daily", 1, 0, "", "BadMoment"),
-        ("daily", 0, 253_402_300_800_000, "", "BadMoment"),
-        ("daily", u64::MAX, u64::MAX, "", "BadMoment"),
-    ];
-    for (roll, epoch, moment, text, want) in table {
-        let mut output = Vec::new(alloc);
-        let said = match cycle(alloc, roll, epoch, moment, &mut output) {
-            Ok(()) => format!(in alloc; "done")?,
-            Err(fault) => format!(in alloc; "{fault}")?,
-        };
-        assert_eq!(rt; said.as_str(), want, "at {roll} {epoch} {moment}");
-        assert_eq!(rt; output.as_slice(), text.as_bytes());
-    }
-    let mut output = Writer {
-        room: 7,
-        refuses_flush: false,
-        taken: Vec::new(alloc),
-    };
-    let result = cycle(alloc, "daily", 0, 0, &mut output);
-    assert!(rt; matches!(result, Err(ToolFault::WriteFault)));
-    Ok(())
-}
 
 /// What the words are, or the beginning of what is said of them.
 fn parsed(alloc: Global, given: &[&str]) -> Result<String, Fail> {
@@ -262,6 +14,15 @@ fn parsed(alloc: Global, given: &[&str]) -> Result<String, Fail> {
         Err(ParseFault::NotUnderstood(error)) => error.to_string(alloc)?,
         Err(ParseFault::OutOfMemory) => format!(in alloc; "want of memory")?,
     })
+}
+
+/// Each list of words is what stands beside it.
+fn expect<R: AllocGlobal + Abort>(rt: &R, table: &[(&[&str], &str)]) -> Result<(), Fail> {
+    for (given, want) in table {
+        let said = parsed(rt.alloc(), given)?;
+        assert!(rt; said.as_str().contains(*want), "{said}");
+    }
+    Ok(())
 }
 
 #[test]
@@ -290,9 +51,176 @@ fn parses_words(rt: HostRuntime) -> Result<(), Fail> {
             "unexpected argument '0'",
         ),
     ];
-    for (given, want) in table {
-        let said = parsed(rt.alloc(), given)?;
-        assert!(rt; said.as_str().contains(want), "{said}");
-    }
-    Ok(())
+    expect(&rt, table.as_slice())
+}
+
+#[test]
+fn parses_the_words_of_a_new_queue(rt: HostRuntime) -> Result<(), Fail> {
+    let table: [(&[&str], &str); 10] = [
+        (
+            &["cq", "init", "q", "hourly", "1", "2", "3", "4", "5"],
+            "Init { folder: \"q\", settings: InitSettings { roll: \"hourly\", epoch: 1, cells: 2, index_count: 3, \
+             index_spacing: 4, cycles: 5, names: [] } }",
+        ),
+        (
+            &[
+                "cq",
+                "init",
+                "q",
+                "weekly",
+                "0",
+                "18446744073709551615",
+                "0",
+                "+4",
+                "005",
+                "b",
+                "a",
+                "b",
+            ],
+            "Init { folder: \"q\", settings: InitSettings { roll: \"weekly\", epoch: 0, cells: 18446744073709551615, \
+             index_count: 0, index_spacing: 4, cycles: 5, names: [\"b\", \"a\", \"b\"] } }",
+        ),
+        (
+            &[
+                "cq", "init", "q", "", "1", "2", "3", "4", "5", "--", "-a", "",
+            ],
+            "roll: \"\", epoch: 1, cells: 2, index_count: 3, index_spacing: 4, cycles: 5, names: [\"-a\", \"\"] } }",
+        ),
+        (
+            &["cq", "init", "q", "hourly", "1", "2", "3", "4"],
+            "<CYCLES>",
+        ),
+        (&["cq", "init"], "<DIR>"),
+        (
+            &["cq", "init", "q", "hourly", "1", "2", "3", "4", "five"],
+            "invalid value 'five' for '<CYCLES>'",
+        ),
+        (
+            &[
+                "cq",
+                "init",
+                "q",
+                "hourly",
+                "1",
+                "18446744073709551616",
+                "3",
+                "4",
+                "5",
+            ],
+            "invalid value '18446744073709551616' for '<CELLS>'",
+        ),
+        (
+            &["cq", "init", "q", "hourly", "-1", "2", "3", "4", "5"],
+            "unexpected argument '-1'",
+        ),
+        (
+            &["cq", "init", "q", "hourly", "1", "2", "3", "4", "5", "-a"],
+            "unexpected argument '-a'",
+        ),
+        (
+            &["cq", "init", "--help"],
+            "Usage: cq init <DIR> <ROLL> <EPOCH> <CELLS> <COUNT> <SPACING> <CYCLES> [NAMES]...",
+        ),
+    ];
+    expect(&rt, table.as_slice())
+}
+
+#[test]
+fn parses_the_words_of_a_reader(rt: HostRuntime) -> Result<(), Fail> {
+    let table: [(&[&str], &str); 15] = [
+        (
+            &["cq", "read", "q"],
+            "Read { folder: \"q\", back: false, from: None }",
+        ),
+        (
+            &["cq", "read", "q", "--back"],
+            "Read { folder: \"q\", back: true, from: None }",
+        ),
+        (
+            &["cq", "read", "--back", "q"],
+            "Read { folder: \"q\", back: true, from: None }",
+        ),
+        (
+            &["cq", "read", "q", "--from", "0000000100000002"],
+            "Read { folder: \"q\", back: false, from: Some(\"0000000100000002\") }",
+        ),
+        (
+            &["cq", "read", "--from", "q", "r"],
+            "Read { folder: \"r\", back: false, from: Some(\"q\") }",
+        ),
+        (
+            &["cq", "read", "q", "--back", "--from", "no index"],
+            "Read { folder: \"q\", back: true, from: Some(\"no index\") }",
+        ),
+        (
+            &["cq", "read", "--from=", "q", "--back"],
+            "Read { folder: \"q\", back: true, from: Some(\"\") }",
+        ),
+        (
+            &["cq", "read", "--back", "--from", "7", "q"],
+            "Read { folder: \"q\", back: true, from: Some(\"7\") }",
+        ),
+        (&["cq", "read"], "<DIR>"),
+        (&["cq", "read", "q", "r"], "unexpected argument 'r'"),
+        (
+            &["cq", "read", "q", "--back", "--back"],
+            "'--back' cannot be used multiple times",
+        ),
+        (
+            &["cq", "read", "q", "--from", "1", "--from", "2"],
+            "'--from <INDEX>' cannot be used multiple times",
+        ),
+        (
+            &["cq", "read", "q", "--from"],
+            "a value is required for '--from <INDEX>'",
+        ),
+        (
+            &["cq", "read", "q", "--back=yes"],
+            "unexpected value 'yes' for '--back'",
+        ),
+        (
+            &["cq", "read", "q", "--forth"],
+            "unexpected argument '--forth'",
+        ),
+    ];
+    expect(&rt, table.as_slice())
+}
+
+#[test]
+fn parses_the_words_of_other_commands(rt: HostRuntime) -> Result<(), Fail> {
+    let table: [(&[&str], &str); 17] = [
+        (
+            &["cq", "write", "q", "18446744073709551615"],
+            "Write { folder: \"q\", moment: 18446744073709551615 }",
+        ),
+        (
+            &["cq", "write", "ein Ordner für Ähren", "0"],
+            "Write { folder: \"ein Ordner für Ähren\", moment: 0 }",
+        ),
+        (&["cq", "write", "q"], "<MOMENT>"),
+        (&["cq", "write", "q", "1", "2"], "unexpected argument '2'"),
+        (&["cq", "write", "q", "-1"], "unexpected argument '-1'"),
+        (
+            &["cq", "write", "q", "18446744073709551616"],
+            "invalid value '18446744073709551616' for '<MOMENT>'",
+        ),
+        (
+            &["cq", "write", "q", "now"],
+            "invalid value 'now' for '<MOMENT>'",
+        ),
+        (&["cq", "write", "q", ""], "invalid value '' for '<MOMENT>'"),
+        (&["cq", "check", "q"], "Check { folder: \"q\" }"),
+        (&["cq", "check", " "], "Check { folder: \" \" }"),
+        (&["cq", "check"], "<DIR>"),
+        (&["cq", "check", "q", "r"], "unexpected argument 'r'"),
+        (&["cq", "check", "q", "-x"], "unexpected argument '-x'"),
+        (
+            &["cq", "dump", "q", "2024 01.cq"],
+            "Dump { folder: \"q\", file: \"2024 01.cq\" }",
+        ),
+        (&["cq", "dump", "q"], "<FILE>"),
+        (&["cq", "dump", "q", "r", "s"], "unexpected argument 's'"),
+        (&["cq", "dump", "--help"], "Usage: cq dump <DIR> <FILE>"),
+    ];
+    expect(&rt, table.as_slice())
 }

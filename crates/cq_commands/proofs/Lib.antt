@@ -1,0 +1,5 @@
+pub mod LinesLemmas
+pub mod EchoLemmas
+pub mod QueueLemmas
+pub mod AppendLemmas
+pub mod PrintingLemmas

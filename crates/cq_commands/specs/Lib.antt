@@ -1,0 +1,7 @@
+pub mod CycleLine
+pub mod Echo
+pub mod Lines
+pub mod FolderFaults
+pub mod Messages
+pub mod Queue
+pub mod Appending

@@ -1,0 +1,75 @@
+//! The files of a queue's folder.
+
+ghost use Rattle.std.specs.Prelude.{◌≡◌, ◌≢◌, ◌⊎◌, ◌≤◌, length, string_bytes, IfOk, IfErr, IfSome, IsSomeAnd, OnOk, OnErr, Some};
+ghost use Rattle.cq_model.specs.Settings.{texts};
+ghost use Rattle.cq_folder.specs.Folder.{KeepsFiles, KeepsOthers, ListsFiles, WritesFile};
+ghost use Rattle.cq_commands.specs.FolderFaults.{IsFileFault, IsListFault};
+
+use crate::fault::ToolFault;
+use cq_folder::{Folder, FolderFault};
+use std::alloc::Global;
+
+/// The file in which a queue's settings and positions are kept.
+pub(crate) const CONFIG_FILE: &str = "queue.cqc";
+
+/// How the names of images end.
+pub(crate) const IMAGE_ENDING: &str = ".cqi";
+
+/// The most bytes of a file that a command reads, and of the input that `write` takes.
+pub(crate) const MOST_FILE_BYTES: usize = 8_388_608;
+
+/// The names of a folder's files.
+pub(crate) fn listed<F: Folder>(alloc: Global, folder: &mut F) -> Result<Vec<String>, ToolFault>
+    ensures listed { IfOk result (λ names. IfSome (F.files folder.old) (ListsFiles (texts names.items))) }
+    ensures fault { IfErr result IsListFault }
+    ensures kept { KeepsFiles (F.files folder.old) (F.files folder.new) }
+{
+    match folder.names(alloc) {
+        Ok(names) => Ok(names),
+        Err(FolderFault::OutOfMemory) => Err(ToolFault::OutOfMemory),
+        Err(FolderFault::Device | FolderFault::TooLarge) => Err(ToolFault::FolderFault),
+    }
+}
+
+/// The bytes of a file that was listed. One that is gone since is a file fault.
+pub(crate) fn read_file<F: Folder>(
+    alloc: Global,
+    folder: &mut F,
+    name: &str,
+) -> Result<Vec<u8>, ToolFault>
+    ensures held { IfOk result (λ bytes. IfSome (F.files folder.old) (λ files. files name.now ≡ Some bytes.items)) }
+    ensures small { IfOk result (λ bytes. length bytes.items ≤ MOST_FILE_BYTES) }
+    ensures fault { IfErr result (IsFileFault name.now) }
+    ensures kept { KeepsFiles (F.files folder.old) (F.files folder.new) }
+{
+    match folder.read(alloc, name, MOST_FILE_BYTES) {
+        Ok(Some(bytes)) => Ok(bytes),
+        Ok(None) | Err(FolderFault::Device) => {
+            Err(ToolFault::FileFault(String::from_str(alloc, name)?))
+        }
+        Err(FolderFault::TooLarge) => {
+            Err(ToolFault::FileTooLarge(String::from_str(alloc, name)?))
+        }
+        Err(FolderFault::OutOfMemory) => Err(ToolFault::OutOfMemory),
+    }
+}
+
+/// Makes these bytes the whole file of that name.
+pub(crate) fn write_file<F: Folder>(
+    alloc: Global,
+    folder: &mut F,
+    name: &str,
+    bytes: &[u8],
+) -> Result<(), ToolFault>
+    ensures written { OnOk result (WritesFile (F.files folder.old) (F.files folder.new) name.now bytes.now) }
+    ensures fault { IfErr result (IsFileFault name.now) }
+    ensures others { OnErr result (KeepsOthers (F.files folder.old) (F.files folder.new) name.now) }
+{
+    match folder.write(name, bytes) {
+        Ok(()) => Ok(()),
+        Err(FolderFault::OutOfMemory) => Err(ToolFault::OutOfMemory),
+        Err(FolderFault::Device | FolderFault::TooLarge) => {
+            Err(ToolFault::FileFault(String::from_str(alloc, name)?))
+        }
+    }
+}

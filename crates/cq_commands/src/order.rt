@@ -1,0 +1,69 @@
+/// What the program is asked to do.
+#[derive(Debug, Drop)]
+pub enum Order {
+    /// Store and print each line of the input.
+    Echo,
+    /// Print the cycle of a moment, its name and its first index.
+    Cycle {
+        /// The word for the roll, as it was given.
+        roll: String,
+        /// The epoch, in milliseconds of Unix time.
+        epoch: u64,
+        /// The moment, in milliseconds of Unix time.
+        moment: u64,
+    },
+    /// Make a queue in a folder.
+    Init {
+        /// The folder, which is there.
+        folder: String,
+        /// What the queue is to be.
+        settings: InitSettings,
+    },
+    /// Append each line of the input.
+    Write {
+        /// The folder.
+        folder: String,
+        /// The moment of the lines, in milliseconds of Unix time.
+        moment: u64,
+    },
+    /// Print the messages in order.
+    Read {
+        /// The folder.
+        folder: String,
+        /// From the end on, towards the first message.
+        back: bool,
+        /// The index to begin at, as it was given.
+        from: Option<String>,
+    },
+    /// Say of each image what it holds, or what is wrong with it.
+    Check {
+        /// The folder.
+        folder: String,
+    },
+    /// Print the records of an image.
+    Dump {
+        /// The folder.
+        folder: String,
+        /// The name of the image's file.
+        file: String,
+    },
+}
+
+/// The settings of a new queue, as they were given: they may be outside the limits.
+#[derive(Debug, Drop)]
+pub struct InitSettings {
+    /// The word for the roll.
+    pub roll: String,
+    /// When cycle 0 begins, in milliseconds of Unix time.
+    pub epoch: u64,
+    /// The cells of a cycle, of four bytes each.
+    pub cells: u64,
+    /// The entries of a table of the index.
+    pub index_count: u64,
+    /// One message in so many has an entry in the index.
+    pub index_spacing: u64,
+    /// How many cycles may begin.
+    pub cycles: u64,
+    /// The names of the tailers.
+    pub names: Vec<String>,
+}
