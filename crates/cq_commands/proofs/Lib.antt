@@ -1,4 +1,5 @@
 pub mod LinesLemmas
+pub mod DumpLemmas
 pub mod EchoLemmas
 pub mod QueueLemmas
 pub mod AppendLemmas

@@ -1,4 +1,5 @@
 pub mod CycleLine
+pub mod DumpText
 pub mod Echo
 pub mod Lines
 pub mod FolderFaults

@@ -6,6 +6,7 @@
 mod appending;
 mod checking;
 mod cycle_line;
+mod dump_lines;
 mod dumping;
 mod echoing;
 mod fault;
