@@ -4,3 +4,4 @@ pub mod EchoLemmas
 pub mod QueueLemmas
 pub mod AppendLemmas
 pub mod PrintingLemmas
+pub mod WrittenLemmas

@@ -6,3 +6,4 @@ pub mod FolderFaults
 pub mod Messages
 pub mod Queue
 pub mod Appending
+pub mod Written

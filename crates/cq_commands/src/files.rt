@@ -3,7 +3,7 @@
 ghost use Rattle.std.specs.Prelude.{◌≡◌, ◌≢◌, ◌⊎◌, ◌≤◌, length, string_bytes, IfOk, IfErr, IfSome, IsSomeAnd, OnOk, OnErr, Some};
 ghost use Rattle.cq_model.specs.Settings.{texts};
 ghost use Rattle.cq_folder.specs.Folder.{KeepsFiles, KeepsOthers, ListsFiles, WritesFile};
-ghost use Rattle.cq_commands.specs.FolderFaults.{IsFileFault, IsListFault};
+ghost use Rattle.cq_commands.specs.FolderFaults.{IsFileFault, IsListFault, IsSaveFault};
 
 use crate::fault::ToolFault;
 use cq_folder::{Folder, FolderFault};
@@ -63,6 +63,7 @@ pub(crate) fn write_file<F: Folder>(
 ) -> Result<(), ToolFault>
     ensures written { OnOk result (WritesFile (F.files folder.old) (F.files folder.new) name.now bytes.now) }
     ensures fault { IfErr result (IsFileFault name.now) }
+    ensures save { IfErr result IsSaveFault }
     ensures others { OnErr result (KeepsOthers (F.files folder.old) (F.files folder.new) name.now) }
 {
     match folder.write(name, bytes) {
