@@ -1,6 +1,7 @@
 pub mod CycleLine
 pub mod DumpText
 pub mod Echo
+pub mod Initialised
 pub mod Lines
 pub mod FolderFaults
 pub mod Messages

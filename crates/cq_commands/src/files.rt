@@ -1,6 +1,8 @@
 //! The files of a queue's folder.
 
-ghost use Rattle.std.specs.Prelude.{◌≡◌, ◌≢◌, ◌⊎◌, ◌≤◌, length, string_bytes, IfOk, IfErr, IfSome, IsSomeAnd, OnOk, OnErr, Some};
+ghost use Rattle.std.specs.Prelude.{◌≡◌, ◌≤◌, length, string_bytes, IfOk, IfErr, IfSome, OnOk, OnErr, Some};
+ghost use Rattle.std.specs.List.{list_any};
+ghost use Rattle.std.specs.Str.{bytes_eq};
 ghost use Rattle.cq_model.specs.Settings.{texts};
 ghost use Rattle.cq_folder.specs.Folder.{KeepsFiles, KeepsOthers, ListsFiles, WritesFile};
 ghost use Rattle.cq_commands.specs.FolderFaults.{IsFileFault, IsListFault, IsSaveFault};
@@ -29,6 +31,13 @@ pub(crate) fn listed<F: Folder>(alloc: Global, folder: &mut F) -> Result<Vec<Str
         Err(FolderFault::OutOfMemory) => Err(ToolFault::OutOfMemory),
         Err(FolderFault::Device | FolderFault::TooLarge) => Err(ToolFault::FolderFault),
     }
+}
+
+/// Whether a file has this name.
+pub(crate) fn has_name(names: &[String], name: &str) -> bool
+    ensures { result ≡ list_any (λ listed. bytes_eq (string_bytes listed) name.now) names.now }
+{
+    names.iter().any(|listed| listed.as_str() == name)
 }
 
 /// The bytes of a file that was listed. One that is gone since is a file fault.

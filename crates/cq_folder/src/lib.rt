@@ -11,6 +11,7 @@ mod lines;
 mod memory;
 mod real;
 mod storage;
+mod wanted;
 mod words;
 
 pub use config_fault::ConfigFault;
@@ -20,6 +21,7 @@ pub use failing::FailingFolder;
 pub use memory::MemoryFolder;
 pub use real::RealFolder;
 pub use storage::{Folder, FolderFault};
+pub use wanted::WantedConfig;
 
 #[cfg(test)]
 mod folder_tests;
