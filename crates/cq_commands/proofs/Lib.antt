@@ -1,7 +1,7 @@
 pub mod LinesLemmas
-pub mod DumpLemmas
 pub mod EchoLemmas
 pub mod QueueLemmas
+pub mod DumpLemmas
 pub mod AppendLemmas
 pub mod PrintingLemmas
 pub mod WrittenLemmas
