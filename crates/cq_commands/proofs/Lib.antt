@@ -5,3 +5,4 @@ pub mod DumpLemmas
 pub mod AppendLemmas
 pub mod PrintingLemmas
 pub mod WrittenLemmas
+pub mod CheckLemmas

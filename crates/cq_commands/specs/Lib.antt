@@ -4,7 +4,9 @@ pub mod Echo
 pub mod Initialised
 pub mod Lines
 pub mod FolderFaults
-pub mod Messages
 pub mod Queue
 pub mod Appending
 pub mod Written
+pub mod Messages
+pub mod CheckText
+pub mod Orders

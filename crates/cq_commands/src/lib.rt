@@ -19,6 +19,7 @@ mod opening;
 mod order;
 mod output;
 mod printing;
+mod running;
 mod text;
 
 pub use appending::write;
@@ -30,6 +31,7 @@ pub use fault::ToolFault;
 pub use initialising::init;
 pub use order::{InitSettings, Order};
 pub use printing::read;
+pub use running::run;
 
 #[cfg(test)]
 mod folder_tests;
