@@ -62,51 +62,13 @@ fn run<R: AllocGlobal + Files + Input + Print + Clone + Drop>(
     order: Order,
 ) -> Result<(), ToolFault> {
     let alloc = rt.alloc();
-    match order {
-        Order::Echo => {
-            cq_tools::echo(alloc, &mut rt.reader(), &mut io::writer(rt))?;
-            Ok(())
-        }
-        Order::Cycle {
-            roll,
-            epoch,
-            moment,
-        } => cq_tools::cycle(alloc, roll.as_str(), epoch, moment, &mut io::writer(rt)),
-        Order::Init { folder, settings } => {
-            cq_tools::init(alloc, &mut RealFolder::new(rt, folder), settings)
-        }
-        Order::Write { folder, moment } => cq_tools::write(
-            alloc,
-            &mut RealFolder::new(rt, folder),
-            moment,
-            &mut rt.reader(),
-            &mut io::writer(rt),
-        ),
-        Order::Read { folder, back, from } => cq_tools::read(
-            alloc,
-            &mut RealFolder::new(rt, folder),
-            back,
-            word_of(&from),
-            &mut io::writer(rt),
-        ),
-        Order::Check { folder } => cq_tools::check(
-            alloc,
-            &mut RealFolder::new(rt, folder),
-            &mut io::writer(rt),
-        ),
-        Order::Dump { folder, file } => cq_tools::dump(
-            alloc,
-            &mut RealFolder::new(rt, folder),
-            file.as_str(),
-            &mut io::writer(rt),
-        ),
-    }
-}
-
-/// The word, if one was given.
-fn word_of(word: &Option<String>) -> Option<&str> {
-    match word {
-        None => None,
-        Some(text) => Some(text.as_str()),
-    }
+    let path = String::from_str(alloc, order.folder().unwrap_or(""))?;
+    let mut folder = RealFolder::new(rt, path);
+    cq_tools::run(
+        alloc,
+        order,
+        &mut folder,
+        &mut rt.reader(),
+        &mut io::writer(rt),
+    )
 }

@@ -1,5 +1,5 @@
 -- What carrying out an order does.
-use Rattle.std.specs.Prelude.{ℕ, List, Option, IfSome, codes, false, option_map, string_bytes}
+use Rattle.std.specs.Prelude.{ℕ, List, Option, None, Some, IfSome, codes, false, option_map, string_bytes}
 use Rattle.std.specs.Io.KnownBytes.{Appends, Consumes}
 use Rattle.cq_folder.specs.Folder.{Files, WritesFile}
 use Rattle.cq_commands.specs.declared.order.Order.{Order}
@@ -12,6 +12,16 @@ use Rattle.cq_commands.specs.Initialised.{IsInitialText}
 use Rattle.cq_commands.specs.Lines.{input_lines}
 use Rattle.cq_commands.specs.Messages.{IsReadOut}
 use Rattle.cq_commands.specs.Written.{IsWritten}
+
+-- the path of the folder that an order is for
+abbrev pub folder_of : Order → Option (List ℕ)
+folder_of Echo = None
+folder_of (Cycle roll epoch moment) = None
+folder_of (Init folder settings) = Some (string_bytes folder)
+folder_of (Write folder moment) = Some (string_bytes folder)
+folder_of (Read folder back from) = Some (string_bytes folder)
+folder_of (Check folder) = Some (string_bytes folder)
+folder_of (Dump folder file) = Some (string_bytes folder)
 
 -- what is known of the folder's files, of what the reader has left and of what was written, before and after
 pub record Streams : Type 0 where

@@ -34,6 +34,8 @@ pub use printing::read;
 pub use running::run;
 
 #[cfg(test)]
+mod fault_tests;
+#[cfg(test)]
 mod folder_tests;
 #[cfg(test)]
 mod tests;

@@ -1,3 +1,6 @@
+ghost use Rattle.std.specs.Prelude.{◌≡◌, option_map};
+ghost use Rattle.cq_commands.specs.Orders.{folder_of};
+
 /// What the program is asked to do.
 #[derive(Debug, Drop)]
 pub enum Order {
@@ -47,6 +50,22 @@ pub enum Order {
         /// The name of the image's file.
         file: String,
     },
+}
+
+impl Order {
+    /// The path of the folder that the order is for; `None` where it is for no folder.
+    pub fn folder(&self) -> Option<&str>
+        ensures { option_map (λ path. path.now) result ≡ folder_of self.now }
+    {
+        match self {
+            Order::Echo | Order::Cycle { .. } => None,
+            Order::Init { folder, .. }
+            | Order::Write { folder, .. }
+            | Order::Read { folder, .. }
+            | Order::Check { folder }
+            | Order::Dump { folder, .. } => Some(folder.as_str()),
+        }
+    }
 }
 
 /// The settings of a new queue, as they were given: they may be outside the limits.

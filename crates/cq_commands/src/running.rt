@@ -2,6 +2,7 @@ ghost use Rattle.std.specs.Prelude.{◌≡◌, ◌≢◌, IfErr, OnOk, option_ma
 ghost use Rattle.std.specs.Io.KnownBytes.{Keeps};
 ghost use Rattle.cq_commands.specs.Orders.{IsDone};
 
+use crate::appending::write;
 use crate::checking::check;
 use crate::cycle_line::cycle;
 use crate::dumping::dump;
@@ -10,7 +11,6 @@ use crate::fault::ToolFault;
 use crate::initialising::init;
 use crate::order::Order;
 use crate::printing::read;
-use crate::appending::write;
 use cq_folder::Folder;
 use std::alloc::Global;
 use std::io::{Read, Write};
@@ -26,12 +26,12 @@ pub fn run<F: Folder, R: Read, W: Write>(
     output: &mut W,
 ) -> Result<(), ToolFault>
     ensures done { OnOk result (IsDone order (record {
-        files = F.files folder.old;
-        files_after = F.files folder.new;
-        input = R.remaining input.old;
-        input_after = R.remaining input.new;
-        output = W.contents output.old;
-        output_after = W.contents output.new;
+      files = F.files folder.old;
+      files_after = F.files folder.new;
+      input = R.remaining input.old;
+      input_after = R.remaining input.new;
+      output = W.contents output.old;
+      output_after = W.contents output.new;
     })) }
     ensures silent { IfErr result (λ fault. fault ≢ ToolFault.WriteFault → fault ≢ ToolFault.ImagesAtFault
         → Keeps (W.contents output.old) (W.contents output.new)) }

@@ -7,9 +7,7 @@ mod command_line;
 mod orders;
 mod parsing;
 
-pub use cq_commands::{
-    InitSettings, Order, ToolFault, check, cycle, dump, echo, init, read, write,
-};
+pub use cq_commands::{InitSettings, Order, ToolFault, dump_text, echo, run};
 pub use parsing::{ParseFault, parse};
 
 #[cfg(test)]
