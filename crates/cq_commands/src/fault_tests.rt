@@ -1,6 +1,8 @@
 use crate::{InitSettings, Order, ToolFault, check, dump, init, read, run, write};
 use cq_folder::{FailingFolder, Folder, MemoryFolder};
 use std::alloc::{AllocError, Global};
+use std::io;
+use std::io::{ErrorKind, Read, Write};
 use std::test::Fail;
 
 /// One day in milliseconds.
@@ -261,6 +263,89 @@ fn tells_the_first_of_two_faults(rt: HostRuntime) -> Result<(), Fail> {
     Ok(())
 }
 
+/// A stream that fails at once.
+#[derive(Drop)]
+struct Broken;
+
+impl Read for Broken {
+    fn read(&mut self, _buf: &mut [u8]) -> io::Result<usize> {
+        Err(io::Error::from(ErrorKind::Other))
+    }
+}
+
+impl Write for Broken {
+    fn write(&mut self, _buf: &[u8]) -> io::Result<usize> {
+        Err(io::Error::from(ErrorKind::Other))
+    }
+
+    fn flush(&mut self) -> io::Result<()> {
+        Ok(())
+    }
+}
+
+/// The text of a fault; nothing where there is none.
+fn fault_of(alloc: Global, done: Result<(), ToolFault>) -> Result<String, AllocError> {
+    match done {
+        Ok(()) => Ok(String::new(alloc)),
+        Err(fault) => format!(in alloc; "{fault}"),
+    }
+}
+
+#[test]
+fn tells_the_first_fault_of_streams(rt: HostRuntime) -> Result<(), Fail> {
+    let alloc = rt.alloc();
+    // The input comes before the moment, and its end before its lines.
+    let mut folder = queue(alloc, 1)?;
+    let done = write(alloc, &mut folder, u64::MAX, &mut Broken, &mut Broken);
+    assert_eq!(rt; fault_of(alloc, done)?.as_str(), "read fault");
+    let long = copies(alloc, b'\n', MOST_BYTES + 1)?;
+    assert_eq!(rt;
+        written(alloc, &mut folder, u64::MAX, long.as_slice())?.as_str(),
+        "cq: input too long"
+    );
+    // An end that is wrong comes before the input.
+    folder.write("19700101.cqi", &[0, 0, 0, 0xc0])?;
+    let done = write(alloc, &mut folder, 0, &mut Broken, &mut Broken);
+    assert_eq!(rt; fault_of(alloc, done)?.as_str(), "19700101.cqi: wrong end");
+    // Files are written before the output.
+    for (k, said, kept) in [
+        (3, "file fault: 19700101.cqi", ""),
+        (4, "write fault", "19700101.cqi: 1 messages, open\n"),
+    ] {
+        let mut failing = FailingFolder::new(queue(alloc, 1)?, k);
+        let mut input: &[u8] = b"a\n";
+        let done = write(alloc, &mut failing, 0, &mut input, &mut Broken);
+        assert_eq!(rt; fault_of(alloc, done)?.as_str(), said);
+        assert_eq!(rt; checked(alloc, &mut failing.into_inner())?.as_str(), kept);
+    }
+    Ok(())
+}
+
+#[test]
+fn tells_the_first_fault_of_settings(rt: HostRuntime) -> Result<(), Fail> {
+    let alloc = rt.alloc();
+    let table = [
+        ("weekly", 0, true, "BadConfig"),
+        ("daily", 0, true, "queue there already"),
+        ("daily", u64::MAX, false, "BadShape"),
+        ("daily", 64, false, "BadConfig"),
+    ];
+    for (roll, cells, is_there, want) in table {
+        let mut folder = if is_there {
+            queue(alloc, 1)?
+        } else {
+            MemoryFolder::new(alloc)
+        };
+        let mut wanted = settings(alloc, u64::MAX, Vec::new(alloc))?;
+        wanted.roll = String::from_str(alloc, roll)?;
+        wanted.epoch = u64::MAX;
+        wanted.cells = cells;
+        let done = init(alloc, &mut folder, wanted);
+        assert_eq!(rt; fault_of(alloc, done)?.as_str(), want);
+    }
+    Ok(())
+}
+
 #[test]
 fn passes_each_folder_fault_on(rt: HostRuntime) -> Result<(), Fail> {
     let alloc = rt.alloc();
@@ -303,10 +388,8 @@ fn passes_each_folder_fault_on(rt: HostRuntime) -> Result<(), Fail> {
         let mut folder = MemoryFolder::new(alloc);
         folder.write("notes", b"kept")?;
         let mut failing = FailingFolder::new(folder, k);
-        match init(alloc, &mut failing, settings(alloc, 4, Vec::new(alloc))?) {
-            Ok(()) => assert!(rt; false),
-            Err(fault) => assert_eq!(rt; format!(in alloc; "{fault}")?.as_str(), want),
-        }
+        let done = init(alloc, &mut failing, settings(alloc, 4, Vec::new(alloc))?);
+        assert_eq!(rt; fault_of(alloc, done)?.as_str(), want);
         let mut folder = failing.into_inner();
         assert_eq!(rt;
             bytes_of(alloc, &mut folder, "notes")?.as_slice(),
@@ -377,13 +460,9 @@ fn has_limits(rt: HostRuntime) -> Result<(), Fail> {
             names.push(String::from_utf8(name)?)?;
         }
         let mut folder = MemoryFolder::new(alloc);
-        match init(alloc, &mut folder, settings(alloc, 1, names)?) {
-            Ok(()) => assert!(rt; accepted),
-            Err(fault) => {
-                assert!(rt; !accepted);
-                assert_eq!(rt; format!(in alloc; "{fault}")?.as_str(), "BadConfig");
-            }
-        }
+        let done = init(alloc, &mut folder, settings(alloc, 1, names)?);
+        let want = if accepted { "" } else { "BadConfig" };
+        assert_eq!(rt; fault_of(alloc, done)?.as_str(), want);
     }
     Ok(())
 }
