@@ -34,8 +34,4 @@ pub use printing::read;
 pub use running::run;
 
 #[cfg(test)]
-mod fault_tests;
-#[cfg(test)]
-mod folder_tests;
-#[cfg(test)]
 mod tests;

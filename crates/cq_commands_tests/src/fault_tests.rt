@@ -1,15 +1,13 @@
-use crate::{InitSettings, Order, ToolFault, check, dump, init, read, run, write};
+//! Which fault is answered, and what the folder holds then.
+use crate::folders::{
+    DAY, MOST_BYTES, bytes_of, checked, copies, dumped, fault_of, printed, queue, settings, written,
+};
+use cq_commands::{init, write};
 use cq_folder::{FailingFolder, Folder, MemoryFolder};
 use std::alloc::{AllocError, Global};
 use std::io;
 use std::io::{ErrorKind, Read, Write};
 use std::test::Fail;
-
-/// One day in milliseconds.
-const DAY: u64 = 86_400_000;
-
-/// The most bytes of a file, and of the input of `write`.
-const MOST_BYTES: usize = 8_388_608;
 
 /// The image of cycle 0 that ended with the message "hello".
 const IMAGE: &str =
@@ -17,88 +15,11 @@ const IMAGE: &str =
 0000000000000000000000000000000000000000000000002000004064000000000000000000000000000000000000000000\
 000000000000000000000500000068656c6c6f000000000000c0";
 
-/// The settings of most tests: daily, epoch 0, 64 cells, index count 8, spacing 1, with so many cycles and these names.
-fn settings(alloc: Global, cycles: u64, names: Vec<String>) -> Result<InitSettings, AllocError> {
-    Ok(InitSettings {
-        roll: String::from_str(alloc, "daily")?,
-        epoch: 0,
-        cells: 64,
-        index_count: 8,
-        index_spacing: 1,
-        cycles,
-        names,
-    })
-}
-
-/// A folder with a queue of so many cycles.
-fn queue(alloc: Global, cycles: u64) -> Result<MemoryFolder, Fail> {
-    let mut folder = MemoryFolder::new(alloc);
-    init(
-        alloc,
-        &mut folder,
-        settings(alloc, cycles, Vec::new(alloc))?,
-    )?;
-    Ok(folder)
-}
-
 /// A folder with a queue whose image of cycle 0 has these bytes.
 fn queue_with(alloc: Global, image: &[u8]) -> Result<MemoryFolder, Fail> {
     let mut folder = queue(alloc, 4)?;
     folder.write("19700101.cqi", image)?;
     Ok(folder)
-}
-
-/// What a command wrote, and behind it the text of its fault.
-fn said(alloc: Global, done: Result<(), ToolFault>, output: Vec<u8>) -> Result<String, Fail> {
-    let mut text = String::from_utf8(output)?;
-    if let Err(fault) = done {
-        text.push_str(format!(in alloc; "cq: {fault}")?.as_str())?;
-    }
-    Ok(text)
-}
-
-fn written<F: Folder>(
-    alloc: Global,
-    folder: &mut F,
-    moment: u64,
-    input: &[u8],
-) -> Result<String, Fail> {
-    let mut output = Vec::new(alloc);
-    let mut rest = input;
-    let done = write(alloc, folder, moment, &mut rest, &mut output);
-    said(alloc, done, output)
-}
-
-fn printed<F: Folder>(alloc: Global, folder: &mut F, from: Option<&str>) -> Result<String, Fail> {
-    let mut output = Vec::new(alloc);
-    let done = read(alloc, folder, false, from, &mut output);
-    said(alloc, done, output)
-}
-
-fn checked<F: Folder>(alloc: Global, folder: &mut F) -> Result<String, Fail> {
-    let mut output = Vec::new(alloc);
-    let done = check(alloc, folder, &mut output);
-    said(alloc, done, output)
-}
-
-fn dumped<F: Folder>(alloc: Global, folder: &mut F, file: &str) -> Result<String, Fail> {
-    let mut output = Vec::new(alloc);
-    let done = dump(alloc, folder, file, &mut output);
-    said(alloc, done, output)
-}
-
-/// The bytes of a file, none where it is not there.
-fn bytes_of<F: Folder>(alloc: Global, folder: &mut F, name: &str) -> Result<Vec<u8>, Fail> {
-    Ok(
-        folder
-            .read(alloc, name, MOST_BYTES)?
-            .unwrap_or(Vec::new(alloc)),
-    )
-}
-
-/// So many copies of a byte.
-fn copies(alloc: Global, byte: u8, count: usize) -> Result<Vec<u8>, AllocError> {
-    vec![in alloc; byte; count]
 }
 
 #[test]
@@ -119,6 +40,32 @@ fn checks_and_dumps_the_image(rt: HostRuntime) -> Result<(), Fail> {
     Ok(())
 }
 
+/// The image with these bytes in the place of as many from one on, or behind its last one.
+fn changed_image(alloc: Global, at: usize, bytes: &[u8]) -> Result<Vec<u8>, Fail> {
+    let image = hex::decode(alloc, IMAGE)?;
+    let mut changed = Vec::new(alloc);
+    for (i, byte) in image.as_slice().iter().enumerate() {
+        if i < at {
+            changed.push(*byte)?;
+        } else {
+            changed.push(*bytes.get(i - at).unwrap_or(byte))?;
+        }
+    }
+    if at == image.len() {
+        changed.extend_from_slice(bytes)?;
+    }
+    Ok(changed)
+}
+
+/// What `check`, `dump` and `read` say of a queue with this image.
+fn faults_of(alloc: Global, image: &[u8]) -> Result<[String; 3], Fail> {
+    let mut folder = queue_with(alloc, image)?;
+    let checked = checked(alloc, &mut folder)?;
+    let dumped = dumped(alloc, &mut folder, "19700101.cqi")?;
+    let printed = printed(alloc, &mut folder, false, None)?;
+    Ok([checked, dumped, printed])
+}
+
 #[test]
 fn tells_each_image_fault(rt: HostRuntime) -> Result<(), Fail> {
     let alloc = rt.alloc();
@@ -135,26 +82,20 @@ fn tells_each_image_fault(rt: HostRuntime) -> Result<(), Fail> {
         (12, &[1], "WrongStore at 12"),
     ];
     for (at, bytes, want) in table {
-        let mut image = hex::decode(alloc, IMAGE)?;
-        let mut behind = Vec::new(alloc);
-        for i in 0..image.len() {
-            if i >= at + bytes.len() {
-                behind.push(image.as_slice()[i])?;
-            }
-        }
-        image.truncate(at);
-        image.extend_from_slice(bytes)?;
-        image.extend_from_slice(behind.as_slice())?;
-        let mut folder = queue_with(alloc, image.as_slice())?;
-        let text = format!(in alloc; "19700101.cqi: {want}\ncq: images at fault")?;
-        assert_eq!(rt; checked(alloc, &mut folder)?.as_str(), text.as_str());
-        let text = format!(in alloc; "cq: 19700101.cqi: {want}")?;
-        assert_eq!(rt;
-            dumped(alloc, &mut folder, "19700101.cqi")?.as_str(),
-            text.as_str()
-        );
-        assert_eq!(rt; printed(alloc, &mut folder, None)?.as_str(), text.as_str());
+        let image = changed_image(alloc, at, bytes)?;
+        let said = faults_of(alloc, image.as_slice())?;
+        let of_check = format!(in alloc; "19700101.cqi: {want}\ncq: images at fault")?;
+        let of_others = format!(in alloc; "cq: 19700101.cqi: {want}")?;
+        assert_eq!(rt; said[0].as_str(), of_check.as_str());
+        assert_eq!(rt; said[1].as_str(), of_others.as_str());
+        assert_eq!(rt; said[2].as_str(), of_others.as_str());
     }
+    Ok(())
+}
+
+#[test]
+fn tells_where_an_image_is_cut(rt: HostRuntime) -> Result<(), Fail> {
+    let alloc = rt.alloc();
     for (len, want) in [
         (110, "Cut at 100\ncq: images at fault"),
         (100, "Cut at 100\ncq: images at fault"),
@@ -222,7 +163,7 @@ fn tells_the_first_of_two_faults(rt: HostRuntime) -> Result<(), Fail> {
         let mut folder = queue(alloc, 4)?;
         folder.write(one, bytes)?;
         folder.write(other, more)?;
-        assert_eq!(rt; printed(alloc, &mut folder, None)?.as_str(), want);
+        assert_eq!(rt; printed(alloc, &mut folder, false, None)?.as_str(), want);
         // The images come before what the command itself was given.
         assert_eq!(rt;
             written(alloc, &mut folder, u64::MAX, b"\n")?.as_str(),
@@ -230,25 +171,37 @@ fn tells_the_first_of_two_faults(rt: HostRuntime) -> Result<(), Fail> {
         );
         // An index that is none comes before them.
         assert_eq!(rt;
-            printed(alloc, &mut folder, Some("x"))?.as_str(),
+            printed(alloc, &mut folder, false, Some("x"))?.as_str(),
             "cq: BadIndex"
         );
     }
+    Ok(())
+}
+
+#[test]
+fn tells_a_fault_of_the_configuration_first(rt: HostRuntime) -> Result<(), Fail> {
+    let alloc = rt.alloc();
     // A configuration that is none comes before a faulty image, and an index that is none before that.
     let mut folder = queue_with(alloc, b"x")?;
     folder.write("queue.cqc", b"")?;
     assert_eq!(rt;
-        printed(alloc, &mut folder, None)?.as_str(),
+        printed(alloc, &mut folder, false, None)?.as_str(),
         "cq: queue.cqc: line 1"
     );
     assert_eq!(rt;
-        printed(alloc, &mut folder, Some("x"))?.as_str(),
+        printed(alloc, &mut folder, false, Some("x"))?.as_str(),
         "cq: BadIndex"
     );
     assert_eq!(rt;
         dumped(alloc, &mut folder, "none")?.as_str(),
         "cq: queue.cqc: line 1"
     );
+    Ok(())
+}
+
+#[test]
+fn tells_that_a_file_is_none_first(rt: HostRuntime) -> Result<(), Fail> {
+    let alloc = rt.alloc();
     // A file that is none comes before its name, and its name before what it holds.
     let mut folder = queue(alloc, 4)?;
     folder.write("zzz.cqi", b"x")?;
@@ -283,14 +236,6 @@ impl Write for Broken {
     }
 }
 
-/// The text of a fault; nothing where there is none.
-fn fault_of(alloc: Global, done: Result<(), ToolFault>) -> Result<String, AllocError> {
-    match done {
-        Ok(()) => Ok(String::new(alloc)),
-        Err(fault) => format!(in alloc; "{fault}"),
-    }
-}
-
 #[test]
 fn tells_the_first_fault_of_streams(rt: HostRuntime) -> Result<(), Fail> {
     let alloc = rt.alloc();
@@ -307,7 +252,12 @@ fn tells_the_first_fault_of_streams(rt: HostRuntime) -> Result<(), Fail> {
     folder.write("19700101.cqi", &[0, 0, 0, 0xc0])?;
     let done = write(alloc, &mut folder, 0, &mut Broken, &mut Broken);
     assert_eq!(rt; fault_of(alloc, done)?.as_str(), "19700101.cqi: wrong end");
-    // Files are written before the output.
+    Ok(())
+}
+
+#[test]
+fn writes_files_before_the_output(rt: HostRuntime) -> Result<(), Fail> {
+    let alloc = rt.alloc();
     for (k, said, kept) in [
         (3, "file fault: 19700101.cqi", ""),
         (4, "write fault", "19700101.cqi: 1 messages, open\n"),
@@ -346,44 +296,76 @@ fn tells_the_first_fault_of_settings(rt: HostRuntime) -> Result<(), Fail> {
     Ok(())
 }
 
+/// A folder with "hello" in cycle 0 and "a" in cycle 1, whose kth call fails.
+fn failing_at(alloc: Global, k: u64) -> Result<FailingFolder<MemoryFolder>, Fail> {
+    let mut folder = queue(alloc, 4)?;
+    written(alloc, &mut folder, 0, b"hello\n")?;
+    written(alloc, &mut folder, DAY, b"a\n")?;
+    Ok(FailingFolder::new(folder, k))
+}
+
+/// What `check` says of the folder behind one that fails.
+fn left(alloc: Global, failing: FailingFolder<MemoryFolder>) -> Result<String, Fail> {
+    checked(alloc, &mut failing.into_inner())
+}
+
+/// What `check` says of both images.
+const BOTH: &str = "19700101.cqi: 1 messages, ended\n19700102.cqi: 1 messages, open\n";
+
+/// The calls of a command that reads all images: the list, `queue.cqc`, and the images.
+const READER_FAULTS: [&str; 4] = [
+    "cq: folder fault",
+    "cq: file fault: queue.cqc",
+    "cq: file fault: 19700101.cqi",
+    "cq: file fault: 19700102.cqi",
+];
+
 #[test]
-fn passes_each_folder_fault_on(rt: HostRuntime) -> Result<(), Fail> {
+fn read_passes_each_folder_fault_on(rt: HostRuntime) -> Result<(), Fail> {
     let alloc = rt.alloc();
-    // The calls of each command in turn: the list, queue.cqc, and the images that it looks at.
-    let readers = [
+    for (i, want) in READER_FAULTS.iter().enumerate() {
+        let mut failing = failing_at(alloc, i as u64 + 1)?;
+        let said = printed(alloc, &mut failing, false, None)?;
+        assert_eq!(rt; said.as_str(), *want);
+        assert_eq!(rt; left(alloc, failing)?.as_str(), BOTH);
+    }
+    Ok(())
+}
+
+#[test]
+fn check_passes_each_folder_fault_on(rt: HostRuntime) -> Result<(), Fail> {
+    let alloc = rt.alloc();
+    for (i, want) in READER_FAULTS.iter().enumerate() {
+        let mut failing = failing_at(alloc, i as u64 + 1)?;
+        let said = checked(alloc, &mut failing)?;
+        assert_eq!(rt; said.as_str(), *want);
+        assert_eq!(rt; left(alloc, failing)?.as_str(), BOTH);
+    }
+    Ok(())
+}
+
+#[test]
+fn dump_passes_each_folder_fault_on(rt: HostRuntime) -> Result<(), Fail> {
+    let alloc = rt.alloc();
+    let wanted = [
         "cq: folder fault",
         "cq: file fault: queue.cqc",
-        "cq: file fault: 19700101.cqi",
         "cq: file fault: 19700102.cqi",
+        "00000000 40000018 store 1 1 8 1 64\n0000001c 40000020 top 64 0 0 0 0 0 0 0\n\
+00000040 40000020 table 0 100 0 0 0 0 0 0 0\n00000064 00000001 data 0 61\n",
     ];
-    for (i, want) in readers.iter().enumerate() {
-        for command in 0..3 {
-            let mut folder = queue(alloc, 4)?;
-            written(alloc, &mut folder, 0, b"hello\n")?;
-            written(alloc, &mut folder, DAY, b"a\n")?;
-            let mut failing = FailingFolder::new(folder, i as u64 + 1);
-            let text = match command {
-                0 => printed(alloc, &mut failing, None)?,
-                1 => checked(alloc, &mut failing)?,
-                _ => dumped(alloc, &mut failing, "19700102.cqi")?,
-            };
-            // The third call of dump reads its own file, and there is no fourth.
-            let want = match (command, i) {
-                (2, 2) => "cq: file fault: 19700102.cqi",
-                (2, 3) => {
-                    "00000000 40000018 store 1 1 8 1 64\n0000001c 40000020 top 64 0 0 0 0 0 0 0\n\
-00000040 40000020 table 0 100 0 0 0 0 0 0 0\n00000064 00000001 data 0 61\n"
-                }
-                _ => *want,
-            };
-            assert_eq!(rt; text.as_str(), want, "{command} {i}");
-            let mut folder = failing.into_inner();
-            assert_eq!(rt;
-                checked(alloc, &mut folder)?.as_str(),
-                "19700101.cqi: 1 messages, ended\n19700102.cqi: 1 messages, open\n"
-            );
-        }
+    for (i, want) in wanted.iter().enumerate() {
+        let mut failing = failing_at(alloc, i as u64 + 1)?;
+        let said = dumped(alloc, &mut failing, "19700102.cqi")?;
+        assert_eq!(rt; said.as_str(), *want);
+        assert_eq!(rt; left(alloc, failing)?.as_str(), BOTH);
     }
+    Ok(())
+}
+
+#[test]
+fn init_passes_each_folder_fault_on(rt: HostRuntime) -> Result<(), Fail> {
+    let alloc = rt.alloc();
     for (k, want) in [(1, "folder fault"), (2, "file fault: queue.cqc")] {
         let mut folder = MemoryFolder::new(alloc);
         folder.write("notes", b"kept")?;
@@ -424,154 +406,146 @@ fn keeps_other_files_at_a_fault(rt: HostRuntime) -> Result<(), Fail> {
 }
 
 #[test]
-fn has_limits(rt: HostRuntime) -> Result<(), Fail> {
+fn leaves_the_folder_after_a_refusal(rt: HostRuntime) -> Result<(), Fail> {
     let alloc = rt.alloc();
-    // As many cycles as a queue may have, and one more.
-    let mut folder = queue(alloc, 64)?;
-    for day in 0..64 {
-        let text = format!(in alloc; "{day:08x}00000000\n")?;
-        assert_eq!(rt;
-            written(alloc, &mut folder, day * DAY, b"a\n")?.as_str(),
-            text.as_str()
-        );
-    }
-    assert_eq!(rt;
-        written(alloc, &mut folder, 64 * DAY, b"a\n")?.as_str(),
-        "cq: line 1: NoCycleLeft"
-    );
-    assert_eq!(rt;
-        written(alloc, &mut folder, 0, b"b\n")?.as_str(),
-        "0000003f00000001\n"
-    );
-    // As many names of as many bytes as there may be, and one more of each.
-    for (count, len, accepted) in [
-        (16, 32, true),
-        (17, 1, false),
-        (1, 33, false),
-        (1, 0, false),
-    ] {
-        let mut names = Vec::new(alloc);
-        for i in 0..count {
-            let mut name = copies(alloc, b'a', len)?;
-            if len > 0 {
-                name.truncate(len - 1);
-                name.push(b'a' + i)?;
-            }
-            names.push(String::from_utf8(name)?)?;
-        }
-        let mut folder = MemoryFolder::new(alloc);
-        let done = init(alloc, &mut folder, settings(alloc, 1, names)?);
-        let want = if accepted { "" } else { "BadConfig" };
-        assert_eq!(rt; fault_of(alloc, done)?.as_str(), want);
+    let mut folder = queue(alloc, 4)?;
+    let table: [(u64, &[u8], &str); 4] = [
+        (0, b"a\n\n", "cq: line 2: BadRoom"),
+        (253_402_300_800_000, b"a\n", "cq: BadMoment"),
+        (253_402_300_800_000, b"", "cq: BadMoment"),
+        (253_402_300_800_000, b"\n", "cq: BadMoment"),
+    ];
+    for (moment, input, want) in table {
+        assert_eq!(rt; written(alloc, &mut folder, moment, input)?.as_str(), want);
+        assert_eq!(rt; checked(alloc, &mut folder)?.as_str(), "");
     }
     Ok(())
 }
 
-#[test]
-fn bounds_input_and_files(rt: HostRuntime) -> Result<(), Fail> {
-    let alloc = rt.alloc();
-    for (count, said) in [
-        (MOST_BYTES, "cq: line 1: BadRoom"),
-        (MOST_BYTES + 1, "cq: input too long"),
-    ] {
-        let mut folder = queue(alloc, 1)?;
-        let input = copies(alloc, b'\n', count)?;
-        assert_eq!(rt;
-            written(alloc, &mut folder, 0, input.as_slice())?.as_str(),
-            said
-        );
-    }
-    for (count, said) in [
-        (MOST_BYTES, "cq: queue.cqc: line 1"),
-        (MOST_BYTES + 1, "cq: file too large: queue.cqc"),
-    ] {
-        let mut folder = queue(alloc, 1)?;
-        let text = copies(alloc, b'x', count)?;
-        folder.write("queue.cqc", text.as_slice())?;
-        assert_eq!(rt; printed(alloc, &mut folder, None)?.as_str(), said);
-    }
-    let image = copies(alloc, 0, MOST_BYTES + 1)?;
-    let mut folder = queue_with(alloc, image.as_slice())?;
-    assert_eq!(rt;
-        checked(alloc, &mut folder)?.as_str(),
-        "cq: file too large: 19700101.cqi"
-    );
-    Ok(())
-}
-
-/// What an order writes over a folder, with this input.
-fn ran<F: Folder>(
-    alloc: Global,
-    folder: &mut F,
-    order: Order,
-    input: &[u8],
-) -> Result<String, Fail> {
-    let mut output = Vec::new(alloc);
-    let mut rest = input;
-    let done = run(alloc, order, folder, &mut rest, &mut output);
-    said(alloc, done, output)
+/// What a command says of a folder in which this file was changed.
+fn said_of(alloc: Global, file: &str, bytes: &[u8]) -> Result<[String; 3], Fail> {
+    let mut folder = queue(alloc, 4)?;
+    written(alloc, &mut folder, 0, b"hello\n")?;
+    folder.write(file, bytes)?;
+    let checked = checked(alloc, &mut folder)?;
+    let printed = printed(alloc, &mut folder, false, None)?;
+    let written = written(alloc, &mut folder, 0, b"")?;
+    Ok([checked, printed, written])
 }
 
 #[test]
-fn runs_each_order(rt: HostRuntime) -> Result<(), Fail> {
+fn tells_the_first_fault(rt: HostRuntime) -> Result<(), Fail> {
     let alloc = rt.alloc();
-    let mut folder = MemoryFolder::new(alloc);
-    let path = || String::new(alloc);
-    let orders = [
+    let open = "19700101.cqi: 1 messages, open\n";
+    let table: [(&str, &[u8], [&str; 3]); 8] = [
         (
-            Order::Init {
-                folder: path(),
-                settings: settings(alloc, 4, Vec::new(alloc))?,
-            },
-            "",
-        ),
-        (Order::Echo, "0 hello\n"),
-        (
-            Order::Cycle {
-                roll: String::from_str(alloc, "daily")?,
-                epoch: 0,
-                moment: DAY,
-            },
-            "1 19700102 0000000100000000\n",
+            "queue.cqc",
+            b"cq 1\nroll weekly\n",
+            ["cq: queue.cqc: line 2"; 3],
         ),
         (
-            Order::Write {
-                folder: path(),
-                moment: DAY,
-            },
-            "0000000100000000\n",
+            "queue.cqc",
+            b"cq 1\nroll daily\nepoch 0\ncells 30\ncount 8\nspacing 1\ncycles 0\n",
+            ["cq: BadShape"; 3],
         ),
         (
-            Order::Read {
-                folder: path(),
-                back: false,
-                from: None,
-            },
-            "0000000100000000 hello\n",
+            "queue.cqc",
+            b"cq 1\nroll daily\nepoch 0\ncells 64\ncount 8\nspacing 1\ncycles 0\n",
+            ["cq: BadConfig"; 3],
+        ),
+        ("0.cqi", b"", ["cq: 0.cqi: bad cycle name"; 3]),
+        ("notes.txt", b"x", [open, "0000000000000000 hello\n", ""]),
+        (
+            "19700102.cqi",
+            b"x",
+            [
+                "19700101.cqi: 1 messages, open\n19700102.cqi: Cut at 0\ncq: images at fault",
+                "cq: 19700102.cqi: Cut at 0",
+                "cq: 19700102.cqi: Cut at 0",
+            ],
         ),
         (
-            Order::Read {
-                folder: path(),
-                back: true,
-                from: Some(String::from_str(alloc, "0000000100000000")?),
-            },
-            "",
+            "19700102.cqi",
+            b"",
+            [
+                "19700101.cqi: 1 messages, open\n19700102.cqi: 0 messages, open\n",
+                "cq: 19700101.cqi: wrong end",
+                "cq: 19700101.cqi: wrong end",
+            ],
         ),
         (
-            Order::Check { folder: path() },
-            "19700102.cqi: 1 messages, open\n",
-        ),
-        (
-            Order::Dump {
-                folder: path(),
-                file: String::from_str(alloc, "19700102.cqi")?,
-            },
-            "00000000 40000018 store 1 1 8 1 64\n0000001c 40000020 top 64 0 0 0 0 0 0 0\n\
-00000040 40000020 table 0 100 0 0 0 0 0 0 0\n00000064 00000005 data 0 68656c6c6f\n",
+            "19700102.cqi",
+            &[0, 0, 0, 0xC0],
+            [
+                "19700101.cqi: 1 messages, open\n19700102.cqi: 0 messages, ended\n",
+                "cq: 19700101.cqi: wrong end",
+                "cq: 19700101.cqi: wrong end",
+            ],
         ),
     ];
-    for (order, want) in orders {
-        assert_eq!(rt; ran(alloc, &mut folder, order, b"hello\n")?.as_str(), want);
+    for (file, bytes, want) in table {
+        let said = said_of(alloc, file, bytes)?;
+        for i in 0..3 {
+            assert_eq!(rt; said[i].as_str(), want[i], "{file} {i}");
+        }
+    }
+    Ok(())
+}
+
+#[test]
+fn tells_where_no_queue_is_and_where_one_is(rt: HostRuntime) -> Result<(), Fail> {
+    let alloc = rt.alloc();
+    let mut folder = MemoryFolder::new(alloc);
+    assert_eq!(rt; checked(alloc, &mut folder)?.as_str(), "cq: no queue here");
+    let mut folder = queue(alloc, 4)?;
+    let done = init(alloc, &mut folder, settings(alloc, 4, Vec::new(alloc))?);
+    assert_eq!(rt; fault_of(alloc, done)?.as_str(), "queue there already");
+    Ok(())
+}
+
+#[test]
+fn refuses_settings(rt: HostRuntime) -> Result<(), Fail> {
+    let alloc = rt.alloc();
+    let table = [
+        ("weekly", 0, 64, 4, "BadConfig"),
+        ("daily", 0, 30, 4, "BadShape"),
+        ("daily", 0, 4_294_967_360, 4, "BadShape"),
+        ("daily", 0, 30, 0, "BadShape"),
+        ("daily", 0, 64, 0, "BadConfig"),
+        ("daily", 0, 64, 65, "BadConfig"),
+        ("daily", 0, 64, 4_294_967_297, "BadConfig"),
+        ("daily", 253_402_300_800_000, 64, 4, "BadConfig"),
+    ];
+    for (roll, epoch, cells, cycles, want) in table {
+        let mut folder = MemoryFolder::new(alloc);
+        let mut settings = settings(alloc, cycles, Vec::new(alloc))?;
+        settings.roll = String::from_str(alloc, roll)?;
+        settings.epoch = epoch;
+        settings.cells = cells;
+        let done = init(alloc, &mut folder, settings);
+        assert_eq!(rt; fault_of(alloc, done)?.as_str(), want);
+        assert_eq!(rt; checked(alloc, &mut folder)?.as_str(), "cq: no queue here");
+    }
+    Ok(())
+}
+
+#[test]
+fn write_passes_each_folder_fault_on(rt: HostRuntime) -> Result<(), Fail> {
+    let alloc = rt.alloc();
+    // The calls of a write that begins a cycle: the list, queue.cqc, one image, the ended image and the new one.
+    let table = [
+        "cq: folder fault",
+        "cq: file fault: queue.cqc",
+        "cq: file fault: 19700101.cqi",
+        "cq: file fault: 19700101.cqi",
+        "cq: file fault: 19700102.cqi",
+        "0000000100000000\n",
+    ];
+    for (i, want) in table.iter().enumerate() {
+        let mut folder = queue(alloc, 4)?;
+        written(alloc, &mut folder, 0, b"hello\n")?;
+        let mut failing = FailingFolder::new(folder, i as u64 + 1);
+        assert_eq!(rt; written(alloc, &mut failing, DAY, b"a\n")?.as_str(), *want);
     }
     Ok(())
 }
