@@ -1,6 +1,7 @@
 pub mod LinesLemmas
 pub mod EchoLemmas
 pub mod QueueLemmas
+pub mod CauseLemmas
 pub mod DumpLemmas
 pub mod AppendLemmas
 pub mod PrintingLemmas

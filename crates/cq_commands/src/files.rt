@@ -5,7 +5,7 @@ ghost use Rattle.std.specs.List.{list_any};
 ghost use Rattle.std.specs.Str.{bytes_eq};
 ghost use Rattle.cq_model.specs.Settings.{texts};
 ghost use Rattle.cq_folder.specs.Folder.{KeepsFiles, KeepsOthers, ListsFiles, WritesFile};
-ghost use Rattle.cq_commands.specs.FolderFaults.{IsFileFault, IsListFault, IsSaveFault};
+ghost use Rattle.cq_commands.specs.FolderFaults.{HasCause, IsFileFault, IsListFault, IsSaveFault};
 
 use crate::fault::ToolFault;
 use cq_folder::{Folder, FolderFault};
@@ -24,6 +24,7 @@ pub(crate) const MOST_FILE_BYTES: usize = 8_388_608;
 pub(crate) fn listed<F: Folder>(alloc: Global, folder: &mut F) -> Result<Vec<String>, ToolFault>
     ensures listed { IfOk result (λ names. IfSome (F.files folder.old) (ListsFiles (texts names.items))) }
     ensures fault { IfErr result IsListFault }
+    ensures cause { IfErr result (λ fault. IfSome (F.files folder.old) (λ files. HasCause files fault)) }
     ensures kept { KeepsFiles (F.files folder.old) (F.files folder.new) }
 {
     match folder.names(alloc) {
@@ -49,6 +50,7 @@ pub(crate) fn read_file<F: Folder>(
     ensures held { IfOk result (λ bytes. IfSome (F.files folder.old) (λ files. files name.now ≡ Some bytes.items)) }
     ensures small { IfOk result (λ bytes. length bytes.items ≤ MOST_FILE_BYTES) }
     ensures fault { IfErr result (IsFileFault name.now) }
+    ensures cause { IfErr result (λ fault. IfSome (F.files folder.old) (λ files. HasCause files fault)) }
     ensures kept { KeepsFiles (F.files folder.old) (F.files folder.new) }
 {
     match folder.read(alloc, name, MOST_FILE_BYTES) {
