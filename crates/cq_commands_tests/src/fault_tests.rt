@@ -2,6 +2,7 @@
 use crate::folders::{
     DAY, MOST_BYTES, bytes_of, checked, copies, dumped, fault_of, printed, queue, settings, written,
 };
+use crate::patched;
 use cq_commands::{init, write};
 use cq_folder::{FailingFolder, Folder, MemoryFolder};
 use std::alloc::{AllocError, Global};
@@ -40,23 +41,6 @@ fn checks_and_dumps_the_image(rt: HostRuntime) -> Result<(), Fail> {
     Ok(())
 }
 
-/// The image with these bytes in the place of as many from one on, or behind its last one.
-fn changed_image(alloc: Global, at: usize, bytes: &[u8]) -> Result<Vec<u8>, Fail> {
-    let image = hex::decode(alloc, IMAGE)?;
-    let mut changed = Vec::new(alloc);
-    for (i, byte) in image.as_slice().iter().enumerate() {
-        if i < at {
-            changed.push(*byte)?;
-        } else {
-            changed.push(*bytes.get(i - at).unwrap_or(byte))?;
-        }
-    }
-    if at == image.len() {
-        changed.extend_from_slice(bytes)?;
-    }
-    Ok(changed)
-}
-
 /// What `check`, `dump` and `read` say of a queue with this image.
 fn faults_of(alloc: Global, image: &[u8]) -> Result<[String; 3], Fail> {
     let mut folder = queue_with(alloc, image)?;
@@ -82,7 +66,8 @@ fn tells_each_image_fault(rt: HostRuntime) -> Result<(), Fail> {
         (12, &[1], "WrongStore at 12"),
     ];
     for (at, bytes, want) in table {
-        let image = changed_image(alloc, at, bytes)?;
+        let image = hex::decode(alloc, IMAGE)?;
+        let image = patched(alloc, image.as_slice(), at.min(image.len()), bytes)?;
         let said = faults_of(alloc, image.as_slice())?;
         let of_check = format!(in alloc; "19700101.cqi: {want}\ncq: images at fault")?;
         let of_others = format!(in alloc; "cq: 19700101.cqi: {want}")?;

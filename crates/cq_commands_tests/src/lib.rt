@@ -1,5 +1,11 @@
 //! Tests of the commands over folders in memory: worked examples, the order of faults, and limits.
+//!
+//! They are proved apart from the commands, so that both go on side by side.
 #![tactic(auto)]
+
+mod patching;
+
+pub use patching::patched;
 
 #[cfg(test)]
 mod command_tests;
