@@ -1,9 +1,13 @@
 -- Which faults of a queue's folder are answered.
-use Rattle.std.specs.Prelude.{◌≡◌, ◌≢◌, ◌⊎◌, ⊤, ℕ, ◌+◌, ◌^◌, ◌++◌, true, false, ◌<◌, ◌≤◌, List, [], length, slice_get, Err, IsSome, IsSomeAnd, Option, None, Some, codes, string_bytes}
+use Rattle.std.specs.Prelude.{◌≡◌, ◌≢◌, ◌⊎◌, ⊤, ℕ, ◌+◌, ◌-◌, ◌^◌, ◌∷◌, ◌++◌, map, min, true, false, ◌<◌, ◌≤◌, List, [], length, slice_get, Err, IsSome, IsSomeAnd, Option, None, Some, codes, string_bytes}
+use Rattle.cq_layout.specs.Room.{Fits, IsMessageLength}
+use Rattle.cq_layout.specs.Shape.{Measures}
 use Rattle.cq_cycle.specs.Index.{index_text}
 use Rattle.cq_model.specs.Settings.{Settings}
-use Rattle.cq_model.specs.declared.refusal.Refusal.TheVariants.{BadRoom, NoCycleLeft}
+use Rattle.cq_model.specs.declared.refusal.Refusal.{Refusal}
+use Rattle.cq_model.specs.declared.refusal.Refusal.TheVariants.{BadRoom, CycleFull, NoCycleLeft}
 use Rattle.cq_image.specs.declared.fault.ImageFault.{ImageFault}
+use Rattle.cq_image.specs.Image.{AreNext}
 use Rattle.cq_image.specs.Reading.{read_of}
 use Rattle.cq_folder.specs.ConfigFault.{RefusesText}
 use Rattle.cq_folder.specs.ConfigText.{IsTextOf}
@@ -136,3 +140,26 @@ IsNoIndex word = (index : ℕ) → index < 2 ^ 64 → word ≢ index_text index
 abbrev pub IsReadFault : Option (List ℕ) → Files → ToolFault → Type 0
 IsReadFault from files fault =
     ((fault ≡ BadIndex) × IsSomeAnd from IsNoIndex) ⊎ ((fault ≡ WriteFault) ⊎ HasCause files fault)
+
+-- why a line is no message behind these: it has a length that no message has, or it does not fit
+abbrev pub IsRefusedBehind : Measures → List (List ℕ) → List ℕ → Refusal → Type 0
+IsRefusedBehind shape messages line BadRoom = ¬ IsMessageLength (length line)
+IsRefusedBehind shape messages line CycleFull =
+    IsMessageLength (length line) × ¬ Fits shape (map length messages) (length line)
+IsRefusedBehind shape messages line _ = ⊥
+
+-- memory ran out, or the line with this number is refused
+abbrev pub IsLineFault : Measures → List (List ℕ) → List ℕ → ℕ → ToolFault → Type 0
+IsLineFault shape messages line number OutOfMemory = ⊤
+IsLineFault shape messages line number (Refused at refusal) =
+    (at ≡ number) × IsRefusedBehind shape messages line refusal
+IsLineFault shape messages line number _ = ⊥
+
+-- the first line that is no message behind these and the lines before it is refused, with its number, or memory ran out
+pub record IsLinesFault (shape : Measures) (messages lines : List (List ℕ)) (fault : ToolFault) : Type 0 where
+  pub before : List (List ℕ)
+  pub line : List ℕ
+  pub rest : List (List ℕ)
+  pub whole : lines ≡ before ++ line ∷ rest
+  pub stored : AreNext shape [] (messages ++ before)
+  pub fault_is : IsLineFault shape (messages ++ before) line (min (length before + 1) (2 ^ 64 - 1)) fault
