@@ -2,6 +2,7 @@ pub mod LinesLemmas
 pub mod EchoLemmas
 pub mod QueueLemmas
 pub mod CauseLemmas
+pub mod RefusalLemmas
 pub mod DumpLemmas
 pub mod AppendLemmas
 pub mod PrintingLemmas

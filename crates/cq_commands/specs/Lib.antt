@@ -6,6 +6,7 @@ pub mod Lines
 pub mod FolderFaults
 pub mod Queue
 pub mod Appending
+pub mod WriteFaults
 pub mod Written
 pub mod Messages
 pub mod CheckText
