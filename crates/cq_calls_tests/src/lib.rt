@@ -1,0 +1,19 @@
+//! Tests of the calls together: what appenders write and tailers read of one queue, across cycles, threads and a stop.
+//!
+//! They are proved apart from the calls, so that these go on side by side.
+#![tactic(auto)]
+
+mod numbering;
+
+pub use numbering::is_numbered;
+
+#[cfg(test)]
+mod cycle_tests;
+#[cfg(test)]
+mod message_tests;
+#[cfg(test)]
+mod queues;
+#[cfg(test)]
+mod stopping_tests;
+#[cfg(test)]
+mod thread_tests;

@@ -1,0 +1,52 @@
+//! What is left of queues that are stopped.
+use crate::queues::{FIFTH_DAY, advance, append, contents_text, new_queue, queue_of, small_config};
+use cq_append::Appender;
+use cq_image::{image, recover};
+use cq_model::Refusal;
+use cq_words::Queue;
+use std::test::Fail;
+
+#[test]
+fn a_stopped_queue_keeps_what_others_completed(rt: HostRuntime) -> Result<(), Fail> {
+    let (queue, mut caller) = new_queue(rt.alloc(), small_config(rt.alloc(), 4)?)?;
+    let idle = queue.split(&mut caller);
+    let mut third = Appender::new(queue.split(&mut caller));
+    let mut appender = Appender::new(caller);
+    assert_eq!(rt; append(&queue, &mut appender, 0, "hello"), Ok(0));
+    {
+        let Ok(mut writing) = appender.begin(&queue, 0, 12) else {
+            panic!(rt; "nobody writes")
+        };
+        assert!(rt; writing.put(&queue, b"1234567").is_ok());
+    }
+    assert_eq!(rt;
+        append(&queue, &mut third, 0, "x"),
+        Err(Some(Refusal::Busy))
+    );
+    let contents = recover(rt.alloc(), &queue.stop(idle)?)?;
+    assert_eq!(rt;
+        contents_text(rt.alloc(), &contents)?.as_str(),
+        "0[hello;] at 0"
+    );
+    let (queue, caller) = Queue::reopen(rt.alloc(), small_config(rt.alloc(), 4)?, &contents)?;
+    let mut appender = Appender::new(caller);
+    assert_eq!(rt; append(&queue, &mut appender, 0, "x"), Ok(1));
+    Ok(())
+}
+
+#[test]
+fn cycles_without_messages_are_kept(rt: HostRuntime) -> Result<(), Fail> {
+    let (queue, mut appender, _tailer) = queue_of(rt.alloc(), 4)?;
+    assert_eq!(rt; advance(&queue, &mut appender, FIFTH_DAY), Some(5));
+    let contents = recover(rt.alloc(), &queue.stop(appender.into_caller())?)?;
+    assert_eq!(rt;
+        contents_text(rt.alloc(), &contents)?.as_str(),
+        "0[] 5[] at 0"
+    );
+    let config = small_config(rt.alloc(), 4)?;
+    let ended = image(rt.alloc(), 0, config.shape(), &[], true)?;
+    assert_eq!(rt; ended.as_slice(), [0, 0, 0, 0xc0].as_slice());
+    let open = image(rt.alloc(), 5, config.shape(), &[], false)?;
+    assert!(rt; open.is_empty());
+    Ok(())
+}
