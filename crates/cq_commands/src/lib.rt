@@ -13,6 +13,7 @@ mod fault;
 mod files;
 mod initialising;
 mod input;
+mod journal;
 pub mod laws;
 mod lines;
 mod opening;
@@ -20,6 +21,8 @@ mod order;
 mod output;
 mod printing;
 mod running;
+mod saving;
+mod taking;
 mod text;
 
 pub use appending::write;
@@ -32,6 +35,7 @@ pub use initialising::init;
 pub use order::{InitSettings, Order};
 pub use printing::read;
 pub use running::run;
+pub use taking::take;
 
 #[cfg(test)]
 mod tests;

@@ -1,5 +1,5 @@
 //! Folders in memory, and what the commands say of them.
-use cq_commands::{InitSettings, ToolFault, check, dump, init, read, write};
+use cq_commands::{InitSettings, ToolFault, check, dump, init, read, take, write};
 use cq_folder::{Folder, MemoryFolder};
 use std::alloc::{AllocError, Global};
 use std::test::Fail;
@@ -67,6 +67,13 @@ pub fn printed<F: Folder>(
 ) -> Result<String, Fail> {
     let mut output = Vec::new(alloc);
     let done = read(alloc, folder, back, from, &mut output);
+    said(alloc, done, output)
+}
+
+/// What `take` says.
+pub fn taken<F: Folder>(alloc: Global, folder: &mut F, name: &str) -> Result<String, Fail> {
+    let mut output = Vec::new(alloc);
+    let done = take(alloc, folder, name, &mut output);
     said(alloc, done, output)
 }
 

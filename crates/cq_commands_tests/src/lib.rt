@@ -15,3 +15,5 @@ mod fault_tests;
 mod folders;
 #[cfg(test)]
 mod limit_tests;
+#[cfg(test)]
+mod take_tests;

@@ -7,7 +7,7 @@ use Rattle.clap.specs.declared.builder.command.Command.TheViews.{out-Command}
 use Rattle.clap.specs.declared.builder.ArgAction.TheVariants.{Append, Set, SetTrue}
 use Rattle.clap.specs.declared.builder.value_parser.ValueParser.TheVariants.{Unsigned}
 use Rattle.cq_commands.specs.declared.order.Order.{Order}
-use Rattle.cq_commands.specs.declared.order.Order.TheVariants.{Echo, Cycle, Init, Write, Read, Check, Dump}
+use Rattle.cq_commands.specs.declared.order.Order.TheVariants.{Echo, Cycle, Init, Write, Read, Take, Check, Dump}
 
 -- the word that names the command
 abbrev pub word_of : Order → List ℕ
@@ -16,6 +16,7 @@ word_of (Cycle roll epoch moment) = codes "cycle"
 word_of (Init folder settings) = codes "init"
 word_of (Write folder moment) = codes "write"
 word_of (Read folder back begin) = codes "read"
+word_of (Take folder name) = codes "take"
 word_of (Check folder) = codes "check"
 word_of (Dump folder file) = codes "dump"
 
@@ -68,6 +69,9 @@ abbrev pub read_command : App
 read_command =
     with_rule (with_rule (with_rule (new_app (codes "read")) (word_rule (codes "DIR"))) (flag_rule (codes "back"))) (option_rule (codes "from"))
 
+abbrev pub take_command : App
+take_command = with_rule (with_rule (new_app (codes "take")) (word_rule (codes "DIR"))) (word_rule (codes "NAME"))
+
 abbrev pub check_command : App
 check_command = with_rule (new_app (codes "check")) (word_rule (codes "DIR"))
 
@@ -81,8 +85,8 @@ plain_commands app = with_subcommand (with_subcommand app echo_command.top) cycl
 -- the commands on a queue that is stored in a folder
 abbrev pub queue_commands : App → App
 queue_commands app =
-    with_subcommand (with_subcommand (with_subcommand (with_subcommand (with_subcommand app init_command.top) write_command.top) read_command.top) check_command.top)
-    dump_command.top
+    with_subcommand (with_subcommand (with_subcommand (with_subcommand (with_subcommand (with_subcommand app init_command.top) write_command.top) read_command.top) take_command.top)
+    check_command.top) dump_command.top
 
 -- the program with all its commands
 abbrev pub command_line : App

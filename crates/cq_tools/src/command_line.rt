@@ -5,7 +5,7 @@ ghost use Rattle.cq_tools.specs.CommandLine.{Follows, Makes};
 ghost use Rattle.cq_tools.specs.CommandLine.{check_command, command_line, cycle_command, dump_command};
 ghost use Rattle.cq_tools.specs.CommandLine.{echo_command, init_command};
 ghost use Rattle.cq_tools.specs.CommandLine.{init_place, plain_commands, queue_commands, read_command};
-ghost use Rattle.cq_tools.specs.CommandLine.{with_sizes, write_command};
+ghost use Rattle.cq_tools.specs.CommandLine.{take_command, with_sizes, write_command};
 ghost use Rattle.cq_tools.specs.CommandLine.{flag_rule, number_rule, option_rule, word_rule, words_rule};
 
 use clap::{Arg, ArgAction, Command, value_parser};
@@ -38,6 +38,7 @@ fn queue_commands<'a>(alloc: Global, command: Command<'a>) -> Result<Command<'a>
         .subcommand(init_command(alloc)?)?
         .subcommand(write_command(alloc)?)?
         .subcommand(read_command(alloc)?)?
+        .subcommand(take_command(alloc)?)?
         .subcommand(check_command(alloc)?)?
         .subcommand(dump_command(alloc)?)
 }
@@ -113,6 +114,15 @@ fn read_command<'a>(alloc: Global) -> Result<Command<'a>, AllocError>
         .arg(folder(alloc))?
         .arg(flag(alloc, "back", "From the end on, towards the first message"))?
         .arg(option(alloc, "from", "INDEX", "The index to begin at"))
+}
+
+fn take_command<'a>(alloc: Global) -> Result<Command<'a>, AllocError>
+    ensures { IfOk result (λ command. Makes command take_command) }
+{
+    Command::new(alloc, "take")
+        .about("Prints the next message of a tailer, and moves the tailer behind it")
+        .arg(folder(alloc))?
+        .arg(word(alloc, "NAME", "The name of the tailer"))
 }
 
 fn check_command<'a>(alloc: Global) -> Result<Command<'a>, AllocError>

@@ -49,6 +49,7 @@ fn order_named(alloc: Global, name: &str, values: &ArgMatches<'_>) -> Result<Ord
         "init" => init_order(alloc, values),
         "write" => write_order(alloc, values),
         "read" => read_order(alloc, values),
+        "take" => take_order(alloc, values),
         "check" => check_order(alloc, values),
         "dump" => dump_order(alloc, values),
         _ => Err(OrderFault::NoOrder),
@@ -109,6 +110,16 @@ fn read_order(alloc: Global, values: &ArgMatches<'_>) -> Result<Order, OrderFaul
         folder: word(alloc, values, "DIR")?,
         back: flag(values, "back"),
         from: option(alloc, values, "from")?,
+    })
+}
+
+fn take_order(alloc: Global, values: &ArgMatches<'_>) -> Result<Order, OrderFault>
+    ensures named { IfOk result (λ order. word_of order ≡ codes "take") }
+    ensures values { IfOk result (λ order. TakesValues (rows_of (found_of values.now)) order) }
+{
+    Ok(Order::Take {
+        folder: word(alloc, values, "DIR")?,
+        name: word(alloc, values, "NAME")?,
     })
 }
 

@@ -188,7 +188,7 @@ fn parses_the_words_of_a_reader(rt: HostRuntime) -> Result<(), Fail> {
 
 #[test]
 fn parses_the_words_of_other_commands(rt: HostRuntime) -> Result<(), Fail> {
-    let table: [(&[&str], &str); 17] = [
+    let table: [(&[&str], &str); 21] = [
         (
             &["cq", "write", "q", "18446744073709551615"],
             "Write { folder: \"q\", moment: 18446744073709551615 }",
@@ -209,6 +209,13 @@ fn parses_the_words_of_other_commands(rt: HostRuntime) -> Result<(), Fail> {
             "invalid value 'now' for '<MOMENT>'",
         ),
         (&["cq", "write", "q", ""], "invalid value '' for '<MOMENT>'"),
+        (
+            &["cq", "take", "q", "reader"],
+            "Take { folder: \"q\", name: \"reader\" }",
+        ),
+        (&["cq", "take", "q"], "<NAME>"),
+        (&["cq", "take", "q", "r", "s"], "unexpected argument 's'"),
+        (&["cq", "take", "--help"], "Usage: cq take <DIR> <NAME>"),
         (&["cq", "check", "q"], "Check { folder: \"q\" }"),
         (&["cq", "check", " "], "Check { folder: \" \" }"),
         (&["cq", "check"], "<DIR>"),
