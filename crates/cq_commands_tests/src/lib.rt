@@ -1,4 +1,4 @@
-//! Tests of the commands over folders in memory: worked examples, the order of faults, and limits.
+//! Tests of the commands, over folders in memory where they need one: worked examples, the order of faults, and limits.
 //!
 //! They are proved apart from the commands, so that both go on side by side.
 #![tactic(auto)]
@@ -9,6 +9,8 @@ pub use patching::patched;
 
 #[cfg(test)]
 mod command_tests;
+#[cfg(test)]
+mod echo_tests;
 #[cfg(test)]
 mod fault_tests;
 #[cfg(test)]

@@ -1,4 +1,5 @@
-use crate::{ToolFault, cycle, echo};
+//! What `echo` and `cycle` print, which need no folder, and the texts of faults.
+use cq_commands::{ToolFault, cycle, echo};
 use cq_model::Refusal;
 use std::alloc::Global;
 use std::io;
