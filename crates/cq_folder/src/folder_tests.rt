@@ -28,24 +28,25 @@ fn read_text<F: Folder>(
     }
 }
 
-#[test]
-fn a_folder_in_memory_keeps_its_files(rt: HostRuntime) -> Result<(), Fail> {
-    let alloc = rt.alloc();
-    let mut folder = two_files(alloc)?;
+/// The names of the files, in their order, as text.
+fn names_text<F: Folder>(alloc: Global, folder: &mut F) -> Result<String, Fail> {
     let mut names = folder.names(alloc)?;
     names.sort()?;
-    assert_eq!(rt; names.len(), 2);
-    assert_eq!(rt; names[0].as_str(), "a");
-    assert_eq!(rt; names[1].as_str(), "b");
+    Ok(format!(in alloc; "{:?}", names.as_slice())?)
+}
+
+/// Compares a folder with one of the files `a` and `b`, of the three bytes `abc` and of none.
+fn compare_files<R: Abort + AllocGlobal, F: Folder>(rt: &R, folder: &mut F) -> Result<(), Fail> {
+    let alloc = rt.alloc();
+    assert_eq!(rt; names_text(alloc, folder)?.as_str(), "[\"a\", \"b\"]");
     for (name, limit, want) in [
         ("a", 3, "[97, 98, 99]"),
         ("a", usize::MAX, "[97, 98, 99]"),
         ("a", 2, "TooLarge"),
         ("b", 0, "[]"),
         ("c", 0, "none"),
-        ("", 9, "none"),
     ] {
-        let said = read_text(alloc, &mut folder, name, limit)?;
+        let said = read_text(alloc, folder, name, limit)?;
         assert_eq!(rt; said.as_str(), want, "{name} up to {limit}");
     }
     assert_eq!(rt; folder.failures(), 0);
@@ -53,37 +54,40 @@ fn a_folder_in_memory_keeps_its_files(rt: HostRuntime) -> Result<(), Fail> {
 }
 
 #[test]
+fn a_folder_in_memory_keeps_its_files(rt: HostRuntime) -> Result<(), Fail> {
+    let mut folder = two_files(rt.alloc())?;
+    compare_files(&rt, &mut folder)?;
+    assert_eq!(rt; read_text(rt.alloc(), &mut folder, "", 9)?.as_str(), "none");
+    assert_eq!(rt; folder.failures(), 0);
+    Ok(())
+}
+
+/// What the calls of a folder answer of which the one with this number fails, how many failed, and what `a` holds then, as
+/// text.
+fn failing_text(alloc: Global, number: u64) -> Result<String, Fail> {
+    let mut folder = FailingFolder::new(two_files(alloc)?, number);
+    let names = folder.names(alloc).is_ok();
+    let write = folder.write("a", b"new".as_slice()).is_ok();
+    let read = read_text(alloc, &mut folder, "b", 0)?;
+    let failures = folder.failures();
+    let held = read_text(alloc, &mut folder.into_inner(), "a", 3)?;
+    Ok(format!(in alloc; "{names} {write} {read}, {failures} failed, {held}")?)
+}
+
+#[test]
 fn each_call_can_fail_once(rt: HostRuntime) -> Result<(), Fail> {
-    let alloc = rt.alloc();
-    for (number, names, write, read, failures) in [
-        (0, true, true, true, 0),
-        (1, false, true, true, 1),
-        (2, true, false, true, 1),
-        (3, true, true, false, 1),
-        (4, true, true, true, 0),
+    for (number, want) in [
+        (0, "true true [], 0 failed, [110, 101, 119]"),
+        (1, "false true [], 1 failed, [110, 101, 119]"),
+        (2, "true false [], 1 failed, [97, 98, 99]"),
+        (3, "true true Device, 1 failed, [110, 101, 119]"),
+        (4, "true true [], 0 failed, [110, 101, 119]"),
     ] {
-        let mut folder = FailingFolder::new(two_files(alloc)?, number);
-        assert_eq!(rt; folder.names(alloc).is_ok(), names, "names, {number}");
         assert_eq!(rt;
-            folder.write("a", b"new".as_slice()).is_ok(),
-            write,
-            "write, {number}"
+            failing_text(rt.alloc(), number)?.as_str(),
+            want,
+            "{number}"
         );
-        let said = read_text(alloc, &mut folder, "b", 0)?;
-        assert_eq!(rt;
-            said.as_str(),
-            if read { "[]" } else { "Device" },
-            "read, {number}"
-        );
-        assert_eq!(rt; folder.failures(), failures, "{number}");
-        let mut within = folder.into_inner();
-        let said = read_text(alloc, &mut within, "a", 3)?;
-        let want = if write {
-            "[110, 101, 119]"
-        } else {
-            "[97, 98, 99]"
-        };
-        assert_eq!(rt; said.as_str(), want, "after {number}");
     }
     Ok(())
 }
@@ -98,12 +102,13 @@ fn a_real_folder_keeps_its_files(rt: HostRuntime) -> Result<(), Fail> {
         process::id(rt.process())
     )?;
     fs::create_dir(&rt, path.as_str())?;
-    real_folder_rows(&rt, path.as_str())?;
+    compare_real_files(&rt, path.as_str())?;
     fs::remove_dir_all(&rt, path.as_str())?;
     Ok(())
 }
 
-fn real_folder_rows<R>(rt: &R, path: &str) -> Result<(), Fail>
+/// Fills the empty folder at a path, and compares what it keeps.
+fn compare_real_files<R>(rt: &R, path: &str) -> Result<(), Fail>
 where
     R: Abort + Files + AllocGlobal + Clone + Drop,
 {
@@ -116,23 +121,7 @@ where
     folder.write("a", b"old".as_slice())?;
     folder.write("b", b"".as_slice())?;
     folder.write("a", b"abc".as_slice())?;
-    let mut names = folder.names(alloc)?;
-    names.sort()?;
-    assert_eq!(rt; names.len(), 2);
-    assert_eq!(rt; names[0].as_str(), "a");
-    assert_eq!(rt; names[1].as_str(), "b");
-    for (name, limit, want) in [
-        ("a", 3, "[97, 98, 99]"),
-        ("a", usize::MAX, "[97, 98, 99]"),
-        ("a", 2, "TooLarge"),
-        ("b", 0, "[]"),
-        ("c", 0, "none"),
-    ] {
-        let said = read_text(alloc, &mut folder, name, limit)?;
-        assert_eq!(rt; said.as_str(), want, "{name} up to {limit}");
-    }
-    assert_eq!(rt; folder.failures(), 0);
-    Ok(())
+    compare_files(rt, &mut folder)
 }
 
 #[test]
