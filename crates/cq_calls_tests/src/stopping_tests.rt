@@ -1,9 +1,8 @@
 //! What is left of queues that are stopped.
-use crate::queues::{FIFTH_DAY, advance, append, contents_text, new_queue, queue_of, small_config};
+use crate::queues::{Call, FIFTH_DAY, Fixture, append, contents_text, new_queue, small_config};
 use cq_append::Appender;
 use cq_image::{image, recover};
 use cq_model::Refusal;
-use cq_words::Queue;
 use std::test::Fail;
 
 #[test]
@@ -28,17 +27,18 @@ fn a_stopped_queue_keeps_what_others_completed(rt: HostRuntime) -> Result<(), Fa
         contents_text(rt.alloc(), &contents)?.as_str(),
         "0[hello;] at 0"
     );
-    let (queue, caller) = Queue::reopen(rt.alloc(), small_config(rt.alloc(), 4)?, &contents)?;
-    let mut appender = Appender::new(caller);
-    assert_eq!(rt; append(&queue, &mut appender, 0, "x"), Ok(1));
+    let mut reopened = Fixture::reopen(rt.alloc(), 4, &contents)?;
+    let text = reopened.answers(rt.alloc(), &[Call::Append(0, "x")])?;
+    assert_eq!(rt; text.as_str(), "1; ");
     Ok(())
 }
 
 #[test]
 fn cycles_without_messages_are_kept(rt: HostRuntime) -> Result<(), Fail> {
-    let (queue, mut appender, _tailer) = queue_of(rt.alloc(), 4)?;
-    assert_eq!(rt; advance(&queue, &mut appender, FIFTH_DAY), Some(5));
-    let contents = recover(rt.alloc(), &queue.stop(appender.into_caller())?)?;
+    let mut fixture = Fixture::new(rt.alloc(), 4)?;
+    let text = fixture.answers(rt.alloc(), &[Call::Advance(FIFTH_DAY)])?;
+    assert_eq!(rt; text.as_str(), "cycle 5; ");
+    let contents = fixture.into_contents(rt.alloc())?;
     assert_eq!(rt;
         contents_text(rt.alloc(), &contents)?.as_str(),
         "0[] 5[] at 0"
