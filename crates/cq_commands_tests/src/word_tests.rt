@@ -1,4 +1,5 @@
-use crate::{Order, ParseFault, parse};
+//! What the words of a command line are.
+use cq_tools::{ParseFault, parse};
 use std::alloc::Global;
 use std::process::Abort;
 use std::test::Fail;
