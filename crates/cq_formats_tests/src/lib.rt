@@ -7,9 +7,15 @@
 #[cfg(test)]
 mod chain_tests;
 #[cfg(test)]
+mod config_text_tests;
+#[cfg(test)]
 mod cycle_tests;
 #[cfg(test)]
+mod folder_tests;
+#[cfg(test)]
 mod header_tests;
+#[cfg(test)]
+mod image_tests;
 #[cfg(test)]
 mod layout_tests;
 #[cfg(test)]

@@ -1,9 +1,10 @@
 //! Settings with their limits, and contents.
 use crate::settings::{names_of, settings_text};
 use cq_cycle::{LAST_MOMENT, Roll};
+use cq_fixtures::{contents_of, contents_text};
 use cq_layout::Shape;
-use cq_model::{Config, Contents, CycleList, Items};
-use std::alloc::{AllocError, Global};
+use cq_model::Config;
+use std::alloc::Global;
 use std::test::Fail;
 
 #[test]
@@ -96,39 +97,11 @@ fn names_have_limits(rt: HostRuntime) -> Result<(), Fail> {
     Ok(())
 }
 
-/// Contents as text, which are taken apart: each cycle with its messages in brackets, and then the positions.
-fn contents_text(alloc: Global, contents: Contents) -> Result<String, Fail> {
-    let Contents { lists, positions } = contents;
-    let mut text = String::new(alloc);
-    for list in lists.into_vec().iter() {
-        text.push_str(format!(in alloc; "{}[", list.cycle)?.as_str())?;
-        for message in list.messages.as_slice() {
-            text.push_str(str::from_utf8(message.as_slice())?)?;
-            text.push_str(";")?;
-        }
-        text.push_str("] ")?;
-    }
-    text.push_str(format!(in alloc; "at {:?}", positions.as_slice())?.as_str())?;
-    Ok(text)
-}
-
-/// One cycle of one message, and one position.
-fn one_message(alloc: Global) -> Result<Contents, AllocError> {
-    let message = Items::new(b"hello".to_vec(alloc)?);
-    let list = CycleList {
-        cycle: 5,
-        messages: Items::new(vec![in alloc; message]?),
-    };
-    Ok(Contents {
-        lists: Items::new(vec![in alloc; list]?),
-        positions: Items::new(vec![in alloc; 1]?),
-    })
-}
-
 #[test]
 fn contents_give_back_their_items(rt: HostRuntime) -> Result<(), Fail> {
-    let contents = one_message(rt.alloc())?;
-    let text = contents_text(rt.alloc(), contents)?;
+    let contents = contents_of(rt.alloc(), &[(5, &["hello"])], &[1])?;
+    let text = contents_text(rt.alloc(), &contents)?;
     assert_eq!(rt; text.as_str(), "5[hello;] at [1]");
+    assert_eq!(rt; contents.lists.into_vec().len(), 1);
     Ok(())
 }
