@@ -201,28 +201,22 @@ fn joins_and_splits_indexes(rt: HostRuntime) -> Result<(), Fail> {
     Ok(())
 }
 
-/// Each roll beside its word.
-static ROLLS: [(Roll, &str); 3] = [
-    (Roll::Daily, "daily"),
-    (Roll::Hourly, "hourly"),
-    (Roll::Minutely, "minutely"),
+/// Words, each beside the roll that it names.
+static WORDS: [(&str, Option<Roll>); 9] = [
+    ("daily", Some(Roll::Daily)),
+    ("hourly", Some(Roll::Hourly)),
+    ("minutely", Some(Roll::Minutely)),
+    ("", None),
+    ("Daily", None),
+    ("daily ", None),
+    ("dail", None),
+    ("weekly", None),
+    ("minutely\n", None),
 ];
 
 #[test]
-fn rolls_have_their_words(rt: HostRuntime) -> Result<(), Fail> {
-    for &(roll, word) in &ROLLS {
-        assert_eq!(rt; roll_named(word), Some(roll), "{word}");
-        assert_eq!(rt; roll.to_string(rt.alloc())?.as_str(), word);
-    }
-    Ok(())
-}
-
-/// Words of no roll.
-static NO_ROLLS: [&str; 6] = ["", "Daily", "daily ", "dail", "weekly", "minutely\n"];
-
-#[test]
-fn other_words_name_no_roll(rt: HostRuntime) {
-    for &word in &NO_ROLLS {
-        assert_eq!(rt; roll_named(word), None, "{word:?}");
+fn words_name_rolls(rt: HostRuntime) {
+    for &(word, want) in &WORDS {
+        assert_eq!(rt; roll_named(word), want, "{word:?}");
     }
 }

@@ -35,71 +35,59 @@ fn measures(cells: u32, index_count: u32, index_spacing: u32) -> Result<(u32, u3
     Ok((shape.cells(), shape.index_count(), shape.index_spacing()))
 }
 
-/// Cells, index counts and index spacings of shapes.
-static SHAPES: [(u32, u32, u32); 5] = [
-    (31, 8, 1),
-    (64, 8, 1),
-    (65_536, 32, 1),
-    (1_048_576, 1024, 256),
-    (2063, 1024, 256),
+/// Cells, index counts and index spacings, each beside whether they are measures of a shape.
+static SHAPES: [(u32, u32, u32, bool); 16] = [
+    (31, 8, 1, true),
+    (64, 8, 1, true),
+    (65_536, 32, 1, true),
+    (1_048_576, 1024, 256, true),
+    (2063, 1024, 256, true),
+    (30, 8, 1, false),
+    (1_048_577, 8, 1, false),
+    (2062, 1024, 256, false),
+    (64, 7, 1, false),
+    (64, 4, 1, false),
+    (64, 0, 1, false),
+    (64, 12, 1, false),
+    (1_048_576, 2048, 1, false),
+    (64, 8, 0, false),
+    (64, 8, 3, false),
+    (64, 8, 512, false),
 ];
 
 #[test]
-fn shapes_within_the_limits_are_accepted(rt: HostRuntime) {
-    for &(cells, count, spacing) in &SHAPES {
-        assert_eq!(rt;
-            measures(cells, count, spacing),
+fn shapes_have_limits(rt: HostRuntime) {
+    for &(cells, count, spacing, accepted) in &SHAPES {
+        let want = if accepted {
             Ok((cells, count, spacing))
-        );
-    }
-}
-
-/// Cells, index counts and index spacings of no shape.
-static NO_SHAPES: [(u32, u32, u32); 11] = [
-    (30, 8, 1),
-    (1_048_577, 8, 1),
-    (2062, 1024, 256),
-    (64, 7, 1),
-    (64, 4, 1),
-    (64, 0, 1),
-    (64, 12, 1),
-    (1_048_576, 2048, 1),
-    (64, 8, 0),
-    (64, 8, 3),
-    (64, 8, 512),
-];
-
-#[test]
-fn other_shapes_are_refused(rt: HostRuntime) {
-    for &(cells, count, spacing) in &NO_SHAPES {
-        assert_eq!(rt;
-            measures(cells, count, spacing),
-            Err(BadShape),
-            "{cells}, {count}, {spacing}"
-        );
+        } else {
+            Err(BadShape)
+        };
+        assert_eq!(rt; measures(cells, count, spacing), want, "{cells}");
     }
 }
 
 #[test]
-fn messages_need_cells_up_to_the_end_of_data(rt: HostRuntime) -> Result<(), Fail> {
+fn messages_need_cells(rt: HostRuntime) -> Result<(), Fail> {
     let shape = Shape::new(64, 8, 1)?;
     let cells = [needs(shape, &[]), needs(shape, &[5]), needs(shape, &[5; 9])];
     assert_eq!(rt; cells, [0, 28, 61]);
-    let fitting = [
-        fits(shape, &[5; 8], 5),
-        fits(shape, &[5; 9], 5),
-        fits(shape, &[5; 9], 4),
-        fits(shape, &[5, 5, 5, 5, 5, 5, 5, 5, 5, 4], 1),
-        fits(shape, &[], 1_073_741_823),
-    ];
-    assert_eq!(rt; fitting, [true, false, true, false, false]);
     Ok(())
 }
 
 #[test]
-fn messages_fit_up_to_the_end_of_the_index(rt: HostRuntime) -> Result<(), Fail> {
-    let shape = Shape::new(4096, 8, 1)?;
-    let fitting = [fits(shape, &[1; 63], 1), fits(shape, &[1; 64], 1)];
-    assert_eq!(rt; fitting, [true, false]);
+fn messages_fit_up_to_the_end_of_data_and_of_the_index(rt: HostRuntime) -> Result<(), Fail> {
+    let small = Shape::new(64, 8, 1)?;
+    let large = Shape::new(4096, 8, 1)?;
+    let fitting = [
+        fits(small, &[5; 8], 5),
+        fits(small, &[5; 9], 5),
+        fits(small, &[5; 9], 4),
+        fits(small, &[5, 5, 5, 5, 5, 5, 5, 5, 5, 4], 1),
+        fits(small, &[], 1_073_741_823),
+        fits(large, &[1; 63], 1),
+        fits(large, &[1; 64], 1),
+    ];
+    assert_eq!(rt; fitting, [true, false, true, false, false, true, false]);
     Ok(())
 }
