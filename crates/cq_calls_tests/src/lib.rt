@@ -14,6 +14,8 @@ mod message_tests;
 #[cfg(test)]
 mod queues;
 #[cfg(test)]
+mod recovery_tests;
+#[cfg(test)]
 mod stopping_tests;
 #[cfg(test)]
 mod thread_tests;

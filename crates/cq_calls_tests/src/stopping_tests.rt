@@ -1,8 +1,9 @@
 //! What is left of queues that are stopped.
 use crate::queues::{Call, FIFTH_DAY, Fixture, append, contents_text, new_queue, small_config};
 use cq_gated_append::Appender;
-use cq_image::{image, recover};
+use cq_image::image;
 use cq_model::Refusal;
+use cq_shown::recover;
 use std::test::Fail;
 
 #[test]
