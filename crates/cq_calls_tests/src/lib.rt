@@ -10,6 +10,8 @@ pub use numbering::is_numbered;
 #[cfg(test)]
 mod cycle_tests;
 #[cfg(test)]
+mod journal_tests;
+#[cfg(test)]
 mod message_tests;
 #[cfg(test)]
 mod queues;

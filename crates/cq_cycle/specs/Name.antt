@@ -1,8 +1,6 @@
 -- The name of a cycle: the civil date and time in UTC at which it begins, cut to the day, the hour or the minute.
 use Rattle.std.specs.Prelude.{◌≡◌, ℕ, ◌+◌, ◌/◌, ◌%◌, List, [], ◌∷◌, ◌++◌, pos, codes}
 use Rattle.jiff_core.specs.Calendar.{IsCivilDate, days_from_civil}
-use Rattle.cq_cycle.specs.declared.name.NameFault.{NameFault}
-use Rattle.cq_cycle.specs.declared.name.NameFault.TheVariants.{BadName, OutOfMemory}
 use Rattle.cq_cycle.specs.declared.roll.Roll.{Roll}
 use Rattle.cq_cycle.specs.declared.roll.Roll.TheVariants.{Daily, Hourly, Minutely}
 use Rattle.cq_cycle.specs.Cycle.{HasCycle, length_of, start_of}
@@ -45,8 +43,3 @@ pub record IsName (roll : Roll) (epoch cycle : ℕ) (text : List ℕ) : Type 0 w
 -- no cycle that a queue may have has this name
 abbrev pub NamesNoCycle : Roll → ℕ → List ℕ → Type 0
 NamesNoCycle roll epoch text = (cycle : ℕ) → HasCycle roll epoch cycle → ¬ IsName roll epoch cycle text
-
--- how a fault of a name is printed
-abbrev pub fault_text : NameFault → List ℕ
-fault_text BadName = codes "BadName"
-fault_text OutOfMemory = codes "want of memory"

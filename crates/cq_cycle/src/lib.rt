@@ -15,6 +15,3 @@ pub use index::Index;
 pub use name::{NameFault, cycle_named, name_of};
 pub use roll::{BadMoment, LAST_CYCLE, LAST_MOMENT, Roll, cycle_of, has_cycle};
 pub use roll_word::roll_named;
-
-#[cfg(test)]
-mod tests;

@@ -9,33 +9,17 @@ use crate::roll::MILLIS_PER_DAY;
 use crate::time::{first_time, push_time};
 use crate::{Roll, cycle_of};
 use std::alloc::{AllocError, Global};
-use std::error::Error;
-use std::fmt;
 
 /// Why a name gives no cycle.
-#[derive(Clone, Copy, Debug, PartialEq, Eq, Hash)]
+#[derive(Clone, Copy, Debug, PartialEq, Eq, Hash, thiserror::Error)]
 pub enum NameFault {
     /// No cycle has the name.
+    #[error("BadName")]
     BadName,
     /// Memory ran out.
+    #[error("want of memory")]
     OutOfMemory,
 }
-
-impl fmt::Display for NameFault {
-    ghost use Rattle.std.specs.Prelude.{Some};
-    ghost use Rattle.cq_cycle.specs.Name.{fault_text};
-
-    ghost output = { λ fault. Some (fault_text fault) };
-
-    fn fmt<W: fmt::Write>(&self, f: &mut fmt::Formatter<W>) -> fmt::Result {
-        f.write_str(match self {
-            NameFault::BadName => "BadName",
-            NameFault::OutOfMemory => "want of memory",
-        })
-    }
-}
-
-impl Error for NameFault {}
 
 /// The name of a cycle: the civil date and time in UTC of its start, `epoch + cycle * length`, cut to the day, the hour
 /// or the minute (the queue's documentation; that it is UTC is this project's profile). `epoch` is in milliseconds of

@@ -22,8 +22,3 @@ pub use memory::MemoryFolder;
 pub use real::RealFolder;
 pub use storage::{Folder, FolderFault};
 pub use wanted::WantedConfig;
-
-#[cfg(test)]
-mod folder_tests;
-#[cfg(test)]
-mod tests;

@@ -1,6 +1,5 @@
 pub mod CallLemmas
 pub mod Decided
-pub mod Each
 pub mod FindLemmas
 pub mod Grows
 pub mod Inversions

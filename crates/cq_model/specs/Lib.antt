@@ -7,4 +7,3 @@ pub mod Settings
 pub mod States
 pub mod Takes
 pub mod Writers
-pub mod Refusal

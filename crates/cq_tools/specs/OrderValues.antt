@@ -2,7 +2,7 @@
 use Rattle.std.specs.Prelude.{◌≡◌, ℕ, Bool, List, [], true, false, codes, Option, Some, map, option_map, unwrap_or, string_bytes, String, ⊤}
 use Rattle.std.specs.Str.Parse.{IsNumeral, digits_value, without_leading_plus}
 use Rattle.clap.specs.Words.{Row, Text, all_of, first_of, one_of}
-use Rattle.cq_commands.specs.declared.order.InitSettings.{InitSettings}
+use Rattle.cq_files.specs.declared.initialising.InitSettings.{InitSettings}
 use Rattle.cq_commands.specs.declared.order.Order.{Order}
 use Rattle.cq_commands.specs.declared.order.Order.TheVariants.{Echo, Cycle, Init, Write, Read, Take, Check, Dump}
 

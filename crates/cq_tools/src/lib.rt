@@ -9,6 +9,3 @@ mod parsing;
 
 pub use cq_commands::{InitSettings, Order, ToolFault, dump_text, echo, run};
 pub use parsing::{ParseFault, parse};
-
-#[cfg(test)]
-mod tests;

@@ -1,0 +1,98 @@
+-- Which faults of a folder's queue are answered.
+use Rattle.std.specs.Prelude.{◌≡◌, ◌≢◌, ◌⊎◌, ⊤, ℕ, ◌+◌, ◌-◌, ◌^◌, ◌∷◌, ◌++◌, map, min, ◌<◌, ◌≤◌, List, [], length, slice_get, IsSomeAnd, Option, None, Some}
+use Rattle.cq_layout.specs.Room.{Fits, IsMessageLength}
+use Rattle.cq_layout.specs.Shape.{Measures}
+use Rattle.cq_cycle.specs.Index.{index_text}
+use Rattle.cq_model.specs.Settings.{Settings}
+use Rattle.cq_layout.specs.declared.refusal.Refusal.{Refusal}
+use Rattle.cq_layout.specs.declared.refusal.Refusal.TheVariants.{BadRoom, CycleFull, NoCycleLeft}
+use Rattle.cq_journal.specs.Journals.{Declares}
+use Rattle.cq_image.specs.Image.{AreNext}
+use Rattle.cq_folder.specs.Folder.{Files}
+use Rattle.cq_gated_tail.specs.declared.error.TakeFault.{TakeFault}
+use Rattle.cq_gated_tail.specs.declared.error.TakeFault.TheVariants as take
+use Rattle.cq_files.specs.declared.opening.CycleImage.{CycleImage}
+use Rattle.cq_files.specs.declared.opening.SavedQueue.{SavedQueue}
+use Rattle.cq_files.specs.FolderFaults.{HasCause, HasSettings, IsSaveFault}
+use Rattle.cq_files.specs.Queue.{CanBeOpened, HoldQueue, IsLawfulQueue, contents_in}
+use Rattle.cq_text.specs.declared.fault.ToolFault.{ToolFault}
+use Rattle.cq_text.specs.declared.fault.ToolFault.TheVariants.{OutOfMemory, Refused, WriteFault, BadIndex, BadContents, NoSuchName}
+
+-- the fault of a take
+abbrev pub take_fault : TakeFault → ToolFault
+take_fault take.NoSuchName = NoSuchName
+take_fault take.OutOfMemory = OutOfMemory
+
+-- why a line begins no cycle behind so many: it is empty, or no cycle is left
+abbrev pub IsFirstLineFault : Settings → ℕ → List ℕ → ToolFault → Type 0
+IsFirstLineFault settings count line (Refused number BadRoom) = (number ≡ 1) × (line ≡ [])
+IsFirstLineFault settings count line (Refused number NoCycleLeft) = (number ≡ 1) × (line ≢ []) × (settings.cycles ≤ count)
+IsFirstLineFault settings count line _ = ⊥
+
+-- the cycle is above that of the image
+abbrev pub IsAbove : Option CycleImage → ℕ → Type 0
+IsAbove None cycle = ⊥
+IsAbove (Some image) cycle = image.file.cycle < cycle
+
+-- why lines find no cycle: memory ran out, or the first one begins no cycle behind the last of so many
+abbrev pub IsRollFault : Settings → Option CycleImage → ℕ → ℕ → List (List ℕ) → ToolFault → Type 0
+IsRollFault settings last count cycle lines fault = (fault ≡ OutOfMemory)
+    ⊎ (IsAbove last cycle × ((line : List ℕ) × (slice_get lines 0 ≡ Some line) × IsFirstLineFault settings count line fault))
+
+-- the files hold a queue that cannot be opened
+pub record HoldsBadContents (files : Files) : Type 0 where
+  pub queue : SavedQueue
+  pub lawful : IsLawfulQueue queue
+  pub held : HoldQueue queue files
+  pub bad : ¬ CanBeOpened queue.saved.config (contents_in queue)
+
+-- why a folder's queue is not opened: the folder is at fault, or the queue cannot be opened
+abbrev pub IsOpenFault : Files → ToolFault → Type 0
+IsOpenFault files fault = ((fault ≡ BadContents) × HoldsBadContents files) ⊎ HasCause files fault
+
+-- the word is no index
+abbrev pub IsNoIndex : List ℕ → Type 0
+IsNoIndex word = (index : ℕ) → index < 2 ^ 64 → word ≢ index_text index
+
+-- why messages are not read: the index is none, the queue is not opened, or the lines are not written
+abbrev pub IsReadFault : Option (List ℕ) → Files → ToolFault → Type 0
+IsReadFault from files fault =
+    ((fault ≡ BadIndex) × IsSomeAnd from IsNoIndex) ⊎ ((fault ≡ WriteFault) ⊎ IsOpenFault files fault)
+
+-- the files' configuration declares no such name
+pub record DeclaresNot (files : Files) (name : List ℕ) : Type 0 where
+  pub settings : Settings
+  pub configured : HasSettings files settings
+  pub none : ¬ Declares settings name
+
+-- memory ran out, or no such name is declared
+abbrev pub IsNameFault : Settings → List ℕ → ToolFault → Type 0
+IsNameFault settings name fault = (fault ≡ OutOfMemory) ⊎ ((fault ≡ NoSuchName) × ¬ Declares settings name)
+
+-- why no message is taken: there is no such name, the queue is not opened, or what was taken is not saved or printed
+abbrev pub IsTakeFault : List ℕ → Files → ToolFault → Type 0
+IsTakeFault name files fault =
+    ((fault ≡ NoSuchName) × DeclaresNot files name) ⊎ (IsSaveFault fault ⊎ IsOpenFault files fault)
+
+-- why a line is no message behind these: it has a length that no message has, or it does not fit
+abbrev pub IsRefusedBehind : Measures → List (List ℕ) → List ℕ → Refusal → Type 0
+IsRefusedBehind shape messages line BadRoom = ¬ IsMessageLength (length line)
+IsRefusedBehind shape messages line CycleFull =
+    IsMessageLength (length line) × ¬ Fits shape (map length messages) (length line)
+IsRefusedBehind shape messages line _ = ⊥
+
+-- memory ran out, or the line with this number is refused
+abbrev pub IsLineFault : Measures → List (List ℕ) → List ℕ → ℕ → ToolFault → Type 0
+IsLineFault shape messages line number OutOfMemory = ⊤
+IsLineFault shape messages line number (Refused at refusal) =
+    (at ≡ number) × IsRefusedBehind shape messages line refusal
+IsLineFault shape messages line number _ = ⊥
+
+-- the first line that is no message behind these and the lines before it is refused, with its number, or memory ran out
+pub record IsLinesFault (shape : Measures) (messages lines : List (List ℕ)) (fault : ToolFault) : Type 0 where
+  pub before : List (List ℕ)
+  pub line : List ℕ
+  pub rest : List (List ℕ)
+  pub whole : lines ≡ before ++ line ∷ rest
+  pub stored : AreNext shape [] (messages ++ before)
+  pub fault_is : IsLineFault shape (messages ++ before) line (min (length before + 1) (2 ^ 64 - 1)) fault

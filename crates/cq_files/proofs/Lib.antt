@@ -1,0 +1,4 @@
+pub mod QueueLemmas
+pub mod CauseLemmas
+pub mod SavingLemmas
+pub mod CheckLemmas

@@ -1,0 +1,14 @@
+use Rattle.std.proofs.Common.{ap, sym, ◌∙◌}
+use Rattle.std.specs.Prelude.{codes}
+use Rattle.cq_files.proofs.QueueLemmas.{file_named, file_unnamed, is_named}
+use Rattle.cq_files.proofs.initialising.check_new.Goals as goal
+
+pub returns-then-has_name-clause-there : goal.returns-then-has_name-clause-there
+returns-then-has_name-clause-there g c = λ _.
+    file_named (g.F.Folder.files c.args.folder.now) c.in_ok-files.files.items (codes "queue.cqc") c.in_ok-files.ensures.listed
+    (ap (λ names. is_named names (codes "queue.cqc")) (sym c.as_slice.ensures.value) ∙ sym c.has_name.ensures ∙ c.if-has_name.true)
+
+pub returns-clause-new : goal.returns-clause-new
+returns-clause-new g c =
+    file_unnamed (g.F.Folder.files c.args.folder.now) c.in_ok-files.files.items (codes "queue.cqc") c.in_ok-files.ensures.listed
+    (ap (λ names. is_named names (codes "queue.cqc")) (sym c.as_slice.ensures.value) ∙ sym c.has_name.ensures ∙ c.if-has_name.false)

@@ -1,0 +1,6 @@
+pub mod Queue
+pub mod Initialised
+pub mod FolderFaults
+pub mod Saved
+pub mod CheckText
+pub mod Dumped

@@ -1,0 +1,96 @@
+ghost use Rattle.std.specs.Prelude.{◌≡◌, ℕ, List, IfErr, IfOk, IfSome, OnErr, OnOk, codes};
+ghost use Rattle.cq_model.specs.Settings.{IsLawfulSettings};
+ghost use Rattle.cq_folder.specs.Folder.{KeepsFiles, KeepsOthers, WritesFile};
+ghost use Rattle.cq_files.specs.FolderFaults.{IsSaveFault};
+ghost use Rattle.cq_files.specs.Initialised.{HasQueue, IsInitFault, IsInitialText, IsLimitFault, IsListingFault, IsTextFor, wanted_settings};
+
+use crate::files::{CONFIG_FILE, has_name, listed, write_file};
+use cq_cycle::{Roll, roll_named};
+use cq_folder::{Folder, WantedConfig, write_config};
+use cq_model::Config;
+use cq_text::ToolFault;
+use std::alloc::Global;
+
+/// The settings of a new queue, as they were given: they may be outside the limits.
+#[derive(Debug, Drop)]
+pub struct InitSettings {
+    /// The word for the roll.
+    pub roll: String,
+    /// When cycle 0 begins, in milliseconds of Unix time.
+    pub epoch: u64,
+    /// The cells of a cycle, of four bytes each.
+    pub cells: u64,
+    /// The entries of a table of the index.
+    pub index_count: u64,
+    /// One message in so many has an entry in the index.
+    pub index_spacing: u64,
+    /// How many cycles may begin.
+    pub cycles: u64,
+    /// The names of the tailers.
+    pub names: Vec<String>,
+}
+
+/// The command `init`: makes a queue in a folder that is there, by writing its `queue.cqc`, with each name at 0. Its first
+/// cycle begins with the first `write`.
+///
+/// The first of these faults is answered: `BadConfig` where the word names no roll, `FolderFault`, `QueueThereAlready`,
+/// `BadShape`, `BadConfig`, `FileFault`. `OutOfMemory` can come at any growth.
+pub fn init<F: Folder>(
+    alloc: Global,
+    folder: &mut F,
+    settings: InitSettings,
+) -> Result<(), ToolFault>
+    ensures written { OnOk result ((text : List ℕ) × IsInitialText settings text
+        × WritesFile (F.files folder.old) (F.files folder.new) (codes "queue.cqc") text) }
+    ensures new { OnOk result (IfSome (F.files folder.old) (λ files. ¬ HasQueue files)) }
+    ensures fault { IfErr result (IsInitFault settings) }
+    ensures there { IfErr result (λ fault. fault ≡ ToolFault.QueueThereAlready → IfSome (F.files folder.old) HasQueue) }
+    ensures kept { IfErr result (λ fault. ¬ IsSaveFault fault → KeepsFiles (F.files folder.old) (F.files folder.new)) }
+    ensures others { OnErr result (KeepsOthers (F.files folder.old) (F.files folder.new) (codes "queue.cqc")) }
+{
+    let roll = roll_named(settings.roll.as_str()).ok_or(ToolFault::BadConfig)?;
+    check_new(alloc, folder)?;
+    let text = initial_text(alloc, roll, settings)?;
+    write_file(alloc, folder, CONFIG_FILE, text.as_slice())
+}
+
+/// Refuses a folder that has a queue.
+fn check_new<F: Folder>(alloc: Global, folder: &mut F) -> Result<(), ToolFault>
+    ensures new { OnOk result (IfSome (F.files folder.old) (λ files. ¬ HasQueue files)) }
+    ensures there { IfErr result (λ fault. fault ≡ ToolFault.QueueThereAlready → IfSome (F.files folder.old) HasQueue) }
+    ensures fault { IfErr result IsListingFault }
+    ensures kept { KeepsFiles (F.files folder.old) (F.files folder.new) }
+{
+    let files = listed(alloc, folder)?;
+    if has_name(files.as_slice(), CONFIG_FILE) {
+        return Err(ToolFault::QueueThereAlready);
+    }
+    Ok(())
+}
+
+/// The text of `queue.cqc` with these settings.
+fn initial_text(alloc: Global, roll: Roll, settings: InitSettings) -> Result<Vec<u8>, ToolFault>
+    ensures text { IfOk result (λ text. IsTextFor settings roll text.items) }
+    ensures fault { IfErr result (IsLimitFault settings roll) }
+{
+    let config = config_for(roll, settings)?;
+    let positions = vec![in alloc; 0; config.names().len()]?;
+    Ok(write_config(alloc, &config, positions.as_slice())?)
+}
+
+/// The configuration that was asked for, if it is within the limits.
+fn config_for(roll: Roll, settings: InitSettings) -> Result<Config, ToolFault>
+    ensures config { IfOk result (λ config. (config ≡ wanted_settings settings roll)
+        × IsLawfulSettings (wanted_settings settings roll)) }
+    ensures fault { IfErr result (IsLimitFault settings roll) }
+{
+    let wanted = WantedConfig {
+        roll,
+        epoch: settings.epoch,
+        cells: settings.cells,
+        index_count: settings.index_count,
+        index_spacing: settings.index_spacing,
+        cycles: settings.cycles,
+    };
+    Ok(wanted.config(settings.names)?)
+}

@@ -1,0 +1,17 @@
+//! The commands of the program `cq` on the files of a folder, which need no queue: `init`, `check` and `dump`; and how the
+//! images of a queue are read from its folder and saved there.
+#![tactic(auto)]
+
+mod checking;
+mod dumping;
+mod files;
+mod initialising;
+mod opening;
+mod saving;
+
+pub use checking::check;
+pub use dumping::dump;
+pub use files::{CONFIG_FILE, MOST_FILE_BYTES, has_name, write_file};
+pub use initialising::{InitSettings, init};
+pub use opening::{CycleImage, ImageFile, SavedQueue, open_queue};
+pub use saving::save;

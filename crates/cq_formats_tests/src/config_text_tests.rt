@@ -1,0 +1,260 @@
+//! The text of the file `queue.cqc`.
+use crate::settings::settings_text;
+use cq_folder::{read_config, write_config};
+use std::alloc::{AllocError, Global};
+use std::test::Fail;
+
+/// The lines of the format, but for the names.
+const HEAD: &str = "cq 1\nroll daily\nepoch 0\ncells 64\ncount 8\nspacing 1\ncycles 4\n";
+
+/// What reading a text answers, as a text.
+fn answer_of(alloc: Global, text: &str) -> Result<String, AllocError> {
+    match read_config(alloc, text.as_bytes()) {
+        Ok(saved) => {
+            let names = saved.config.names().len();
+            let positions = saved.positions.len();
+            format!(in alloc; "{names} names, {positions} positions")
+        }
+        Err(fault) => format!(in alloc; "{fault}"),
+    }
+}
+
+/// Reads the texts of a table, each of which begins with this head. Says the rest of each that is answered otherwise than
+/// the table wants, and the answer.
+fn misses(alloc: Global, head: &str, table: &[(&str, &str)]) -> Result<String, AllocError> {
+    let mut missed = String::new(alloc);
+    for (rest, want) in table {
+        let text = format!(in alloc; "{head}{rest}")?;
+        let answer = answer_of(alloc, text.as_str())?;
+        if answer.as_str() != *want {
+            missed.push_str(format!(in alloc; "{rest:?}: {answer}; ")?.as_str())?;
+        }
+    }
+    Ok(missed)
+}
+
+/// What a text says, and whether the same text is written from that.
+fn written_again(alloc: Global, text: &str) -> Result<(String, bool), Fail> {
+    let saved = read_config(alloc, text.as_bytes())?;
+    if saved.positions.len() != saved.config.names().len() {
+        return Err(Fail::from("a position for each name"));
+    }
+    let written = write_config(alloc, &saved.config, saved.positions.as_slice())?;
+    let settings = settings_text(alloc, &saved.config)?;
+    let said = format!(in alloc; "{settings} at {:?}", saved.positions.as_slice())?;
+    Ok((said, written.as_slice() == text.as_bytes()))
+}
+
+/// Texts, each beside what it says.
+static TEXTS: [(&str, &str); 2] = [
+    (
+        "cq 1\nroll daily\nepoch 0\ncells 64\ncount 8\nspacing 1\ncycles 4\nname reader 0\n",
+        "Daily from 0, 4 of Shape { cells: 64, index_count: 8, index_spacing: 1 }, [\"reader\"] at [0]",
+    ),
+    (
+        "cq 1\nroll minutely\nepoch 253402300799999\ncells 3000\ncount 16\nspacing 256\ncycles 64\n\
+        name b-2_.Z 18446744073709551615\nname a 85899345920001\n",
+        "Minutely from 253402300799999, 64 of Shape { cells: 3000, index_count: 16, index_spacing: 256 }, \
+        [\"b-2_.Z\", \"a\"] at [18446744073709551615, 85899345920001]",
+    ),
+];
+
+#[test]
+fn a_text_is_read_and_written_again(rt: HostRuntime) -> Result<(), Fail> {
+    for &(text, want) in &TEXTS {
+        let (said, is_same) = written_again(rt.alloc(), text)?;
+        assert_eq!(rt; said.as_str(), want);
+        assert!(rt; is_same, "{want}");
+    }
+    Ok(())
+}
+
+/// Texts, each beside what reading it answers.
+static FAULTY_LINES: [(&str, &str); 29] = [
+    // Texts that end too early.
+    ("", "line 1"),
+    ("cq 1", "line 1"),
+    ("cq 1\n", "line 2"),
+    ("cq 1\nroll daily\nepoch 0\n", "line 4"),
+    (
+        "cq 1\nroll daily\nepoch 0\ncells 64\ncount 8\nspacing 1\n",
+        "line 7",
+    ),
+    (
+        "cq 1\nroll daily\nepoch 0\ncells 64\ncount 8\nspacing 1\ncycles 4",
+        "line 7",
+    ),
+    // Each line wrong in turn.
+    ("cq 2\nroll daily\n", "line 1"),
+    ("cq  1\nroll daily\n", "line 1"),
+    ("cq 1 \nroll daily\n", "line 1"),
+    ("cq 1\r\nroll daily\n", "line 1"),
+    ("CQ 1\n", "line 1"),
+    ("cq 1\nroll weekly\nepoch 0\n", "line 2"),
+    ("cq 1\nroll Daily\nepoch 0\n", "line 2"),
+    ("cq 1\nroll\nepoch 0\n", "line 2"),
+    ("cq 1\nroll \u{e9}\nepoch 0\n", "line 2"),
+    ("cq 1\nroll daily\ncells 64\n", "line 3"),
+    ("cq 1\nroll daily\nepoch 00\n", "line 3"),
+    ("cq 1\nroll daily\nepoch +1\n", "line 3"),
+    ("cq 1\nroll daily\nepoch -1\n", "line 3"),
+    ("cq 1\nroll daily\nepoch \n", "line 3"),
+    ("cq 1\nroll daily\nepoch 18446744073709551616\n", "line 3"),
+    (
+        "cq 1\nroll daily\nepoch 18446744073709551615\ncells 064\n",
+        "line 4",
+    ),
+    ("cq 1\nroll daily\nepoch 0\ncells 6 4\n", "line 4"),
+    ("cq 1\nroll daily\nepoch 0\ncells 64\ncount8\n", "line 5"),
+    ("cq 1\nroll daily\nepoch 0\ncells 64\nspacing 1\n", "line 5"),
+    (
+        "cq 1\nroll daily\nepoch 0\ncells 64\ncount 8\n spacing 1\n",
+        "line 6",
+    ),
+    (
+        "cq 1\nroll daily\nepoch 0\ncells 64\ncount 8\nspacing 1\ncycles 0x4\n",
+        "line 7",
+    ),
+    (
+        "cq 1\nroll daily\nepoch 0\ncells 64\ncount 8\nspacing 1\n\ncycles 4\n",
+        "line 7",
+    ),
+    // The syntax comes before the limits.
+    (
+        "cq 1\nroll daily\nepoch 0\ncells 1\ncount 8\nspacing 1\ncycles 0\nx\n",
+        "line 8",
+    ),
+];
+
+#[test]
+fn the_faulty_line_is_named(rt: HostRuntime) -> Result<(), Fail> {
+    let missed = misses(rt.alloc(), "", &FAULTY_LINES)?;
+    assert_eq!(rt; missed.as_str(), "");
+    Ok(())
+}
+
+/// Lines of names, each beside what reading them answers.
+static FAULTY_NAMES: [(&str, &str); 17] = [
+    ("", "0 names, 0 positions"),
+    ("name reader 0\nname writer 7\n", "2 names, 2 positions"),
+    ("name reader 0", "line 8"),
+    ("name reader 0\nname writer 7", "line 9"),
+    ("name reader 0\nname  7\n", "line 9"),
+    ("name reader 0\nname writer\n", "line 9"),
+    ("name reader 0\n\n", "line 9"),
+    ("name reader 0\nname writer 07\n", "line 9"),
+    ("name reader 18446744073709551616\n", "line 8"),
+    ("name read/er 0\n", "line 8"),
+    ("name l\u{e9}o 0\n", "line 8"),
+    ("name a b 0\n", "line 8"),
+    ("Name a 0\n", "line 8"),
+    ("floor 1\n", "line 8"),
+    ("name a 0\nfloor 1\n", "line 9"),
+    ("name a 0\nname b 0\nname a 0\nname\n", "line 11"),
+    // No name stands twice.
+    ("name a 0\nname b 0\nname a 0\n", "BadConfig"),
+];
+
+#[test]
+fn the_faulty_name_is_named(rt: HostRuntime) -> Result<(), Fail> {
+    let missed = misses(rt.alloc(), HEAD, &FAULTY_NAMES)?;
+    assert_eq!(rt; missed.as_str(), "");
+    Ok(())
+}
+
+/// Lines behind those of the roll, each beside what reading them answers.
+static LIMITS: [(&str, &str); 13] = [
+    (
+        "epoch 0\ncells 64\ncount 8\nspacing 1\ncycles 4\n",
+        "0 names, 0 positions",
+    ),
+    (
+        "epoch 0\ncells 30\ncount 8\nspacing 1\ncycles 4\n",
+        "BadShape",
+    ),
+    (
+        "epoch 0\ncells 64\ncount 7\nspacing 1\ncycles 4\n",
+        "BadShape",
+    ),
+    (
+        "epoch 0\ncells 64\ncount 8\nspacing 3\ncycles 4\n",
+        "BadShape",
+    ),
+    (
+        "epoch 0\ncells 4294967360\ncount 8\nspacing 1\ncycles 4\n",
+        "BadShape",
+    ),
+    (
+        "epoch 0\ncells 64\ncount 4294967304\nspacing 1\ncycles 4\n",
+        "BadShape",
+    ),
+    (
+        "epoch 0\ncells 64\ncount 8\nspacing 4294967297\ncycles 4\n",
+        "BadShape",
+    ),
+    (
+        "epoch 0\ncells 64\ncount 8\nspacing 1\ncycles 0\n",
+        "BadConfig",
+    ),
+    (
+        "epoch 0\ncells 64\ncount 8\nspacing 1\ncycles 65\n",
+        "BadConfig",
+    ),
+    (
+        "epoch 0\ncells 64\ncount 8\nspacing 1\ncycles 4294967300\n",
+        "BadConfig",
+    ),
+    (
+        "epoch 0\ncells 65537\ncount 8\nspacing 1\ncycles 64\n",
+        "BadConfig",
+    ),
+    (
+        "epoch 253402300800000\ncells 64\ncount 8\nspacing 1\ncycles 4\n",
+        "BadConfig",
+    ),
+    // The limits of a shape come first.
+    (
+        "epoch 18446744073709551615\ncells 30\ncount 8\nspacing 1\ncycles 0\n",
+        "BadShape",
+    ),
+];
+
+#[test]
+fn limits_are_told_apart(rt: HostRuntime) -> Result<(), Fail> {
+    let missed = misses(rt.alloc(), "cq 1\nroll hourly\n", &LIMITS)?;
+    assert_eq!(rt; missed.as_str(), "");
+    Ok(())
+}
+
+/// A text with so many names, each of so many letters, the first of which tell the names apart.
+fn text_of_names(alloc: Global, count: u8, len: usize) -> Result<String, AllocError> {
+    let mut text = String::from_str(alloc, HEAD)?;
+    for i in 0..count {
+        text.push_str("name ")?;
+        text.push(char::from(b'a' + i % 26))?;
+        for _ in 1..len {
+            text.push('n')?;
+        }
+        text.push_str(" 5\n")?;
+    }
+    Ok(text)
+}
+
+/// Numbers of names and their letters, each beside what reading such a text answers.
+static NAMES: [(u8, usize, &str); 5] = [
+    (1, 32, "1 names, 1 positions"),
+    (1, 33, "BadConfig"),
+    (16, 32, "16 names, 16 positions"),
+    (17, 1, "BadConfig"),
+    (27, 1, "BadConfig"),
+];
+
+#[test]
+fn names_have_limits(rt: HostRuntime) -> Result<(), Fail> {
+    for &(count, len, want) in &NAMES {
+        let text = text_of_names(rt.alloc(), count, len)?;
+        let answer = answer_of(rt.alloc(), text.as_str())?;
+        assert_eq!(rt; answer.as_str(), want, "{count} of {len}");
+    }
+    Ok(())
+}

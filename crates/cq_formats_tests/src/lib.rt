@@ -1,0 +1,28 @@
+//! Tests of the formats: headers, cells and shapes, times and names, settings, the cells of a cycle, and the files of a
+//! queue.
+//!
+//! They are proved apart from what they test, so that both go on side by side.
+#![tactic(auto)]
+
+#[cfg(test)]
+mod chain_tests;
+#[cfg(test)]
+mod config_text_tests;
+#[cfg(test)]
+mod cycle_tests;
+#[cfg(test)]
+mod folder_tests;
+#[cfg(test)]
+mod header_tests;
+#[cfg(test)]
+mod image_tests;
+#[cfg(test)]
+mod layout_tests;
+#[cfg(test)]
+mod model_tests;
+#[cfg(test)]
+mod plain_cycle_tests;
+#[cfg(test)]
+mod settings;
+#[cfg(test)]
+mod text_tests;

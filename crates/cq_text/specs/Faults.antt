@@ -1,0 +1,12 @@
+-- The faults of a program that others become.
+use Rattle.cq_folder.specs.declared.config_fault.ConfigFault.{ConfigFault}
+use Rattle.cq_folder.specs.declared.config_fault.ConfigFault.TheVariants as config
+use Rattle.cq_text.specs.declared.fault.ToolFault.{ToolFault}
+use Rattle.cq_text.specs.declared.fault.ToolFault.TheVariants.{BadConfig, BadShape, ConfigLine, OutOfMemory}
+
+-- the fault of a text of `queue.cqc`
+abbrev pub config_fault : ConfigFault → ToolFault
+config_fault config.OutOfMemory = OutOfMemory
+config_fault (config.Line number) = ConfigLine number
+config_fault config.BadShape = BadShape
+config_fault config.BadConfig = BadConfig

@@ -1,0 +1,50 @@
+ghost use Rattle.std.specs.Prelude.{◌≡◌, ◌≢◌, ◌⊎◌, length, IfOk, IfErr, IfSome, OnOk, None, Some};
+ghost use Rattle.std.specs.Io.KnownBytes.{Appends, Keeps};
+ghost use Rattle.cq_text.specs.Echo.{echo_fault, echo_text};
+ghost use Rattle.cq_text.specs.Lines.{input_lines};
+
+use crate::fault::ToolFault;
+use crate::input::read_input;
+use crate::output::print;
+use crate::text::echo_lines;
+use std::alloc::Global;
+use std::io::{Read, Write};
+
+/// The most bytes that `echo` takes.
+const MOST_BYTES: usize = 129_000;
+
+/// The command `echo`: stores each line of the input as a data record, writes `NUMBER TEXT` for each record, numbered
+/// from 0, and gives how many there are.
+///
+/// Lines end with a line feed, and a last line without it counts. The whole input is read first; the first of these
+/// faults is answered:
+///
+/// - `ReadFault` where the reader fails, or was read 16,777,216 times without an end;
+/// - `InputTooLong` above 129,000 bytes;
+/// - for the lines in order, counted from 1: `TooMany` from the 1,001st on, `Refused` as `BadRoom` where a line is empty,
+///   `TooLong` above 128 bytes;
+/// - `WriteFault` where the writer fails.
+///
+/// `OutOfMemory` can come at any growth. Nothing is written before a fault other than `WriteFault`.
+pub fn echo<R: Read, W: Write>(
+    alloc: Global,
+    input: &mut R,
+    output: &mut W,
+) -> Result<u64, ToolFault>
+    ensures count { IfOk result (λ count. IfSome (R.remaining input.old) (λ bytes. count ≡ length (input_lines bytes))) }
+    ensures accepted { OnOk result (IfSome (R.remaining input.old) (λ bytes. echo_fault bytes ≡ None)) }
+    ensures written { OnOk result (IfSome (R.remaining input.old) (λ bytes.
+        Appends (W.contents output.old) (W.contents output.new) (echo_text (input_lines bytes)))) }
+
+    // A fault of the input is the one that the input has, and the output is tried for an accepted input alone.
+    ensures fault { IfErr result (λ fault. IfSome (R.remaining input.old) (λ bytes.
+        (fault ≡ ToolFault.OutOfMemory) ⊎ (fault ≡ ToolFault.ReadFault)
+        ⊎ ((fault ≡ ToolFault.WriteFault) × (echo_fault bytes ≡ None)) ⊎ (echo_fault bytes ≡ Some fault))) }
+    ensures silent { IfErr result (λ fault. fault ≢ ToolFault.WriteFault
+        → Keeps (W.contents output.old) (W.contents output.new)) }
+{
+    let bytes = read_input(alloc, input, MOST_BYTES)?;
+    let (count, text) = echo_lines(alloc, bytes.as_slice())?;
+    print(output, text.as_slice())?;
+    Ok(count)
+}
