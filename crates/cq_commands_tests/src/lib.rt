@@ -1,5 +1,4 @@
-//! Tests of the commands and of their words, over folders in memory where they need one: worked examples, the order of
-//! faults, and limits.
+//! Tests of the commands, over folders in memory where they need one: worked examples, the order of faults, and limits.
 //!
 //! They are proved apart from the commands, so that both go on side by side.
 #![tactic(auto)]
@@ -20,5 +19,3 @@ mod folders;
 mod limit_tests;
 #[cfg(test)]
 mod take_tests;
-#[cfg(test)]
-mod word_tests;

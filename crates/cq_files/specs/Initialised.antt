@@ -8,7 +8,7 @@ use Rattle.cq_folder.specs.ConfigText.{IsTextOf}
 use Rattle.cq_folder.specs.Folder.{Files}
 use Rattle.cq_text.specs.declared.fault.ToolFault.{ToolFault}
 use Rattle.cq_text.specs.declared.fault.ToolFault.TheVariants.{BadConfig, BadShape, FolderFault, OutOfMemory, QueueThereAlready}
-use Rattle.cq_files.specs.declared.initialising.InitSettings.{InitSettings}
+use Rattle.cq_orders.specs.declared.settings.InitSettings.{InitSettings}
 use Rattle.cq_files.specs.FolderFaults.{IsFileFault}
 
 -- the measures that were asked for

@@ -8,27 +8,9 @@ use crate::files::{CONFIG_FILE, has_name, listed, write_file};
 use cq_cycle::{Roll, roll_named};
 use cq_folder::{Folder, WantedConfig, write_config};
 use cq_model::Config;
+use cq_orders::InitSettings;
 use cq_text::ToolFault;
 use std::alloc::Global;
-
-/// The settings of a new queue, as they were given: they may be outside the limits.
-#[derive(Debug, Drop)]
-pub struct InitSettings {
-    /// The word for the roll.
-    pub roll: String,
-    /// When cycle 0 begins, in milliseconds of Unix time.
-    pub epoch: u64,
-    /// The cells of a cycle, of four bytes each.
-    pub cells: u64,
-    /// The entries of a table of the index.
-    pub index_count: u64,
-    /// One message in so many has an entry in the index.
-    pub index_spacing: u64,
-    /// How many cycles may begin.
-    pub cycles: u64,
-    /// The names of the tailers.
-    pub names: Vec<String>,
-}
 
 /// The command `init`: makes a queue in a folder that is there, by writing its `queue.cqc`, with each name at 0. Its first
 /// cycle begins with the first `write`.

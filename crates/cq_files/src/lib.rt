@@ -12,6 +12,6 @@ mod saving;
 pub use checking::check;
 pub use dumping::dump;
 pub use files::{CONFIG_FILE, MOST_FILE_BYTES, has_name, write_file};
-pub use initialising::{InitSettings, init};
+pub use initialising::init;
 pub use opening::{CycleImage, ImageFile, SavedQueue, open_queue};
 pub use saving::save;

@@ -1,11 +1,9 @@
-//! The command line of the program `cq`: the order in its words, and the commands that carry it out.
+//! The program `cq` as a library: what its words ask for, and the commands that do it.
 //!
-//! The program itself only hands in its words and streams: what can be wrong with them is found here and in `cq_commands`.
+//! The program itself only hands in its words and streams.
 #![tactic(auto)]
 
-mod command_line;
-mod orders;
-mod parsing;
-
-pub use cq_commands::{InitSettings, Order, ToolFault, dump_text, echo, run};
-pub use parsing::{ParseFault, parse};
+pub use cq_command_line::{ParseFault, parse};
+pub use cq_commands::run;
+pub use cq_orders::{InitSettings, Order};
+pub use cq_text::{ToolFault, dump_text, echo};

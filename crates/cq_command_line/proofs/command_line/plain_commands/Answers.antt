@@ -1,0 +1,6 @@
+use Rattle.cq_command_line.proofs.command_line.plain_commands.Goals as goal
+
+pub returns : goal.returns
+returns c app made =
+    let echo = c.with_subcommand-program.ensures app _ made c.echo_command.ensures in
+    c.with_subcommand.ensures _ _ echo c.cycle_command.ensures

@@ -1,0 +1,10 @@
+use Rattle.clap.specs.Words.{found_of}
+use Rattle.cq_command_line.proofs.OrderLemmas.{no_word_found, word_found}
+use Rattle.cq_command_line.proofs.orders.option.Goals as goal
+
+pub returns-in_ok-from_str-in-Some : goal.returns-in_ok-from_str-in-Some
+returns-in_ok-from_str-in-Some c =
+    word_found (found_of c.args.values.now) c.args.name.now c.get_str.result c.in-Some.given _ c.get_str.ensures c.in-Some.is c.in_ok-from_str-in-Some.ensures.ok
+
+pub returns-in-None : goal.returns-in-None
+returns-in-None c = no_word_found (found_of c.args.values.now) c.args.name.now c.get_str.result c.get_str.ensures c.in-None.is

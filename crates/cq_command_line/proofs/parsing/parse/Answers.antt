@@ -1,0 +1,68 @@
+use Rattle.std.proofs.Common.{◌≡◌, List, [], ◌∷◌, option_map, codes, true, Option, Some, Result, Ok, Err, IfSome, IsErrAnd, MatchResult, refl, sym, ap, ap₂, subst, ◌∙◌}
+use Rattle.clap.specs.Words.{App, HasMatchesOf, Row, Text, is_simple, subcommand_of, subcommand_rows_of, takes}
+use Rattle.clap.specs.declared.parser.matches.ArgMatches.{ArgMatches}
+use Rattle.clap.proofs.OnLiterals.{clap_on_literals}
+use Rattle.cq_orders.specs.declared.order.Order.{Order}
+use Rattle.cq_command_line.specs.CommandLine.{command_line}
+use Rattle.cq_command_line.specs.OrderValues.{TakesValues}
+use Rattle.cq_command_line.proofs.parsing.parse.Goals as goal
+
+-- what clap meets is what its walk over the words gives
+meets : (app : App) (words : List Text) (matches : ArgMatches) → app ≡ command_line → HasMatchesOf app words matches
+    → subcommand_rows_of matches ≡ subcommand_of command_line words
+meets app words matches is has = (has (ap is_simple is)).1 ∙ ap (λ (a : App). subcommand_of a words) is
+
+values_given : (met given : Option (Text × List Row)) (order : Order) → met ≡ given → IfSome met (λ m. TakesValues m.1 order)
+    → IfSome given (λ m. TakesValues m.1 order)
+values_given met given order e values = subst (λ (o : Option (Text × List Row)). IfSome o (λ m. TakesValues m.1 order)) e values
+
+-- clap takes these words
+is_taken : (program : Text) → takes command_line (program ∷ codes "echo" ∷ []) ≡ true
+unfolding clap_on_literals
+is_taken program = refl
+
+is_echo : (program : Text) → subcommand_of command_line (program ∷ codes "echo" ∷ []) ≡ Some (codes "echo", [])
+unfolding clap_on_literals
+is_echo program = refl
+
+-- and meets this command
+meets_echo : (words : List Text) (program : Text) (matches : ArgMatches) → subcommand_rows_of matches ≡ subcommand_of command_line words
+    → words ≡ program ∷ codes "echo" ∷ [] → option_map (λ met. met.0) (subcommand_rows_of matches) ≡ Some (codes "echo")
+meets_echo words program matches met given = ap (option_map (λ met. met.0)) (met ∙ ap (subcommand_of command_line) given ∙ is_echo program)
+
+-- an error that is Q where K holds
+only_err : {T E K : Type 0} (r : Result T E) (P : T → Type 0) (Q : E → Type 0) → K → IsErrAnd r (λ e. K → Q e) → MatchResult r P Q
+only_err (Ok x) P Q k h = absurd h
+only_err (Err e) P Q k h = h k
+
+-- what was found is what was to be found
+same_order : {A E : Type 0} (r : Result A E) (x y : A) → r ≡ Ok x → r ≡ Ok y → y ≡ x
+same_order r x y a b = cc
+
+not_both : {A E : Type 0} (r : Result A E) (x : A) (e : E) → r ≡ Ok x → r ≡ Err e → ⊥
+not_both r x e a b = cc
+
+pub returns-in-Ok-clause-named : goal.returns-in-Ok-clause-named
+returns-in-Ok-clause-named c =
+    let met = meets _ _ c.in_ok-matches.matches c.in_ok-command.ensures.is c.in_ok-matches.ensures.ok.2 in
+    ap (option_map (λ met. met.0)) (sym met) ∙ c.in-Ok.ensures.named
+
+pub returns-in-Ok-clause-values : goal.returns-in-Ok-clause-values
+returns-in-Ok-clause-values c =
+    let met = meets _ _ c.in_ok-matches.matches c.in_ok-command.ensures.is c.in_ok-matches.ensures.ok.2 in
+    values_given _ _ c.in-Ok.order met c.in-Ok.ensures.values
+
+pub returns-in_err-matches-clause-echo : goal.returns-in_err-matches-clause-echo
+returns-in_err-matches-clause-echo c program words =
+    let memory = c.in_err-matches.ensures.passes (ap₂ takes c.in_ok-command.ensures.is words ∙ is_taken program) in
+    only_err c.from_residual-in_err-matches.result _ _ memory c.from_residual-in_err-matches.ensures.1
+
+pub returns-in-Ok-clause-echo : goal.returns-in-Ok-clause-echo
+returns-in-Ok-clause-echo c program words =
+    let met = meets _ _ c.in_ok-matches.matches c.in_ok-command.ensures.is c.in_ok-matches.ensures.ok.2 in
+    same_order c.order_met.result _ c.in-Ok.order (c.order_met.ensures.echo (meets_echo _ program _ met words)) c.in-Ok.is
+
+pub returns-clause-echo : goal.returns-clause-echo
+returns-clause-echo c program words =
+    let met = meets _ _ c.in_ok-matches.matches c.in_ok-command.ensures.is c.in_ok-matches.ensures.ok.2 in
+    absurd (not_both c.order_met.result _ c.in-Err-NoOrder.field-0 (c.order_met.ensures.echo (meets_echo _ program _ met words)) c.in-Err-NoOrder.is)

@@ -1,0 +1,103 @@
+-- The command line of the program, in the words of clap.
+use Rattle.std.specs.Prelude.{◌≡◌, ℕ, ◌-◌, ◌^◌, List, true, false, codes, Some}
+use Rattle.clap.specs.Words.{App, Rule, app_of, new_app, new_rule, rule_of, with_rule, with_subcommand}
+use Rattle.clap.specs.declared.builder.arg.Arg.{Arg}
+use Rattle.clap.specs.declared.builder.command.Command.{Command}
+use Rattle.clap.specs.declared.builder.command.Command.TheViews.{out-Command}
+use Rattle.clap.specs.declared.builder.ArgAction.TheVariants.{Append, Set, SetTrue}
+use Rattle.clap.specs.declared.builder.value_parser.ValueParser.TheVariants.{Unsigned}
+use Rattle.cq_orders.specs.declared.order.Order.{Order}
+use Rattle.cq_orders.specs.declared.order.Order.TheVariants.{Echo, Cycle, Init, Write, Read, Take, Check, Dump}
+
+-- the word that names the command
+abbrev pub word_of : Order → List ℕ
+word_of Echo = codes "echo"
+word_of (Cycle roll epoch moment) = codes "cycle"
+word_of (Init folder settings) = codes "init"
+word_of (Write folder moment) = codes "write"
+word_of (Read folder back begin) = codes "read"
+word_of (Take folder name) = codes "take"
+word_of (Check folder) = codes "check"
+word_of (Dump folder file) = codes "dump"
+
+-- an argument that is to be given: any word, or a number below 2^64
+abbrev pub word_rule : List ℕ → Rule
+word_rule name = record (new_rule name) { required = true; action = Some Set }
+
+abbrev pub number_rule : List ℕ → Rule
+number_rule name = record (word_rule name) { parser = Some (Unsigned 0 (2 ^ 64 - 1)) }
+
+-- any number of words, none too
+abbrev pub words_rule : List ℕ → Rule
+words_rule name = record (new_rule name) { action = Some Append }
+
+-- what may be left out and stands anywhere: a flag, and an option with one word as its value
+abbrev pub flag_rule : List ℕ → Rule
+flag_rule name = record (new_rule name) { long = Some name; action = Some SetTrue }
+
+abbrev pub option_rule : List ℕ → Rule
+option_rule name = record (new_rule name) { long = Some name; action = Some Set; value_names = 1 }
+
+-- the program without its commands, of which one is to be named
+abbrev pub program : App
+program = let app = new_app (codes "cq") in record { top = record app.top { subcommand_required = true }; subs = app.subs }
+
+abbrev pub echo_command : App
+echo_command = new_app (codes "echo")
+
+abbrev pub cycle_command : App
+cycle_command =
+    with_rule (with_rule (with_rule (new_app (codes "cycle")) (word_rule (codes "ROLL"))) (number_rule (codes "EPOCH"))) (number_rule (codes "MOMENT"))
+
+-- a queue's folder, its roll and its epoch; then the sizes of the queue; then the names of its tailers
+abbrev pub init_place : App
+init_place =
+    with_rule (with_rule (with_rule (new_app (codes "init")) (word_rule (codes "DIR"))) (word_rule (codes "ROLL"))) (number_rule (codes "EPOCH"))
+
+abbrev pub with_sizes : App → App
+with_sizes app =
+    with_rule (with_rule (with_rule (with_rule app (number_rule (codes "CELLS"))) (number_rule (codes "COUNT"))) (number_rule (codes "SPACING")))
+    (number_rule (codes "CYCLES"))
+
+abbrev pub init_command : App
+init_command = with_rule (with_sizes init_place) (words_rule (codes "NAMES"))
+
+abbrev pub write_command : App
+write_command = with_rule (with_rule (new_app (codes "write")) (word_rule (codes "DIR"))) (number_rule (codes "MOMENT"))
+
+abbrev pub read_command : App
+read_command =
+    with_rule (with_rule (with_rule (new_app (codes "read")) (word_rule (codes "DIR"))) (flag_rule (codes "back"))) (option_rule (codes "from"))
+
+abbrev pub take_command : App
+take_command = with_rule (with_rule (new_app (codes "take")) (word_rule (codes "DIR"))) (word_rule (codes "NAME"))
+
+abbrev pub check_command : App
+check_command = with_rule (new_app (codes "check")) (word_rule (codes "DIR"))
+
+abbrev pub dump_command : App
+dump_command = with_rule (with_rule (new_app (codes "dump")) (word_rule (codes "DIR"))) (word_rule (codes "FILE"))
+
+-- the commands that need no queue
+abbrev pub plain_commands : App → App
+plain_commands app = with_subcommand (with_subcommand app echo_command.top) cycle_command.top
+
+-- the commands on a queue that is stored in a folder
+abbrev pub queue_commands : App → App
+queue_commands app =
+    with_subcommand (with_subcommand (with_subcommand (with_subcommand (with_subcommand (with_subcommand app init_command.top) write_command.top) read_command.top) take_command.top)
+    check_command.top) dump_command.top
+
+-- the program with all its commands
+abbrev pub command_line : App
+command_line = queue_commands (plain_commands program)
+
+-- the argument follows this rule, and is one of its own command alone
+pub record Follows (arg : Arg) (rule : Rule) : Type 0 where
+  pub is : rule_of arg ≡ rule
+  pub local : arg.global ≡ false
+
+-- the command is this one, and has no argument that is one of other commands too
+pub record Makes (command : Command) (app : App) : Type 0 where
+  pub is : app_of command ≡ app
+  pub local : (out-Command command).has_globals ≡ false

@@ -1,0 +1,52 @@
+-- What an order takes from the words of its command: each value under the name of its argument.
+use Rattle.std.specs.Prelude.{◌≡◌, ℕ, Bool, List, [], true, false, codes, Option, Some, map, option_map, unwrap_or, string_bytes, String, ⊤}
+use Rattle.std.specs.Str.Parse.{IsNumeral, digits_value, without_leading_plus}
+use Rattle.clap.specs.Words.{Row, Text, all_of, first_of, one_of}
+use Rattle.cq_orders.specs.declared.settings.InitSettings.{InitSettings}
+use Rattle.cq_orders.specs.declared.order.Order.{Order}
+use Rattle.cq_orders.specs.declared.order.Order.TheVariants.{Echo, Cycle, Init, Write, Read, Take, Check, Dump}
+
+-- the text is the word that was given under this name
+abbrev pub IsWord : {A : Type 0} → List Row → Text → String A → Type 0
+IsWord rows name text = first_of name rows ≡ Some (string_bytes text)
+
+-- the number is the one whose decimal digits were given under this name
+abbrev pub IsNumber : List Row → Text → ℕ → Type 0
+IsNumber rows name number =
+    (word : Text) × (one_of name rows ≡ Some word) × IsNumeral 10 (without_leading_plus word)
+    × (number ≡ digits_value 10 (without_leading_plus word))
+
+-- the texts are all the words that were given under this name
+abbrev pub AreWords : {A : Type 0} → List Row → Text → List (String A) → Type 0
+AreWords rows name texts = map string_bytes texts ≡ unwrap_or (all_of name rows) []
+
+-- the text is the word that was given under this name, where one was
+abbrev pub IsOption : {A : Type 0} → List Row → Text → Option (String A) → Type 0
+IsOption rows name text = option_map string_bytes text ≡ first_of name rows
+
+-- the flag is set where clap wrote `true` under this name, and not where it wrote `false`
+abbrev pub IsFlag : List Row → Text → Bool → Type 0
+IsFlag rows name is_set = (one_of name rows ≡ Some (codes "true") → is_set ≡ true) × (one_of name rows ≡ Some (codes "false") → is_set ≡ false)
+
+-- the settings of a new queue are those that were given
+pub record AreSettings (rows : List Row) (settings : InitSettings) : Type 0 where
+  pub roll : IsWord rows (codes "ROLL") settings.roll
+  pub epoch : IsNumber rows (codes "EPOCH") settings.epoch
+  pub cells : IsNumber rows (codes "CELLS") settings.cells
+  pub index_count : IsNumber rows (codes "COUNT") settings.index_count
+  pub index_spacing : IsNumber rows (codes "SPACING") settings.index_spacing
+  pub cycles : IsNumber rows (codes "CYCLES") settings.cycles
+  pub names : AreWords rows (codes "NAMES") settings.names.items
+
+-- the order's values are those that were given
+abbrev pub TakesValues : List Row → Order → Type 0
+TakesValues rows Echo = ⊤
+TakesValues rows (Cycle roll epoch moment) =
+    IsWord rows (codes "ROLL") roll × IsNumber rows (codes "EPOCH") epoch × IsNumber rows (codes "MOMENT") moment
+TakesValues rows (Init folder settings) = IsWord rows (codes "DIR") folder × AreSettings rows settings
+TakesValues rows (Write folder moment) = IsWord rows (codes "DIR") folder × IsNumber rows (codes "MOMENT") moment
+TakesValues rows (Read folder back begin) =
+    IsWord rows (codes "DIR") folder × IsFlag rows (codes "back") back × IsOption rows (codes "from") begin
+TakesValues rows (Take folder name) = IsWord rows (codes "DIR") folder × IsWord rows (codes "NAME") name
+TakesValues rows (Check folder) = IsWord rows (codes "DIR") folder
+TakesValues rows (Dump folder file) = IsWord rows (codes "DIR") folder × IsWord rows (codes "FILE") file

@@ -1,0 +1,224 @@
+//! The program's commands and their arguments, in the words of `clap`.
+ghost use Rattle.std.specs.Prelude.{IfOk, codes};
+ghost use Rattle.clap.specs.Words.{App, with_subcommand};
+ghost use Rattle.cq_command_line.specs.CommandLine.{Follows, Makes};
+ghost use Rattle.cq_command_line.specs.CommandLine.{check_command, command_line, cycle_command, dump_command};
+ghost use Rattle.cq_command_line.specs.CommandLine.{echo_command, init_command};
+ghost use Rattle.cq_command_line.specs.CommandLine.{init_place, plain_commands, queue_commands, read_command};
+ghost use Rattle.cq_command_line.specs.CommandLine.{take_command, with_sizes, write_command};
+ghost use Rattle.cq_command_line.specs.CommandLine.{flag_rule, number_rule, option_rule, word_rule, words_rule};
+
+use clap::{Arg, ArgAction, Command, value_parser};
+use std::alloc::{AllocError, Global};
+
+/// The program and its commands.
+pub(crate) fn command_line<'a>(alloc: Global) -> Result<Command<'a>, AllocError>
+    ensures { IfOk result (λ command. Makes command command_line) }
+{
+    let program = Command::new(alloc, "cq")
+        .about("An append journal")
+        .subcommand_required(true);
+    queue_commands(alloc, plain_commands(alloc, program))
+}
+
+/// The program with the commands that need no queue.
+fn plain_commands<'a>(alloc: Global, program: Command<'a>) -> Result<Command<'a>, AllocError>
+    ensures { (app : App) → Makes program.entry app → IfOk result (λ made. Makes made (plain_commands app)) }
+{
+    let program = with_subcommand(Ok(program), Ok(echo_command(alloc)));
+    with_subcommand(program, cycle_command(alloc))
+}
+
+/// The program with the commands on a queue that is stored in a folder.
+fn queue_commands<'a>(
+    alloc: Global,
+    program: Result<Command<'a>, AllocError>,
+) -> Result<Command<'a>, AllocError>
+    ensures { (app : App) → IfOk program.entry (λ command. Makes command app)
+        → IfOk result (λ made. Makes made (queue_commands app)) }
+{
+    let program = with_subcommand(program, init_command(alloc));
+    let program = with_subcommand(program, write_command(alloc));
+    let program = with_subcommand(program, read_command(alloc));
+    let program = with_subcommand(program, take_command(alloc));
+    let program = with_subcommand(program, check_command(alloc));
+    with_subcommand(program, dump_command(alloc))
+}
+
+/// A command with another one below it, where both could be made.
+fn with_subcommand<'a>(
+    command: Result<Command<'a>, AllocError>,
+    below: Result<Command<'a>, AllocError>,
+) -> Result<Command<'a>, AllocError>
+    ensures { (app : App) → (inner : App) → IfOk command.entry (λ made. Makes made app)
+        → IfOk below.entry (λ made. Makes made inner)
+        → IfOk result (λ made. Makes made (with_subcommand app inner.top)) }
+{
+    command?.subcommand(below?)
+}
+
+fn echo_command<'a>(alloc: Global) -> Command<'a>
+    ensures { Makes result echo_command }
+{
+    Command::new(alloc, "echo").about(
+        "Stores each line of the input, and prints it with its number",
+    )
+}
+
+fn cycle_command<'a>(alloc: Global) -> Result<Command<'a>, AllocError>
+    ensures { IfOk result (λ command. Makes command cycle_command) }
+{
+    Command::new(alloc, "cycle")
+        .about("Prints the cycle of a moment, its name and its first index")
+        .arg(roll(alloc))?
+        .arg(epoch(alloc))?
+        .arg(number(alloc, "MOMENT", "The moment, in milliseconds of Unix time"))
+}
+
+fn init_command<'a>(alloc: Global) -> Result<Command<'a>, AllocError>
+    ensures { IfOk result (λ command. Makes command init_command) }
+{
+    with_sizes(alloc, init_place(alloc)?)?.arg(words(alloc, "NAMES", "The names of the tailers"))
+}
+
+/// The command `init` with the arguments that say where a queue is made and how its cycles follow one another.
+fn init_place<'a>(alloc: Global) -> Result<Command<'a>, AllocError>
+    ensures { IfOk result (λ command. Makes command init_place) }
+{
+    Command::new(alloc, "init")
+        .about("Makes a queue in a folder")
+        .arg(folder(alloc))?
+        .arg(roll(alloc))?
+        .arg(epoch(alloc))
+}
+
+/// The arguments that say how large a queue is.
+fn with_sizes<'a>(alloc: Global, command: Command<'a>) -> Result<Command<'a>, AllocError>
+    ensures { (app : App) → Makes command.entry app → IfOk result (λ made. Makes made (with_sizes app)) }
+{
+    command
+        .arg(number(alloc, "CELLS", "The cells of a cycle, of four bytes each"))?
+        .arg(number(alloc, "COUNT", "The entries of a table of the index"))?
+        .arg(number(
+            alloc,
+            "SPACING",
+            "One message in so many has an entry in the index",
+        ))?
+        .arg(number(alloc, "CYCLES", "How many cycles may begin"))
+}
+
+fn write_command<'a>(alloc: Global) -> Result<Command<'a>, AllocError>
+    ensures { IfOk result (λ command. Makes command write_command) }
+{
+    Command::new(alloc, "write")
+        .about("Appends each line of the input")
+        .arg(folder(alloc))?
+        .arg(number(
+            alloc,
+            "MOMENT",
+            "The moment of the lines, in milliseconds of Unix time",
+        ))
+}
+
+fn read_command<'a>(alloc: Global) -> Result<Command<'a>, AllocError>
+    ensures { IfOk result (λ command. Makes command read_command) }
+{
+    Command::new(alloc, "read")
+        .about("Prints the messages in order")
+        .arg(folder(alloc))?
+        .arg(flag(alloc, "back", "From the end on, towards the first message"))?
+        .arg(option(alloc, "from", "INDEX", "The index to begin at"))
+}
+
+fn take_command<'a>(alloc: Global) -> Result<Command<'a>, AllocError>
+    ensures { IfOk result (λ command. Makes command take_command) }
+{
+    Command::new(alloc, "take")
+        .about("Prints the next message of a tailer, and moves the tailer behind it")
+        .arg(folder(alloc))?
+        .arg(word(alloc, "NAME", "The name of the tailer"))
+}
+
+fn check_command<'a>(alloc: Global) -> Result<Command<'a>, AllocError>
+    ensures { IfOk result (λ command. Makes command check_command) }
+{
+    Command::new(alloc, "check")
+        .about("Says of each image what it holds, or what is wrong with it")
+        .arg(folder(alloc))
+}
+
+fn dump_command<'a>(alloc: Global) -> Result<Command<'a>, AllocError>
+    ensures { IfOk result (λ command. Makes command dump_command) }
+{
+    Command::new(alloc, "dump")
+        .about("Prints the records of an image")
+        .arg(folder(alloc))?
+        .arg(word(alloc, "FILE", "The name of the image's file"))
+}
+
+fn folder<'a>(alloc: Global) -> Arg<'a>
+    ensures { Follows result (word_rule (codes "DIR")) }
+{
+    word(alloc, "DIR", "The folder of the queue")
+}
+
+fn roll<'a>(alloc: Global) -> Arg<'a>
+    ensures { Follows result (word_rule (codes "ROLL")) }
+{
+    word(alloc, "ROLL", "daily, hourly or minutely")
+}
+
+fn epoch<'a>(alloc: Global) -> Arg<'a>
+    ensures { Follows result (number_rule (codes "EPOCH")) }
+{
+    number(
+        alloc,
+        "EPOCH",
+        "When cycle 0 begins, in milliseconds of Unix time",
+    )
+}
+
+/// An argument that is to be given.
+fn word<'a>(alloc: Global, name: &'a str, help: &'a str) -> Arg<'a>
+    ensures { Follows result (word_rule name.entry.now) }
+{
+    Arg::new(alloc, name)
+        .help(help)
+        .required(true)
+        .action(ArgAction::Set)
+}
+
+/// A number below 2^64 that is to be given.
+fn number<'a>(alloc: Global, name: &'a str, help: &'a str) -> Arg<'a>
+    ensures { Follows result (number_rule name.entry.now) }
+{
+    word(alloc, name, help).value_parser(value_parser!(u64))
+}
+
+/// Any number of arguments, none too, behind all others.
+fn words<'a>(alloc: Global, name: &'a str, help: &'a str) -> Arg<'a>
+    ensures { Follows result (words_rule name.entry.now) }
+{
+    Arg::new(alloc, name).help(help).action(ArgAction::Append)
+}
+
+/// A flag, which may be left out.
+fn flag<'a>(alloc: Global, name: &'a str, help: &'a str) -> Arg<'a>
+    ensures { Follows result (flag_rule name.entry.now) }
+{
+    Arg::new(alloc, name)
+        .long(name)
+        .help(help)
+        .action(ArgAction::SetTrue)
+}
+
+/// An option with one word as its value, which may be left out.
+fn option<'a>(alloc: Global, name: &'a str, value_name: &'a str, help: &'a str) -> Arg<'a>
+    ensures { Follows result (option_rule name.entry.now) }
+{
+    Arg::new(alloc, name)
+        .long(name)
+        .value_name(value_name)
+        .help(help)
+        .action(ArgAction::Set)
+}

@@ -1,0 +1,201 @@
+//! From what `clap` found in the words to an order.
+ghost use Rattle.std.specs.Prelude.{◌≡◌, [], ◌∷◌, List, map, option_map, codes, string_bytes, IfOk, IfSome, Ok, Some};
+ghost use Rattle.clap.specs.Words.{found_of, rows_of, subcommand_rows_of};
+ghost use Rattle.cq_command_line.specs.CommandLine.{word_of};
+ghost use Rattle.cq_command_line.specs.OrderValues.{AreSettings, AreWords, IsFlag, IsNumber, IsOption, IsWord, TakesValues};
+
+use clap::ArgMatches;
+use cq_orders::{InitSettings, Order};
+use std::alloc::{AllocError, Global};
+
+/// Why what was found is no order.
+#[derive(Debug, Drop)]
+pub(crate) enum OrderFault {
+    /// A growth was refused.
+    OutOfMemory,
+    /// No command was found, or a value that its order needs is missing.
+    NoOrder,
+}
+
+impl From<AllocError> for OrderFault {
+    fn from(_error: AllocError) -> OrderFault {
+        OrderFault::OutOfMemory
+    }
+}
+
+/// The order of the command that the words named.
+pub(crate) fn order_met(alloc: Global, matches: &ArgMatches<'_>) -> Result<Order, OrderFault>
+    ensures named { IfOk result (λ order.
+        option_map (λ met. met.0) (subcommand_rows_of matches.now) ≡ Some (word_of order)) }
+    ensures values { IfOk result (λ order. IfSome (subcommand_rows_of matches.now) (λ met. TakesValues met.1 order)) }
+    ensures echo { option_map (λ met. met.0) (subcommand_rows_of matches.now) ≡ Some (codes "echo")
+        → result ≡ Ok Order.Echo }
+{
+    match matches.subcommand() {
+        Some((name, values)) => order_named(alloc, name, values),
+        None => Err(OrderFault::NoOrder),
+    }
+}
+
+/// The order of the command with this name and these values.
+fn order_named(alloc: Global, name: &str, values: &ArgMatches<'_>) -> Result<Order, OrderFault>
+    ensures named { IfOk result (λ order. name.now ≡ word_of order) }
+    ensures values { IfOk result (λ order. TakesValues (rows_of (found_of values.now)) order) }
+    ensures echo { name.now ≡ codes "echo" → result ≡ Ok Order.Echo }
+{
+    match name {
+        "echo" => Ok(Order::Echo),
+        "cycle" => cycle_order(alloc, values),
+        "init" => init_order(alloc, values),
+        "write" => write_order(alloc, values),
+        "read" => read_order(alloc, values),
+        "take" => take_order(alloc, values),
+        "check" => check_order(alloc, values),
+        "dump" => dump_order(alloc, values),
+        _ => Err(OrderFault::NoOrder),
+    }
+}
+
+fn cycle_order(alloc: Global, values: &ArgMatches<'_>) -> Result<Order, OrderFault>
+    ensures named { IfOk result (λ order. word_of order ≡ codes "cycle") }
+    ensures values { IfOk result (λ order. TakesValues (rows_of (found_of values.now)) order) }
+{
+    Ok(Order::Cycle {
+        roll: word(alloc, values, "ROLL")?,
+        epoch: number(values, "EPOCH")?,
+        moment: number(values, "MOMENT")?,
+    })
+}
+
+fn init_order(alloc: Global, values: &ArgMatches<'_>) -> Result<Order, OrderFault>
+    ensures named { IfOk result (λ order. word_of order ≡ codes "init") }
+    ensures values { IfOk result (λ order. TakesValues (rows_of (found_of values.now)) order) }
+{
+    Ok(Order::Init {
+        folder: word(alloc, values, "DIR")?,
+        settings: init_settings(alloc, values)?,
+    })
+}
+
+/// The settings of a new queue, which are not judged here.
+fn init_settings(alloc: Global, values: &ArgMatches<'_>) -> Result<InitSettings, OrderFault>
+    ensures { IfOk result (λ settings. AreSettings (rows_of (found_of values.now)) settings) }
+{
+    Ok(InitSettings {
+        roll: word(alloc, values, "ROLL")?,
+        epoch: number(values, "EPOCH")?,
+        cells: number(values, "CELLS")?,
+        index_count: number(values, "COUNT")?,
+        index_spacing: number(values, "SPACING")?,
+        cycles: number(values, "CYCLES")?,
+        names: words(alloc, values, "NAMES")?,
+    })
+}
+
+fn write_order(alloc: Global, values: &ArgMatches<'_>) -> Result<Order, OrderFault>
+    ensures named { IfOk result (λ order. word_of order ≡ codes "write") }
+    ensures values { IfOk result (λ order. TakesValues (rows_of (found_of values.now)) order) }
+{
+    Ok(Order::Write {
+        folder: word(alloc, values, "DIR")?,
+        moment: number(values, "MOMENT")?,
+    })
+}
+
+fn read_order(alloc: Global, values: &ArgMatches<'_>) -> Result<Order, OrderFault>
+    ensures named { IfOk result (λ order. word_of order ≡ codes "read") }
+    ensures values { IfOk result (λ order. TakesValues (rows_of (found_of values.now)) order) }
+{
+    Ok(Order::Read {
+        folder: word(alloc, values, "DIR")?,
+        back: flag(values, "back"),
+        from: option(alloc, values, "from")?,
+    })
+}
+
+fn take_order(alloc: Global, values: &ArgMatches<'_>) -> Result<Order, OrderFault>
+    ensures named { IfOk result (λ order. word_of order ≡ codes "take") }
+    ensures values { IfOk result (λ order. TakesValues (rows_of (found_of values.now)) order) }
+{
+    Ok(Order::Take {
+        folder: word(alloc, values, "DIR")?,
+        name: word(alloc, values, "NAME")?,
+    })
+}
+
+fn check_order(alloc: Global, values: &ArgMatches<'_>) -> Result<Order, OrderFault>
+    ensures named { IfOk result (λ order. word_of order ≡ codes "check") }
+    ensures values { IfOk result (λ order. TakesValues (rows_of (found_of values.now)) order) }
+{
+    Ok(Order::Check {
+        folder: word(alloc, values, "DIR")?,
+    })
+}
+
+fn dump_order(alloc: Global, values: &ArgMatches<'_>) -> Result<Order, OrderFault>
+    ensures named { IfOk result (λ order. word_of order ≡ codes "dump") }
+    ensures values { IfOk result (λ order. TakesValues (rows_of (found_of values.now)) order) }
+{
+    Ok(Order::Dump {
+        folder: word(alloc, values, "DIR")?,
+        file: word(alloc, values, "FILE")?,
+    })
+}
+
+/// The word that was given under this name.
+fn word(alloc: Global, values: &ArgMatches<'_>, name: &str) -> Result<String, OrderFault>
+    ensures { IfOk result (λ text. IsWord (rows_of (found_of values.now)) name.now text) }
+{
+    match values.get_str(name) {
+        Some(given) => Ok(String::from_str(alloc, given)?),
+        None => Err(OrderFault::NoOrder),
+    }
+}
+
+/// The number that was given under this name.
+fn number(values: &ArgMatches<'_>, name: &str) -> Result<u64, OrderFault>
+    ensures { IfOk result (λ given. IsNumber (rows_of (found_of values.now)) name.now given) }
+{
+    match values.get_one(name) {
+        Some(given) => Ok(given),
+        None => Err(OrderFault::NoOrder),
+    }
+}
+
+/// All words that were given under this name.
+fn words(alloc: Global, values: &ArgMatches<'_>, name: &str) -> Result<Vec<String>, OrderFault>
+    ensures { IfOk result (λ texts. AreWords (rows_of (found_of values.now)) name.now texts.items) }
+{
+    match values.get_strs(name) {
+        Some(given) => Ok(texts(alloc, given)?),
+        None => Ok(Vec::new(alloc)),
+    }
+}
+
+/// Texts of their own.
+fn texts(alloc: Global, given: &[&str]) -> Result<Vec<String>, AllocError>
+    ensures { IfOk result (λ texts. map string_bytes texts.items ≡ map (λ text. text.now) given.now) }
+{
+    let mut texts = Vec::new(alloc);
+    for text in given {
+        texts.push(String::from_str(alloc, text)?)?;
+    }
+    Ok(texts)
+}
+
+/// The word that was given under this name, where one was.
+fn option(alloc: Global, values: &ArgMatches<'_>, name: &str) -> Result<Option<String>, OrderFault>
+    ensures { IfOk result (λ text. IsOption (rows_of (found_of values.now)) name.now text) }
+{
+    match values.get_str(name) {
+        Some(given) => Ok(Some(String::from_str(alloc, given)?)),
+        None => Ok(None),
+    }
+}
+
+/// Whether the flag of this name was given.
+fn flag(values: &ArgMatches<'_>, name: &str) -> bool
+    ensures { IsFlag (rows_of (found_of values.now)) name.now result }
+{
+    values.get_flag(name)
+}

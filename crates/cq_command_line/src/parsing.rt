@@ -1,0 +1,74 @@
+//! From the words of a command line to an order.
+ghost use Rattle.std.specs.Prelude.{◌≡◌, List, ℕ, [], ◌∷◌, map, option_map, string_bytes, codes};
+ghost use Rattle.std.specs.Prelude.{IfOk, IfSome, MatchResult, Some};
+ghost use Rattle.clap.specs.Words.{subcommand_of};
+ghost use Rattle.cq_command_line.specs.CommandLine.{command_line, word_of};
+ghost use Rattle.cq_command_line.specs.OrderValues.{TakesValues};
+
+use crate::command_line::command_line;
+use crate::orders::{OrderFault, order_met};
+use clap::Error;
+use clap::error::ErrorKind;
+use cq_orders::Order;
+use std::alloc::{AllocError, Global};
+
+/// Why the words of a command line are no order.
+#[derive(Debug, Drop)]
+pub enum ParseFault {
+    /// A growth was refused.
+    OutOfMemory,
+    /// The words are not understood, or ask for help. The error prints the whole text for the user.
+    NotUnderstood(Error),
+}
+
+impl From<Error> for ParseFault {
+    ghost use Rattle.clap.specs.Words.{kind_of};
+    ghost use Rattle.clap.specs.declared.error.kind.ErrorKind.TheVariants.{OutOfMemory};
+    ghost use Rattle.cq_command_line.specs.declared.parsing.ParseFault.TheVariants.{OutOfMemory as NoMemory};
+
+    ghost from_gives = { λ error fault. kind_of error ≡ OutOfMemory → fault ≡ NoMemory };
+
+    fn from(error: Error) -> ParseFault {
+        if error.kind() == ErrorKind::OutOfMemory {
+            ParseFault::OutOfMemory
+        } else {
+            ParseFault::NotUnderstood(error)
+        }
+    }
+}
+
+impl From<AllocError> for ParseFault {
+    ghost use Rattle.cq_command_line.specs.declared.parsing.ParseFault.TheVariants.{OutOfMemory};
+
+    ghost from_gives = { λ _ fault. fault ≡ OutOfMemory };
+
+    fn from(_error: AllocError) -> ParseFault {
+        ParseFault::OutOfMemory
+    }
+}
+
+/// The order in the words of a command line, of which the first is the program's name.
+///
+/// Answers `NotUnderstood` where the words are no order, and where they ask for help.
+pub fn parse(alloc: Global, words: &[String]) -> Result<Order, ParseFault>
+    // An order is the command that the words name.
+    ensures named { IfOk result (λ order.
+        option_map (λ met. met.0) (subcommand_of command_line (map string_bytes words.now)) ≡ Some (word_of order)) }
+    // Its values are those that the words give to the command.
+    ensures values { IfOk result (λ order.
+        IfSome (subcommand_of command_line (map string_bytes words.now)) (λ met. TakesValues met.1 order)) }
+    ensures echo { (program : List ℕ) → map string_bytes words.now ≡ program ∷ codes "echo" ∷ []
+        → MatchResult result (λ order. order ≡ Order.Echo) (λ fault. fault ≡ ParseFault.OutOfMemory) }
+{
+    let mut command = command_line(alloc)?;
+    let matches = command.try_get_matches_from_mut(words)?;
+    match order_met(alloc, &matches) {
+        Ok(order) => Ok(order),
+        Err(OrderFault::OutOfMemory) => Err(ParseFault::OutOfMemory),
+        Err(OrderFault::NoOrder) => Err(
+            command
+                .error(ErrorKind::InvalidSubcommand, "unknown command")?
+                .into(),
+        ),
+    }
+}

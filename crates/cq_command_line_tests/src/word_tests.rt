@@ -1,0 +1,234 @@
+//! What the words of a command line are.
+use cq_command_line::{ParseFault, parse};
+use std::alloc::Global;
+use std::process::Abort;
+use std::test::Fail;
+
+/// What the words are, or the beginning of what is said of them.
+fn parsed(alloc: Global, given: &[&str]) -> Result<String, Fail> {
+    let mut words = Vec::new(alloc);
+    for word in given {
+        words.push(String::from_str(alloc, word)?)?;
+    }
+    Ok(match parse(alloc, words.as_slice()) {
+        Ok(order) => format!(in alloc; "{order:?}")?,
+        Err(ParseFault::NotUnderstood(error)) => error.to_string(alloc)?,
+        Err(ParseFault::OutOfMemory) => format!(in alloc; "want of memory")?,
+    })
+}
+
+/// Each list of words is what stands beside it.
+fn expect<R: AllocGlobal + Abort>(rt: &R, table: &[(&[&str], &str)]) -> Result<(), Fail> {
+    for (given, want) in table {
+        let said = parsed(rt.alloc(), given)?;
+        assert!(rt; said.as_str().contains(*want), "{said}");
+    }
+    Ok(())
+}
+
+#[test]
+fn parses_words(rt: HostRuntime) -> Result<(), Fail> {
+    let table: [(&[&str], &str); 13] = [
+        (&["cq", "echo"], "Echo"),
+        (&["another name", "echo"], "Echo"),
+        (&["cq"], "requires a subcommand"),
+        (&["cq", "nonsense"], "unrecognized subcommand 'nonsense'"),
+        (&["cq", "echo", "extra"], "unexpected argument 'extra'"),
+        (&["cq", "--version"], "unexpected argument '--version'"),
+        (&["cq", "--help"], "Usage: cq <COMMAND>"),
+        (&["cq", "echo", "--help"], "Usage: cq echo"),
+        (
+            &["cq", "cycle", "weekly", "007", "18446744073709551615"],
+            "Cycle { roll: \"weekly\", epoch: 7, moment: 18446744073709551615 }",
+        ),
+        (&["cq", "cycle", "daily", "0"], "<MOMENT>"),
+        (
+            &["cq", "cycle", "daily", "0", "18446744073709551616"],
+            "invalid value '18446744073709551616'",
+        ),
+        (&["cq", "cycle", "daily", "0x0", "0"], "invalid value '0x0'"),
+        (
+            &["cq", "cycle", "daily", "0", "0", "0"],
+            "unexpected argument '0'",
+        ),
+    ];
+    expect(&rt, table.as_slice())
+}
+
+#[test]
+fn parses_the_words_of_a_new_queue(rt: HostRuntime) -> Result<(), Fail> {
+    let table: [(&[&str], &str); 10] = [
+        (
+            &["cq", "init", "q", "hourly", "1", "2", "3", "4", "5"],
+            "Init { folder: \"q\", settings: InitSettings { roll: \"hourly\", epoch: 1, cells: 2, index_count: 3, \
+             index_spacing: 4, cycles: 5, names: [] } }",
+        ),
+        (
+            &[
+                "cq",
+                "init",
+                "q",
+                "weekly",
+                "0",
+                "18446744073709551615",
+                "0",
+                "+4",
+                "005",
+                "b",
+                "a",
+                "b",
+            ],
+            "Init { folder: \"q\", settings: InitSettings { roll: \"weekly\", epoch: 0, cells: 18446744073709551615, \
+             index_count: 0, index_spacing: 4, cycles: 5, names: [\"b\", \"a\", \"b\"] } }",
+        ),
+        (
+            &[
+                "cq", "init", "q", "", "1", "2", "3", "4", "5", "--", "-a", "",
+            ],
+            "roll: \"\", epoch: 1, cells: 2, index_count: 3, index_spacing: 4, cycles: 5, names: [\"-a\", \"\"] } }",
+        ),
+        (
+            &["cq", "init", "q", "hourly", "1", "2", "3", "4"],
+            "<CYCLES>",
+        ),
+        (&["cq", "init"], "<DIR>"),
+        (
+            &["cq", "init", "q", "hourly", "1", "2", "3", "4", "five"],
+            "invalid value 'five' for '<CYCLES>'",
+        ),
+        (
+            &[
+                "cq",
+                "init",
+                "q",
+                "hourly",
+                "1",
+                "18446744073709551616",
+                "3",
+                "4",
+                "5",
+            ],
+            "invalid value '18446744073709551616' for '<CELLS>'",
+        ),
+        (
+            &["cq", "init", "q", "hourly", "-1", "2", "3", "4", "5"],
+            "unexpected argument '-1'",
+        ),
+        (
+            &["cq", "init", "q", "hourly", "1", "2", "3", "4", "5", "-a"],
+            "unexpected argument '-a'",
+        ),
+        (
+            &["cq", "init", "--help"],
+            "Usage: cq init <DIR> <ROLL> <EPOCH> <CELLS> <COUNT> <SPACING> <CYCLES> [NAMES]...",
+        ),
+    ];
+    expect(&rt, table.as_slice())
+}
+
+#[test]
+fn parses_the_words_of_a_reader(rt: HostRuntime) -> Result<(), Fail> {
+    let table: [(&[&str], &str); 15] = [
+        (
+            &["cq", "read", "q"],
+            "Read { folder: \"q\", back: false, from: None }",
+        ),
+        (
+            &["cq", "read", "q", "--back"],
+            "Read { folder: \"q\", back: true, from: None }",
+        ),
+        (
+            &["cq", "read", "--back", "q"],
+            "Read { folder: \"q\", back: true, from: None }",
+        ),
+        (
+            &["cq", "read", "q", "--from", "0000000100000002"],
+            "Read { folder: \"q\", back: false, from: Some(\"0000000100000002\") }",
+        ),
+        (
+            &["cq", "read", "--from", "q", "r"],
+            "Read { folder: \"r\", back: false, from: Some(\"q\") }",
+        ),
+        (
+            &["cq", "read", "q", "--back", "--from", "no index"],
+            "Read { folder: \"q\", back: true, from: Some(\"no index\") }",
+        ),
+        (
+            &["cq", "read", "--from=", "q", "--back"],
+            "Read { folder: \"q\", back: true, from: Some(\"\") }",
+        ),
+        (
+            &["cq", "read", "--back", "--from", "7", "q"],
+            "Read { folder: \"q\", back: true, from: Some(\"7\") }",
+        ),
+        (&["cq", "read"], "<DIR>"),
+        (&["cq", "read", "q", "r"], "unexpected argument 'r'"),
+        (
+            &["cq", "read", "q", "--back", "--back"],
+            "'--back' cannot be used multiple times",
+        ),
+        (
+            &["cq", "read", "q", "--from", "1", "--from", "2"],
+            "'--from <INDEX>' cannot be used multiple times",
+        ),
+        (
+            &["cq", "read", "q", "--from"],
+            "a value is required for '--from <INDEX>'",
+        ),
+        (
+            &["cq", "read", "q", "--back=yes"],
+            "unexpected value 'yes' for '--back'",
+        ),
+        (
+            &["cq", "read", "q", "--forth"],
+            "unexpected argument '--forth'",
+        ),
+    ];
+    expect(&rt, table.as_slice())
+}
+
+#[test]
+fn parses_the_words_of_other_commands(rt: HostRuntime) -> Result<(), Fail> {
+    let table: [(&[&str], &str); 21] = [
+        (
+            &["cq", "write", "q", "18446744073709551615"],
+            "Write { folder: \"q\", moment: 18446744073709551615 }",
+        ),
+        (
+            &["cq", "write", "ein Ordner für Ähren", "0"],
+            "Write { folder: \"ein Ordner für Ähren\", moment: 0 }",
+        ),
+        (&["cq", "write", "q"], "<MOMENT>"),
+        (&["cq", "write", "q", "1", "2"], "unexpected argument '2'"),
+        (&["cq", "write", "q", "-1"], "unexpected argument '-1'"),
+        (
+            &["cq", "write", "q", "18446744073709551616"],
+            "invalid value '18446744073709551616' for '<MOMENT>'",
+        ),
+        (
+            &["cq", "write", "q", "now"],
+            "invalid value 'now' for '<MOMENT>'",
+        ),
+        (&["cq", "write", "q", ""], "invalid value '' for '<MOMENT>'"),
+        (
+            &["cq", "take", "q", "reader"],
+            "Take { folder: \"q\", name: \"reader\" }",
+        ),
+        (&["cq", "take", "q"], "<NAME>"),
+        (&["cq", "take", "q", "r", "s"], "unexpected argument 's'"),
+        (&["cq", "take", "--help"], "Usage: cq take <DIR> <NAME>"),
+        (&["cq", "check", "q"], "Check { folder: \"q\" }"),
+        (&["cq", "check", " "], "Check { folder: \" \" }"),
+        (&["cq", "check"], "<DIR>"),
+        (&["cq", "check", "q", "r"], "unexpected argument 'r'"),
+        (&["cq", "check", "q", "-x"], "unexpected argument '-x'"),
+        (
+            &["cq", "dump", "q", "2024 01.cq"],
+            "Dump { folder: \"q\", file: \"2024 01.cq\" }",
+        ),
+        (&["cq", "dump", "q"], "<FILE>"),
+        (&["cq", "dump", "q", "r", "s"], "unexpected argument 's'"),
+        (&["cq", "dump", "--help"], "Usage: cq dump <DIR> <FILE>"),
+    ];
+    expect(&rt, table.as_slice())
+}

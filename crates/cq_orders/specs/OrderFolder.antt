@@ -1,0 +1,15 @@
+-- The folder of an order.
+use Rattle.std.specs.Prelude.{ℕ, List, Option, None, Some, string_bytes}
+use Rattle.cq_orders.specs.declared.order.Order.{Order}
+use Rattle.cq_orders.specs.declared.order.Order.TheVariants.{Echo, Cycle, Init, Write, Read, Take, Check, Dump}
+
+-- the path of the folder that an order is for
+abbrev pub folder_of : Order → Option (List ℕ)
+folder_of Echo = None
+folder_of (Cycle roll epoch moment) = None
+folder_of (Init folder settings) = Some (string_bytes folder)
+folder_of (Write folder moment) = Some (string_bytes folder)
+folder_of (Read folder back from) = Some (string_bytes folder)
+folder_of (Take folder name) = Some (string_bytes folder)
+folder_of (Check folder) = Some (string_bytes folder)
+folder_of (Dump folder file) = Some (string_bytes folder)

@@ -1,0 +1,79 @@
+ghost use Rattle.std.specs.Prelude.{◌≡◌, option_map};
+ghost use Rattle.cq_orders.specs.OrderFolder.{folder_of};
+
+use crate::settings::InitSettings;
+
+/// What the program is asked to do.
+#[derive(Debug, Drop)]
+pub enum Order {
+    /// Store and print each line of the input.
+    Echo,
+    /// Print the cycle of a moment, its name and its first index.
+    Cycle {
+        /// The word for the roll, as it was given.
+        roll: String,
+        /// The epoch, in milliseconds of Unix time.
+        epoch: u64,
+        /// The moment, in milliseconds of Unix time.
+        moment: u64,
+    },
+    /// Make a queue in a folder.
+    Init {
+        /// The folder, which is there.
+        folder: String,
+        /// What the queue is to be.
+        settings: InitSettings,
+    },
+    /// Append each line of the input.
+    Write {
+        /// The folder.
+        folder: String,
+        /// The moment of the lines, in milliseconds of Unix time.
+        moment: u64,
+    },
+    /// Print the messages in order.
+    Read {
+        /// The folder.
+        folder: String,
+        /// From the end on, towards the first message.
+        back: bool,
+        /// The index to begin at, as it was given.
+        from: Option<String>,
+    },
+    /// Take the next message under a name.
+    Take {
+        /// The folder.
+        folder: String,
+        /// The name.
+        name: String,
+    },
+    /// Say of each image what it holds, or what is wrong with it.
+    Check {
+        /// The folder.
+        folder: String,
+    },
+    /// Print the records of an image.
+    Dump {
+        /// The folder.
+        folder: String,
+        /// The name of the image's file.
+        file: String,
+    },
+}
+
+impl Order {
+    /// The path of the folder that the order is for; `None` where it is for no folder.
+    pub fn folder(&self) -> Option<&str>
+        ensures { option_map (λ path. path.now) result ≡ folder_of self.now }
+    {
+        match self {
+            Order::Echo | Order::Cycle { .. } => None,
+            Order::Init { folder, .. }
+            | Order::Write { folder, .. }
+            | Order::Read { folder, .. }
+            | Order::Take { folder, .. }
+            | Order::Check { folder }
+            | Order::Dump { folder, .. } => Some(folder.as_str()),
+        }
+    }
+}
