@@ -2,13 +2,13 @@
 ghost use Rattle.std.specs.Prelude.{◌≡◌, List, ℕ, [], ◌∷◌, map, option_map, string_bytes, codes};
 ghost use Rattle.std.specs.Prelude.{IfOk, IfSome, MatchResult, Some};
 ghost use Rattle.clap.specs.Words.{subcommand_of};
-ghost use Rattle.cq_command_line.specs.CommandLine.{command_line, word_of};
+ghost use Rattle.cq_command_line.specs.CommandLine.{Makes, command_line, word_of};
 ghost use Rattle.cq_command_line.specs.OrderValues.{TakesValues};
 
 use crate::command_line::command_line;
 use crate::orders::{OrderFault, order_met};
-use clap::Error;
 use clap::error::ErrorKind;
+use clap::{Command, Error};
 use cq_orders::Order;
 use std::alloc::{AllocError, Global};
 
@@ -61,6 +61,23 @@ pub fn parse(alloc: Global, words: &[String]) -> Result<Order, ParseFault>
         → MatchResult result (λ order. order ≡ Order.Echo) (λ fault. fault ≡ ParseFault.OutOfMemory) }
 {
     let mut command = command_line(alloc)?;
+    order_in(alloc, &mut command, words)
+}
+
+/// The same over the command line as `clap` knows it.
+fn order_in<'a>(
+    alloc: Global,
+    command: &mut Command<'a>,
+    words: &'a [String],
+) -> Result<Order, ParseFault>
+    requires { Makes command.now command_line }
+    ensures named { IfOk result (λ order.
+        option_map (λ met. met.0) (subcommand_of command_line (map string_bytes words.now)) ≡ Some (word_of order)) }
+    ensures values { IfOk result (λ order.
+        IfSome (subcommand_of command_line (map string_bytes words.now)) (λ met. TakesValues met.1 order)) }
+    ensures echo { (program : List ℕ) → map string_bytes words.now ≡ program ∷ codes "echo" ∷ []
+        → MatchResult result (λ order. order ≡ Order.Echo) (λ fault. fault ≡ ParseFault.OutOfMemory) }
+{
     let matches = command.try_get_matches_from_mut(words)?;
     match order_met(alloc, &matches) {
         Ok(order) => Ok(order),

@@ -5,7 +5,7 @@ use Rattle.clap.proofs.OnLiterals.{clap_on_literals}
 use Rattle.cq_orders.specs.declared.order.Order.{Order}
 use Rattle.cq_command_line.specs.CommandLine.{command_line}
 use Rattle.cq_command_line.specs.OrderValues.{TakesValues}
-use Rattle.cq_command_line.proofs.parsing.parse.Goals as goal
+use Rattle.cq_command_line.proofs.parsing.order_in.Goals as goal
 
 -- what clap meets is what its walk over the words gives
 meets : (app : App) (words : List Text) (matches : ArgMatches) → app ≡ command_line → HasMatchesOf app words matches
@@ -44,25 +44,25 @@ not_both r x e a b = cc
 
 pub returns-in-Ok-clause-named : goal.returns-in-Ok-clause-named
 returns-in-Ok-clause-named c =
-    let met = meets _ _ c.in_ok-matches.matches c.in_ok-command.ensures.is c.in_ok-matches.ensures.ok.2 in
+    let met = meets _ _ c.in_ok-matches.matches c.requires.is c.in_ok-matches.ensures.ok.2 in
     ap (option_map (λ met. met.0)) (sym met) ∙ c.in-Ok.ensures.named
 
 pub returns-in-Ok-clause-values : goal.returns-in-Ok-clause-values
 returns-in-Ok-clause-values c =
-    let met = meets _ _ c.in_ok-matches.matches c.in_ok-command.ensures.is c.in_ok-matches.ensures.ok.2 in
+    let met = meets _ _ c.in_ok-matches.matches c.requires.is c.in_ok-matches.ensures.ok.2 in
     values_given _ _ c.in-Ok.order met c.in-Ok.ensures.values
 
 pub returns-in_err-matches-clause-echo : goal.returns-in_err-matches-clause-echo
 returns-in_err-matches-clause-echo c program words =
-    let memory = c.in_err-matches.ensures.passes (ap₂ takes c.in_ok-command.ensures.is words ∙ is_taken program) in
-    only_err c.from_residual-in_err-matches.result _ _ memory c.from_residual-in_err-matches.ensures.1
+    let memory = c.in_err-matches.ensures.passes (ap₂ takes c.requires.is words ∙ is_taken program) in
+    only_err c.from_residual.result _ _ memory c.from_residual.ensures.1
 
 pub returns-in-Ok-clause-echo : goal.returns-in-Ok-clause-echo
 returns-in-Ok-clause-echo c program words =
-    let met = meets _ _ c.in_ok-matches.matches c.in_ok-command.ensures.is c.in_ok-matches.ensures.ok.2 in
+    let met = meets _ _ c.in_ok-matches.matches c.requires.is c.in_ok-matches.ensures.ok.2 in
     same_order c.order_met.result _ c.in-Ok.order (c.order_met.ensures.echo (meets_echo _ program _ met words)) c.in-Ok.is
 
 pub returns-clause-echo : goal.returns-clause-echo
 returns-clause-echo c program words =
-    let met = meets _ _ c.in_ok-matches.matches c.in_ok-command.ensures.is c.in_ok-matches.ensures.ok.2 in
+    let met = meets _ _ c.in_ok-matches.matches c.requires.is c.in_ok-matches.ensures.ok.2 in
     absurd (not_both c.order_met.result _ c.in-Err-NoOrder.field-0 (c.order_met.ensures.echo (meets_echo _ program _ met words)) c.in-Err-NoOrder.is)
