@@ -1,4 +1,5 @@
 //! What `echo` and `cycle` print, which need no folder, and the texts of faults.
+use crate::streams::said;
 use cq_commands::{ToolFault, cycle, echo};
 use cq_model::Refusal;
 use std::alloc::Global;
@@ -6,39 +7,44 @@ use std::io;
 use std::io::{ErrorKind, Read, Write};
 use std::test::Fail;
 
-/// What `echo` writes, and how many lines it gives or the text of its fault.
-fn echoed(alloc: Global, input: &[u8]) -> Result<(Vec<u8>, String), Fail> {
-    let mut output = Vec::new(alloc);
-    let mut rest = input;
-    let said = match echo(alloc, &mut rest, &mut output) {
-        Ok(count) => format!(in alloc; "{count} lines")?,
-        Err(fault) => format!(in alloc; "{fault}")?,
-    };
-    Ok((output, said))
+/// Adds how many lines `echo` gives to what it wrote, or the text of its fault.
+fn told(mut output: Vec<u8>, done: Result<u64, ToolFault>) -> Result<Vec<u8>, Fail> {
+    match done {
+        Ok(count) => write!(output, "{count} lines")?,
+        Err(fault) => write!(output, "{fault}")?,
+    }
+    Ok(output)
 }
+
+/// What `echo` writes, and behind it how many lines it gives or the text of its fault.
+fn echoed<R: Read>(alloc: Global, input: &mut R) -> Result<Vec<u8>, Fail> {
+    let mut output = Vec::new(alloc);
+    let done = echo(alloc, input, &mut output);
+    told(output, done)
+}
+
+static ECHOED: [(&[u8], &[u8]); 8] = [
+    (b"hello\nworld\n", b"0 hello\n1 world\n2 lines"),
+    (b"", b"0 lines"),
+    (b"a", b"0 a\n1 lines"),
+    (b"a\r\n\x00\xff\n", b"0 a\r\n1 \x00\xff\n2 lines"),
+    (b"a\n\n", b"line 2: BadRoom"),
+    (b"\n", b"line 1: BadRoom"),
+    (b"a\n\nb", b"line 2: BadRoom"),
+    (b"a b c d e\n", b"0 a b c d e\n1 lines"),
+];
 
 #[test]
 fn echoes_lines(rt: HostRuntime) -> Result<(), Fail> {
-    let cases: [(&[u8], &[u8], &str); 8] = [
-        (b"hello\nworld\n", b"0 hello\n1 world\n", "2 lines"),
-        (b"", b"", "0 lines"),
-        (b"a", b"0 a\n", "1 lines"),
-        (b"a\r\n\x00\xff\n", b"0 a\r\n1 \x00\xff\n", "2 lines"),
-        (b"a\n\n", b"", "line 2: BadRoom"),
-        (b"\n", b"", "line 1: BadRoom"),
-        (b"a\n\nb", b"", "line 2: BadRoom"),
-        (b"a b c d e\n", b"0 a b c d e\n", "1 lines"),
-    ];
-    for (input, want, text) in cases {
-        let (output, said) = echoed(rt.alloc(), input)?;
-        assert_eq!(rt; output.as_slice(), want);
-        assert_eq!(rt; said.as_str(), text);
+    for (input, want) in ECHOED {
+        let mut rest = input;
+        assert_eq!(rt; echoed(rt.alloc(), &mut rest)?.as_slice(), want);
     }
     Ok(())
 }
 
-/// So many lines of so many bytes.
-fn lines_of(alloc: Global, lines: usize, bytes: usize) -> Result<Vec<u8>, Fail> {
+/// So many lines of so many bytes, and more.
+fn lines_of(alloc: Global, lines: usize, bytes: usize, more: &str) -> Result<Vec<u8>, Fail> {
     let mut text = Vec::new(alloc);
     for _ in 0..lines {
         for _ in 0..bytes {
@@ -46,32 +52,43 @@ fn lines_of(alloc: Global, lines: usize, bytes: usize) -> Result<Vec<u8>, Fail> 
         }
         text.push(b'\n')?;
     }
+    text.extend_from_slice(more.as_bytes())?;
     Ok(text)
 }
 
+/// How many lines `echo` gives or the text of its fault, and whether it wrote any.
+fn echoed_lines(alloc: Global, lines: usize, bytes: usize, more: &str) -> Result<String, Fail> {
+    let mut output = Vec::new(alloc);
+    let input = lines_of(alloc, lines, bytes, more)?;
+    let mut rest = input.as_slice();
+    let done = echo(alloc, &mut rest, &mut output);
+    let is_silent = output.is_empty();
+    let said = String::from_utf8(told(Vec::new(alloc), done)?)?;
+    Ok(format!(in alloc; "{said}, silent: {is_silent}")?)
+}
+
+static BOUNDS: [(usize, usize, &str, &str); 11] = [
+    (1, 128, "", "1 lines, silent: false"),
+    (1, 129, "", "line 1: too long, silent: true"),
+    (2, 129, "", "line 1: too long, silent: true"),
+    (1, 128, "\n", "line 2: BadRoom, silent: true"),
+    (1000, 1, "", "1000 lines, silent: false"),
+    (1000, 1, "a", "line 1001: too many, silent: true"),
+    (1000, 1, "\n", "line 1001: too many, silent: true"),
+    (1002, 1, "", "line 1001: too many, silent: true"),
+    // 129,000 bytes, and one more.
+    (1000, 128, "", "1000 lines, silent: false"),
+    (1000, 128, "a", "input too long, silent: true"),
+    (1, 129_000, "", "input too long, silent: true"),
+];
+
 #[test]
 fn bounds_the_input(rt: HostRuntime) -> Result<(), Fail> {
-    let alloc = rt.alloc();
-    let cases = [
-        (1, 128, "", "1 lines"),
-        (1, 129, "", "line 1: too long"),
-        (2, 129, "", "line 1: too long"),
-        (1, 128, "\n", "line 2: BadRoom"),
-        (1000, 1, "", "1000 lines"),
-        (1000, 1, "a", "line 1001: too many"),
-        (1000, 1, "\n", "line 1001: too many"),
-        (1002, 1, "", "line 1001: too many"),
-        // 129,000 bytes, and one more.
-        (1000, 128, "", "1000 lines"),
-        (1000, 128, "a", "input too long"),
-        (1, 129_000, "", "input too long"),
-    ];
-    for (lines, bytes, more, want) in cases {
-        let mut input = lines_of(alloc, lines, bytes)?;
-        input.extend_from_slice(more.as_bytes())?;
-        let (output, said) = echoed(alloc, input.as_slice())?;
-        assert_eq!(rt; said.as_str(), want, "at {lines} lines of {bytes} bytes");
-        assert_eq!(rt; output.is_empty(), !want.ends_with(" lines"));
+    for (lines, bytes, more, want) in BOUNDS {
+        assert_eq!(rt;
+            echoed_lines(rt.alloc(), lines, bytes, more)?.as_str(),
+            want
+        );
     }
     Ok(())
 }
@@ -101,28 +118,23 @@ impl Read for Reader {
     }
 }
 
+static ENDS: [(u32, Result<usize, ErrorKind>, &[u8]); 7] = [
+    (3, Ok(0), b"0 aaa\n1 lines"),
+    (3, Err(ErrorKind::Other), b"read fault"),
+    (0, Err(ErrorKind::IsADirectory), b"read fault"),
+    // The whole input is read before its length is looked at.
+    (129_001, Ok(0), b"input too long"),
+    (129_001, Err(ErrorKind::Other), b"read fault"),
+    // A reader that never ends.
+    (0, Ok(1), b"read fault"),
+    (3, Err(ErrorKind::Interrupted), b"read fault"),
+];
+
 #[test]
 fn reads_to_the_end(rt: HostRuntime) -> Result<(), Fail> {
-    let alloc = rt.alloc();
-    let cases = [
-        (3, Ok(0), "1 lines", "0 aaa\n"),
-        (3, Err(ErrorKind::Other), "read fault", ""),
-        (0, Err(ErrorKind::IsADirectory), "read fault", ""),
-        // The whole input is read before its length is looked at.
-        (129_001, Ok(0), "input too long", ""),
-        (129_001, Err(ErrorKind::Other), "read fault", ""),
-        // A reader that never ends.
-        (0, Ok(1), "read fault", ""),
-        (3, Err(ErrorKind::Interrupted), "read fault", ""),
-    ];
-    for (bytes, then, want, text) in cases {
-        let mut output = Vec::new(alloc);
-        let said = match echo(alloc, &mut Reader { bytes, then }, &mut output) {
-            Ok(count) => format!(in alloc; "{count} lines")?,
-            Err(fault) => format!(in alloc; "{fault}")?,
-        };
-        assert_eq!(rt; said.as_str(), want, "after {bytes} bytes");
-        assert_eq!(rt; output.as_slice(), text.as_bytes());
+    for (bytes, then, want) in ENDS {
+        let said = echoed(rt.alloc(), &mut Reader { bytes, then })?;
+        assert_eq!(rt; said.as_slice(), want, "after {bytes} bytes");
     }
     Ok(())
 }
@@ -156,98 +168,125 @@ impl Write for Writer {
     }
 }
 
+/// What a writer with so much room takes of "a" and "b", and behind it how many lines `echo` gives or the text of its fault.
+fn echoed_into(alloc: Global, room: usize, refuses_flush: bool) -> Result<Vec<u8>, Fail> {
+    let mut output = Writer {
+        room,
+        refuses_flush,
+        taken: Vec::new(alloc),
+    };
+    let mut input: &[u8] = b"a\nb\n";
+    let done = echo(alloc, &mut input, &mut output);
+    told(output.taken, done)
+}
+
+static ROOMS: [(usize, bool, &[u8]); 4] = [
+    (8, false, b"0 a\n1 b\n2 lines"),
+    (7, false, b"0 a\n1 bwrite fault"),
+    (0, false, b"write fault"),
+    (8, true, b"0 a\n1 b\nwrite fault"),
+];
+
 #[test]
 fn passes_write_faults_on(rt: HostRuntime) -> Result<(), Fail> {
-    let alloc = rt.alloc();
-    let cases = [
-        (8, false, true, "0 a\n1 b\n"),
-        (7, false, false, "0 a\n1 b"),
-        (0, false, false, ""),
-        (8, true, false, "0 a\n1 b\n"),
-    ];
-    for (room, refuses_flush, succeeds, text) in cases {
-        let mut output = Writer {
-            room,
-            refuses_flush,
-            taken: Vec::new(alloc),
-        };
-        let mut input: &[u8] = b"a\nb\n";
-        let result = echo(alloc, &mut input, &mut output);
-        assert_eq!(rt; result.is_ok(), succeeds, "at {room}");
-        assert!(rt; succeeds || matches!(result, Err(ToolFault::WriteFault)));
-        assert_eq!(rt; output.taken.as_slice(), text.as_bytes());
+    for (room, refuses_flush, want) in ROOMS {
+        let said = echoed_into(rt.alloc(), room, refuses_flush)?;
+        assert_eq!(rt; said.as_slice(), want);
     }
     Ok(())
+}
+
+/// The texts of these faults, each behind a bar.
+fn texts_of(alloc: Global, faults: &[ToolFault]) -> Result<String, Fail> {
+    let mut text = String::new(alloc);
+    for fault in faults {
+        text.push_str(format!(in alloc; "|{fault}")?.as_str())?;
+    }
+    Ok(text)
 }
 
 #[test]
 fn prints_faults(rt: HostRuntime) -> Result<(), Fail> {
-    let table = [
-        (ToolFault::OutOfMemory, "want of memory"),
-        (ToolFault::ReadFault, "read fault"),
-        (ToolFault::InputTooLong, "input too long"),
-        (ToolFault::TooMany(1001), "line 1001: too many"),
-        (ToolFault::Refused(2, Refusal::BadRoom), "line 2: BadRoom"),
-        (ToolFault::TooLong(3), "line 3: too long"),
-        (ToolFault::BadConfig, "BadConfig"),
-        (ToolFault::BadMoment, "BadMoment"),
-        (ToolFault::WriteFault, "write fault"),
+    let faults = [
+        ToolFault::OutOfMemory,
+        ToolFault::ReadFault,
+        ToolFault::InputTooLong,
+        ToolFault::TooMany(1001),
+        ToolFault::Refused(2, Refusal::BadRoom),
+        ToolFault::TooLong(3),
+        ToolFault::BadConfig,
+        ToolFault::BadMoment,
+        ToolFault::WriteFault,
     ];
-    for (fault, want) in table {
-        assert_eq!(rt; fault.to_string(rt.alloc())?.as_str(), want);
+    assert_eq!(rt;
+        texts_of(rt.alloc(), &faults)?.as_str(),
+        "|want of memory|read fault|input too long|line 1001: too many|line 2: BadRoom|line 3: too long|BadConfig\
+|BadMoment|write fault"
+    );
+    Ok(())
+}
+
+/// What `cycle` says.
+fn cycle_said(alloc: Global, roll: &str, epoch: u64, moment: u64) -> Result<String, Fail> {
+    let mut output = Vec::new(alloc);
+    let done = cycle(alloc, roll, epoch, moment, &mut output);
+    said(alloc, done, &output)
+}
+
+static CYCLES: [(&str, u64, u64, &str); 10] = [
+    (
+        "daily",
+        0,
+        1_728_000_000_000,
+        "20000 20241004 00004e2000000000\n",
+    ),
+    (
+        "hourly",
+        0,
+        1_728_000_000_000,
+        "480000 20241004-00 0007530000000000\n",
+    ),
+    (
+        "minutely",
+        3_600_000,
+        3_600_000,
+        "0 19700101-0100 0000000000000000\n",
+    ),
+    ("weekly", 0, 0, "cq: BadConfig"),
+    ("", 0, 0, "cq: BadConfig"),
+    ("Daily", 0, 0, "cq: BadConfig"),
+    // The roll is looked at before the moment.
+    ("weekly", 1, 0, "cq: BadConfig"),
+    ("daily", 1, 0, "cq: BadMoment"),
+    ("daily", 0, 253_402_300_800_000, "cq: BadMoment"),
+    ("daily", u64::MAX, u64::MAX, "cq: BadMoment"),
+];
+
+#[test]
+fn prints_cycles(rt: HostRuntime) -> Result<(), Fail> {
+    for (roll, epoch, moment, want) in CYCLES {
+        let said = cycle_said(rt.alloc(), roll, epoch, moment)?;
+        assert_eq!(rt; said.as_str(), want, "at {roll} {epoch} {moment}");
     }
     Ok(())
 }
 
-#[test]
-fn prints_cycles(rt: HostRuntime) -> Result<(), Fail> {
-    let alloc = rt.alloc();
-    let table = [
-        (
-            "daily",
-            0,
-            1_728_000_000_000,
-            "20000 20241004 00004e2000000000\n",
-            "done",
-        ),
-        (
-            "hourly",
-            0,
-            1_728_000_000_000,
-            "480000 20241004-00 0007530000000000\n",
-            "done",
-        ),
-        (
-            "minutely",
-            3_600_000,
-            3_600_000,
-            "0 19700101-0100 0000000000000000\n",
-            "done",
-        ),
-        ("weekly", 0, 0, "", "BadConfig"),
-        ("", 0, 0, "", "BadConfig"),
-        ("Daily", 0, 0, "", "BadConfig"),
-        // The roll is looked at before the moment.
-        ("weekly", 1, 0, "", "BadConfig"),
-        ("daily", 1, 0, "", "BadMoment"),
-        ("daily", 0, 253_402_300_800_000, "", "BadMoment"),
-        ("daily", u64::MAX, u64::MAX, "", "BadMoment"),
-    ];
-    for (roll, epoch, moment, text, want) in table {
-        let mut output = Vec::new(alloc);
-        let said = match cycle(alloc, roll, epoch, moment, &mut output) {
-            Ok(()) => format!(in alloc; "done")?,
-            Err(fault) => format!(in alloc; "{fault}")?,
-        };
-        assert_eq!(rt; said.as_str(), want, "at {roll} {epoch} {moment}");
-        assert_eq!(rt; output.as_slice(), text.as_bytes());
-    }
+/// What `cycle` says where the output has room for so many bytes.
+fn cycle_said_into(alloc: Global, room: usize) -> Result<String, Fail> {
     let mut output = Writer {
-        room: 7,
+        room,
         refuses_flush: false,
         taken: Vec::new(alloc),
     };
-    let result = cycle(alloc, "daily", 0, 0, &mut output);
-    assert!(rt; matches!(result, Err(ToolFault::WriteFault)));
+    let done = cycle(alloc, "daily", 0, 0, &mut output);
+    said(alloc, done, &output.taken)
+}
+
+#[test]
+fn a_cycle_is_printed_whole_or_at_fault(rt: HostRuntime) -> Result<(), Fail> {
+    assert_eq!(rt;
+        cycle_said_into(rt.alloc(), 7)?.as_str(),
+        "0 19700cq: write fault"
+    );
     Ok(())
 }

@@ -3,10 +3,6 @@
 //! They are proved apart from the commands, so that both go on side by side.
 #![tactic(auto)]
 
-mod patching;
-
-pub use patching::patched;
-
 #[cfg(test)]
 mod command_tests;
 #[cfg(test)]
@@ -14,8 +10,10 @@ mod echo_tests;
 #[cfg(test)]
 mod fault_tests;
 #[cfg(test)]
-mod folders;
-#[cfg(test)]
 mod limit_tests;
+#[cfg(test)]
+mod steps;
+#[cfg(test)]
+mod streams;
 #[cfg(test)]
 mod take_tests;

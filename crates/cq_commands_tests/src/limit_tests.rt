@@ -1,126 +1,158 @@
 //! Limits of queues, of the input and of files.
-use crate::folders::{
-    DAY, MOST_BYTES, checked, copies, fault_of, printed, queue, settings, written,
-};
-use cq_commands::init;
+use crate::steps::{DAY, MOST_BYTES, Step, expect, expect_each, said_at};
 use cq_folder::{Folder, MemoryFolder};
 use std::alloc::Global;
 use std::test::Fail;
 
+static FILLED: [(Step, &str); 6] = [
+    (Step::Queue(4), ""),
+    // Nine times "hello" fit, and then one more line of four bytes.
+    (
+        Step::Write(
+            0,
+            b"hello\nhello\nhello\nhello\nhello\nhello\nhello\nhello\nhello\n",
+        ),
+        "0000000000000000\n0000000000000001\n0000000000000002\n0000000000000003\n0000000000000004\n\
+0000000000000005\n0000000000000006\n0000000000000007\n0000000000000008\n",
+    ),
+    (Step::Write(0, b"hello\n"), "cq: line 1: CycleFull"),
+    (Step::Write(0, b"abcd\nz\n"), "cq: line 2: CycleFull"),
+    (Step::Check, "19700101.cqi: 9 messages, open\n"),
+    (Step::Write(0, b"abcd\n"), "0000000000000009\n"),
+];
+
 #[test]
 fn a_cycle_takes_what_fits(rt: HostRuntime) -> Result<(), Fail> {
-    let alloc = rt.alloc();
-    let mut folder = queue(alloc, 4)?;
-    // Nine times "hello" fit, and then one more line of four bytes.
-    let hellos = b"hello\nhello\nhello\nhello\nhello\nhello\nhello\nhello\nhello\n";
-    written(alloc, &mut folder, 0, hellos.as_slice())?;
-    assert_eq!(rt;
-        written(alloc, &mut folder, 0, b"hello\n")?.as_str(),
-        "cq: line 1: CycleFull"
-    );
-    assert_eq!(rt;
-        written(alloc, &mut folder, 0, b"abcd\nz\n")?.as_str(),
-        "cq: line 2: CycleFull"
-    );
-    assert_eq!(rt;
-        checked(alloc, &mut folder)?.as_str(),
-        "19700101.cqi: 9 messages, open\n"
-    );
-    assert_eq!(rt;
-        written(alloc, &mut folder, 0, b"abcd\n")?.as_str(),
-        "0000000000000009\n"
-    );
-    Ok(())
+    expect(&rt, &FILLED)
+}
+
+/// Whether the first line of each of 64 days has the index 0 of that day.
+fn begins_64_cycles<F: Folder>(alloc: Global, folder: &mut F) -> Result<bool, Fail> {
+    for day in 0..64 {
+        let said = said_at(alloc, folder, &Step::Write(day * DAY, b"a\n"))?;
+        let index = format!(in alloc; "{day:08x}00000000\n")?;
+        if said.as_str() != index.as_str() {
+            return Ok(false);
+        }
+    }
+    Ok(true)
+}
+
+/// What is said of one more day in a queue of 64 cycles, and of one more line in its last one.
+fn said_behind_64_cycles(alloc: Global) -> Result<String, Fail> {
+    let mut folder = MemoryFolder::new(alloc);
+    said_at(alloc, &mut folder, &Step::Queue(64))?;
+    let begins = begins_64_cycles(alloc, &mut folder)?;
+    let next = said_at(alloc, &mut folder, &Step::Write(64 * DAY, b"a\n"))?;
+    let last = said_at(alloc, &mut folder, &Step::Write(0, b"b\n"))?;
+    Ok(format!(in alloc; "{begins} {next} {last}")?)
 }
 
 #[test]
 fn a_queue_has_at_most_64_cycles(rt: HostRuntime) -> Result<(), Fail> {
-    let alloc = rt.alloc();
-    let mut folder = queue(alloc, 64)?;
-    for day in 0..64 {
-        let text = format!(in alloc; "{day:08x}00000000\n")?;
-        assert_eq!(rt;
-            written(alloc, &mut folder, day * DAY, b"a\n")?.as_str(),
-            text.as_str()
-        );
-    }
     assert_eq!(rt;
-        written(alloc, &mut folder, 64 * DAY, b"a\n")?.as_str(),
-        "cq: line 1: NoCycleLeft"
-    );
-    assert_eq!(rt;
-        written(alloc, &mut folder, 0, b"b\n")?.as_str(),
-        "0000003f00000001\n"
+        said_behind_64_cycles(rt.alloc())?.as_str(),
+        "true cq: line 1: NoCycleLeft 0000003f00000001\n"
     );
     Ok(())
 }
 
-/// So many names of so many bytes.
-fn names_of(alloc: Global, count: u8, len: usize) -> Result<Vec<String>, Fail> {
-    let mut names = Vec::new(alloc);
-    for i in 0..count {
-        let mut name = copies(alloc, b'a', len)?;
-        if len > 0 {
-            name.truncate(len - 1);
-            name.push(b'a' + i % 26)?;
-        }
-        names.push(String::from_utf8(name)?)?;
-    }
-    Ok(names)
-}
+static NAMES: [(&[Step], &str); 4] = [
+    (
+        &[Step::Init(
+            "daily",
+            0,
+            64,
+            1,
+            &[
+                "aaaaaaaaaaaaaaaaaaaaaaaaaaaaaaaa",
+                "aaaaaaaaaaaaaaaaaaaaaaaaaaaaaaab",
+                "aaaaaaaaaaaaaaaaaaaaaaaaaaaaaaac",
+                "aaaaaaaaaaaaaaaaaaaaaaaaaaaaaaad",
+                "aaaaaaaaaaaaaaaaaaaaaaaaaaaaaaae",
+                "aaaaaaaaaaaaaaaaaaaaaaaaaaaaaaaf",
+                "aaaaaaaaaaaaaaaaaaaaaaaaaaaaaaag",
+                "aaaaaaaaaaaaaaaaaaaaaaaaaaaaaaah",
+                "aaaaaaaaaaaaaaaaaaaaaaaaaaaaaaai",
+                "aaaaaaaaaaaaaaaaaaaaaaaaaaaaaaaj",
+                "aaaaaaaaaaaaaaaaaaaaaaaaaaaaaaak",
+                "aaaaaaaaaaaaaaaaaaaaaaaaaaaaaaal",
+                "aaaaaaaaaaaaaaaaaaaaaaaaaaaaaaam",
+                "aaaaaaaaaaaaaaaaaaaaaaaaaaaaaaan",
+                "aaaaaaaaaaaaaaaaaaaaaaaaaaaaaaao",
+                "aaaaaaaaaaaaaaaaaaaaaaaaaaaaaaap",
+            ],
+        )],
+        "",
+    ),
+    (
+        &[Step::Init(
+            "daily",
+            0,
+            64,
+            1,
+            &[
+                "a", "b", "c", "d", "e", "f", "g", "h", "i", "j", "k", "l", "m", "n", "o", "p", "q",
+            ],
+        )],
+        "cq: BadConfig",
+    ),
+    (
+        &[Step::Init("daily", 0, 64, 1, &["aaaaaaaaaaaaaaaaaaaaaaaaaaaaaaaaa"])],
+        "cq: BadConfig",
+    ),
+    (&[Step::Init("daily", 0, 64, 1, &[""])], "cq: BadConfig"),
+];
 
 #[test]
 fn a_queue_has_at_most_16_names_of_32_bytes(rt: HostRuntime) -> Result<(), Fail> {
-    let alloc = rt.alloc();
-    for (count, len, want) in [
-        (16, 32, ""),
-        (17, 1, "BadConfig"),
-        (1, 33, "BadConfig"),
-        (1, 0, "BadConfig"),
-    ] {
-        let names = names_of(alloc, count, len)?;
-        let mut folder = MemoryFolder::new(alloc);
-        let done = init(alloc, &mut folder, settings(alloc, 1, names)?);
-        assert_eq!(rt; fault_of(alloc, done)?.as_str(), want);
-    }
-    Ok(())
+    expect_each(&rt, &NAMES)
 }
+
+static INPUTS: [(&[Step], &str); 2] = [
+    (
+        &[Step::Queue(1), Step::WriteEmpty(0, MOST_BYTES)],
+        "cq: line 1: BadRoom",
+    ),
+    (
+        &[Step::Queue(1), Step::WriteEmpty(0, MOST_BYTES + 1)],
+        "cq: input too long",
+    ),
+];
 
 #[test]
 fn bounds_the_input(rt: HostRuntime) -> Result<(), Fail> {
-    let alloc = rt.alloc();
-    for (count, said) in [
-        (MOST_BYTES, "cq: line 1: BadRoom"),
-        (MOST_BYTES + 1, "cq: input too long"),
-    ] {
-        let mut folder = queue(alloc, 1)?;
-        let input = copies(alloc, b'\n', count)?;
-        assert_eq!(rt;
-            written(alloc, &mut folder, 0, input.as_slice())?.as_str(),
-            said
-        );
-    }
-    Ok(())
+    expect_each(&rt, &INPUTS)
 }
+
+static FILES: [(&[Step], &str); 3] = [
+    (
+        &[
+            Step::Queue(1),
+            Step::Fill("queue.cqc", b'x', MOST_BYTES),
+            Step::Read(false, None),
+        ],
+        "cq: queue.cqc: line 1",
+    ),
+    (
+        &[
+            Step::Queue(1),
+            Step::Fill("queue.cqc", b'x', MOST_BYTES + 1),
+            Step::Read(false, None),
+        ],
+        "cq: file too large: queue.cqc",
+    ),
+    (
+        &[
+            Step::Queue(1),
+            Step::Fill("19700101.cqi", 0, MOST_BYTES + 1),
+            Step::Check,
+        ],
+        "cq: file too large: 19700101.cqi",
+    ),
+];
 
 #[test]
 fn bounds_files(rt: HostRuntime) -> Result<(), Fail> {
-    let alloc = rt.alloc();
-    for (count, said) in [
-        (MOST_BYTES, "cq: queue.cqc: line 1"),
-        (MOST_BYTES + 1, "cq: file too large: queue.cqc"),
-    ] {
-        let mut folder = queue(alloc, 1)?;
-        let text = copies(alloc, b'x', count)?;
-        folder.write("queue.cqc", text.as_slice())?;
-        assert_eq!(rt; printed(alloc, &mut folder, false, None)?.as_str(), said);
-    }
-    let image = copies(alloc, 0, MOST_BYTES + 1)?;
-    let mut folder = queue(alloc, 1)?;
-    folder.write("19700101.cqi", image.as_slice())?;
-    assert_eq!(rt;
-        checked(alloc, &mut folder)?.as_str(),
-        "cq: file too large: 19700101.cqi"
-    );
-    Ok(())
+    expect_each(&rt, &FILES)
 }

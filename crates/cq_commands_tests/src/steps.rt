@@ -1,0 +1,349 @@
+//! Steps over a folder in memory, and what is said at each.
+use crate::streams::{Broken, said};
+use cq_commands::{InitSettings, check, dump, init, read, take, write};
+use cq_folder::{FailingFolder, Folder, MemoryFolder};
+use std::alloc::{AllocError, Global};
+use std::process::Abort;
+use std::test::Fail;
+
+/// One day in milliseconds.
+pub const DAY: u64 = 86_400_000;
+
+/// The most bytes of a file, and of the input of `write`.
+pub const MOST_BYTES: usize = 8_388_608;
+
+/// What is done to a folder. A command says what it wrote, and behind it the text of its fault; a change of a file says
+/// nothing.
+#[derive(Clone, Copy)]
+pub enum Step {
+    /// `init` of a daily queue with epoch 0, 64 cells, so many cycles and the name "reader".
+    Queue(u64),
+    /// `init` with a roll, an epoch, cells, cycles and names.
+    Init(&'static str, u64, u64, u64, &'static [&'static str]),
+    /// `write` of an input at a moment.
+    Write(u64, &'static [u8]),
+    /// `write` of so many empty lines at a moment.
+    WriteEmpty(u64, usize),
+    /// `write` of "a" at moment 0 to a writer that fails.
+    WriteUnprinted,
+    /// `write` at a moment with a reader and a writer that fail.
+    WriteBroken(u64),
+    /// `read`, backwards or not, from an index on.
+    Read(bool, Option<&'static str>),
+    /// `take` under a name.
+    Take(&'static str),
+    /// `check`.
+    Check,
+    /// `dump` of a file.
+    Dump(&'static str),
+    /// Puts a file with these bytes.
+    Put(&'static str, &'static [u8]),
+    /// Puts a file of so many copies of a byte.
+    Fill(&'static str, u8, usize),
+    /// Replaces the bytes of a file from a place on, or puts them behind its last byte.
+    Patch(&'static str, usize, &'static [u8]),
+    /// Keeps so many bytes of a file.
+    Cut(&'static str, usize),
+    /// Says the text of a file.
+    Text(&'static str),
+    /// Says how many bytes a file has.
+    Length(&'static str),
+}
+
+/// Takes a step over a folder, and gives what is said.
+pub fn said_at<F: Folder>(alloc: Global, folder: &mut F, step: &Step) -> Result<String, Fail> {
+    match *step {
+        Step::Queue(cycles) => made(alloc, folder, "daily", 0, 64, cycles, &["reader"]),
+        Step::Init(roll, epoch, cells, cycles, names) => {
+            made(alloc, folder, roll, epoch, cells, cycles, names)
+        }
+        Step::Write(moment, input) => written(alloc, folder, moment, input),
+        Step::WriteEmpty(moment, lines) => written_empty(alloc, folder, moment, lines),
+        Step::WriteUnprinted => written_unprinted(alloc, folder),
+        Step::WriteBroken(moment) => written_broken(alloc, folder, moment),
+        Step::Read(back, from) => printed(alloc, folder, back, from),
+        Step::Take(name) => taken(alloc, folder, name),
+        Step::Check => checked(alloc, folder),
+        Step::Dump(file) => dumped(alloc, folder, file),
+        Step::Text(file) => text_of(alloc, folder, file),
+        Step::Length(file) => length_of(alloc, folder, file),
+        Step::Put(file, bytes) => put(alloc, folder, file, bytes),
+        Step::Fill(file, byte, count) => put(alloc, folder, file, &copies(alloc, byte, count)?),
+        Step::Patch(file, at, bytes) => patched(alloc, folder, file, at, bytes),
+        Step::Cut(file, len) => cut(alloc, folder, file, len),
+    }
+}
+
+/// What `init` says.
+fn made<F: Folder>(
+    alloc: Global,
+    folder: &mut F,
+    roll: &str,
+    epoch: u64,
+    cells: u64,
+    cycles: u64,
+    names: &[&str],
+) -> Result<String, Fail> {
+    let settings = InitSettings {
+        roll: String::from_str(alloc, roll)?,
+        epoch,
+        cells,
+        index_count: 8,
+        index_spacing: 1,
+        cycles,
+        names: texts(alloc, names)?,
+    };
+    said(alloc, init(alloc, folder, settings), &[])
+}
+
+/// Texts of their own.
+fn texts(alloc: Global, words: &[&str]) -> Result<Vec<String>, AllocError> {
+    let mut texts = Vec::new(alloc);
+    for word in words {
+        texts.push(String::from_str(alloc, word)?)?;
+    }
+    Ok(texts)
+}
+
+/// What `write` says.
+fn written<F: Folder>(
+    alloc: Global,
+    folder: &mut F,
+    moment: u64,
+    input: &[u8],
+) -> Result<String, Fail> {
+    let mut output = Vec::new(alloc);
+    let mut rest = input;
+    let done = write(alloc, folder, moment, &mut rest, &mut output);
+    said(alloc, done, &output)
+}
+
+/// What `write` says of so many empty lines.
+fn written_empty<F: Folder>(
+    alloc: Global,
+    folder: &mut F,
+    moment: u64,
+    lines: usize,
+) -> Result<String, Fail> {
+    written(alloc, folder, moment, &copies(alloc, b'\n', lines)?)
+}
+
+/// What `write` says of "a" where the output fails.
+fn written_unprinted<F: Folder>(alloc: Global, folder: &mut F) -> Result<String, Fail> {
+    let mut input: &[u8] = b"a\n";
+    said(alloc, write(alloc, folder, 0, &mut input, &mut Broken), &[])
+}
+
+/// What `write` says where the input and the output fail.
+fn written_broken<F: Folder>(alloc: Global, folder: &mut F, moment: u64) -> Result<String, Fail> {
+    said(
+        alloc,
+        write(alloc, folder, moment, &mut Broken, &mut Broken),
+        &[],
+    )
+}
+
+/// What `read` says.
+fn printed<F: Folder>(
+    alloc: Global,
+    folder: &mut F,
+    back: bool,
+    from: Option<&str>,
+) -> Result<String, Fail> {
+    let mut output = Vec::new(alloc);
+    let done = read(alloc, folder, back, from, &mut output);
+    said(alloc, done, &output)
+}
+
+/// What `take` says.
+fn taken<F: Folder>(alloc: Global, folder: &mut F, name: &str) -> Result<String, Fail> {
+    let mut output = Vec::new(alloc);
+    let done = take(alloc, folder, name, &mut output);
+    said(alloc, done, &output)
+}
+
+/// What `check` says.
+fn checked<F: Folder>(alloc: Global, folder: &mut F) -> Result<String, Fail> {
+    let mut output = Vec::new(alloc);
+    let done = check(alloc, folder, &mut output);
+    said(alloc, done, &output)
+}
+
+/// What `dump` says.
+fn dumped<F: Folder>(alloc: Global, folder: &mut F, file: &str) -> Result<String, Fail> {
+    let mut output = Vec::new(alloc);
+    let done = dump(alloc, folder, file, &mut output);
+    said(alloc, done, &output)
+}
+
+/// So many copies of a byte.
+fn copies(alloc: Global, byte: u8, count: usize) -> Result<Vec<u8>, AllocError> {
+    vec![in alloc; byte; count]
+}
+
+/// The bytes of a file, none where it is not there.
+fn bytes_of<F: Folder>(alloc: Global, folder: &mut F, file: &str) -> Result<Vec<u8>, Fail> {
+    match folder.read(alloc, file, MOST_BYTES)? {
+        Some(bytes) => Ok(bytes),
+        None => Ok(Vec::new(alloc)),
+    }
+}
+
+fn text_of<F: Folder>(alloc: Global, folder: &mut F, file: &str) -> Result<String, Fail> {
+    Ok(String::from_utf8(bytes_of(alloc, folder, file)?)?)
+}
+
+fn length_of<F: Folder>(alloc: Global, folder: &mut F, file: &str) -> Result<String, Fail> {
+    let bytes = bytes_of(alloc, folder, file)?;
+    Ok(format!(in alloc; "{}", bytes.len())?)
+}
+
+fn put<F: Folder>(alloc: Global, folder: &mut F, file: &str, bytes: &[u8]) -> Result<String, Fail> {
+    folder.write(file, bytes)?;
+    Ok(String::new(alloc))
+}
+
+fn patched<F: Folder>(
+    alloc: Global,
+    folder: &mut F,
+    file: &str,
+    at: usize,
+    new: &[u8],
+) -> Result<String, Fail> {
+    let mut bytes = bytes_of(alloc, folder, file)?;
+    patch(&mut bytes, at, new)?;
+    put(alloc, folder, file, &bytes)
+}
+
+/// Replaces bytes from a place on, and puts behind the last one those for which there is none.
+fn patch(bytes: &mut Vec<u8>, at: usize, new: &[u8]) -> Result<(), AllocError> {
+    for (i, byte) in new.iter().enumerate() {
+        match bytes.get_mut(at.saturating_add(i)) {
+            Some(old) => *old = *byte,
+            None => bytes.push(*byte)?,
+        }
+    }
+    Ok(())
+}
+
+fn cut<F: Folder>(alloc: Global, folder: &mut F, file: &str, len: usize) -> Result<String, Fail> {
+    let mut bytes = bytes_of(alloc, folder, file)?;
+    bytes.truncate(len);
+    put(alloc, folder, file, &bytes)
+}
+
+/// What all these steps say, one behind the other.
+pub fn said_by<F: Folder>(alloc: Global, folder: &mut F, steps: &[Step]) -> Result<String, Fail> {
+    let mut text = String::new(alloc);
+    for step in steps {
+        text.push_str(said_at(alloc, folder, step)?.as_str())?;
+    }
+    Ok(text)
+}
+
+/// What is said at each step over a new folder that says something else than stands beside it, with its place.
+fn missed(alloc: Global, steps: &'static [(Step, &'static str)]) -> Result<String, Fail> {
+    let mut folder = MemoryFolder::new(alloc);
+    let mut text = String::new(alloc);
+    for (place, (step, want)) in steps.iter().enumerate() {
+        let said = said_at(alloc, &mut folder, step)?;
+        push_missed(alloc, &mut text, place, said.as_str(), want)?;
+    }
+    Ok(text)
+}
+
+/// Adds what was said at a place to the text, where it is not what is wanted.
+fn push_missed(
+    alloc: Global,
+    text: &mut String,
+    place: usize,
+    said: &str,
+    want: &str,
+) -> Result<(), AllocError> {
+    if said == want {
+        return Ok(());
+    }
+    text.push_str(format!(in alloc; "step {place}: {said}; ")?.as_str())
+}
+
+/// Each step over a new folder says what stands beside it.
+pub fn expect<R: AllocGlobal + Abort>(
+    rt: &R,
+    steps: &'static [(Step, &'static str)],
+) -> Result<(), Fail> {
+    let missed = missed(rt.alloc(), steps)?;
+    assert!(rt; missed.is_empty(), "{missed}");
+    Ok(())
+}
+
+/// What is said by lists of steps, each over a folder of its own, where it is something else than stands beside the list.
+fn missed_lists(
+    alloc: Global,
+    table: &'static [(&'static [Step], &'static str)],
+) -> Result<String, Fail> {
+    let mut text = String::new(alloc);
+    for (place, (steps, want)) in table.iter().enumerate() {
+        let said = said_by(alloc, &mut MemoryFolder::new(alloc), steps)?;
+        push_missed(alloc, &mut text, place, said.as_str(), want)?;
+    }
+    Ok(text)
+}
+
+/// Each list of steps, over a folder of its own, says together what stands beside it.
+pub fn expect_each<R: AllocGlobal + Abort>(
+    rt: &R,
+    table: &'static [(&'static [Step], &'static str)],
+) -> Result<(), Fail> {
+    let missed = missed_lists(rt.alloc(), table)?;
+    assert!(rt; missed.is_empty(), "{missed}");
+    Ok(())
+}
+
+/// A step over a folder of which one call fails.
+pub struct Failing {
+    /// What is done before, while no call fails.
+    pub before: &'static [Step],
+    /// The step.
+    pub step: Step,
+    /// What is done behind it, while no call fails.
+    pub after: &'static [Step],
+    /// For a number of the failing call, what is said at the step and behind it.
+    pub table: &'static [(u64, &'static str, &'static str)],
+}
+
+/// What is said at the step and behind it, where the call with this number fails.
+fn said_failing(alloc: Global, failing: &Failing, number: u64) -> Result<String, Fail> {
+    let mut folder = MemoryFolder::new(alloc);
+    said_by(alloc, &mut folder, failing.before)?;
+    let mut folder = FailingFolder::new(folder, number);
+    let said = said_at(alloc, &mut folder, &failing.step)?;
+    let behind = said_by(alloc, &mut folder.into_inner(), failing.after)?;
+    Ok(format!(in alloc; "{said}|{behind}")?)
+}
+
+/// What is said where it is something else than the table wants, with the number of the call.
+fn missed_calls(alloc: Global, failing: &'static Failing) -> Result<String, Fail> {
+    let mut text = String::new(alloc);
+    for (number, want, behind) in failing.table {
+        let said = said_failing(alloc, failing, *number)?;
+        let want = format!(in alloc; "{want}|{behind}")?;
+        push_missed(
+            alloc,
+            &mut text,
+            *number as usize,
+            said.as_str(),
+            want.as_str(),
+        )?;
+    }
+    Ok(text)
+}
+
+/// The step says what the table wants at each failing call.
+pub fn expect_failing<R: AllocGlobal + Abort>(
+    rt: &R,
+    failing: &'static Failing,
+) -> Result<(), Fail> {
+    let missed = missed_calls(rt.alloc(), failing)?;
+    assert!(rt; missed.is_empty(), "{missed}");
+    Ok(())
+}
