@@ -1,6 +1,7 @@
 //! The text of the file `queue.cqc`.
 use crate::settings::settings_text;
-use cq_folder::{read_config, write_config};
+use crate::wanted::{expect, expect_text};
+use cq_folder::{SavedConfig, read_config, write_config};
 use std::alloc::{AllocError, Global};
 use std::test::Fail;
 
@@ -19,30 +20,36 @@ fn answer_of(alloc: Global, text: &str) -> Result<String, AllocError> {
     }
 }
 
-/// Reads the texts of a table, each of which begins with this head. Says the rest of each that is answered otherwise than
-/// the table wants, and the answer.
-fn misses(alloc: Global, head: &str, table: &[(&str, &str)]) -> Result<String, AllocError> {
-    let mut missed = String::new(alloc);
-    for (rest, want) in table {
-        let text = format!(in alloc; "{head}{rest}")?;
-        let answer = answer_of(alloc, text.as_str())?;
-        if answer.as_str() != *want {
-            missed.push_str(format!(in alloc; "{rest:?}: {answer}; ")?.as_str())?;
-        }
-    }
-    Ok(missed)
+/// What reading a text of two parts answers, as a text.
+fn answer_of_parts(alloc: Global, head: &str, rest: &str) -> Result<String, AllocError> {
+    let text = format!(in alloc; "{head}{rest}")?;
+    answer_of(alloc, text.as_str())
 }
 
-/// What a text says, and whether the same text is written from that.
-fn written_again(alloc: Global, text: &str) -> Result<(String, bool), Fail> {
-    let saved = read_config(alloc, text.as_bytes())?;
+/// Reads the texts of a table, each of which begins with this head, and fails at the first that is answered otherwise than
+/// the table wants.
+fn expect_answers(alloc: Global, head: &str, table: &[(&str, &str)]) -> Result<(), Fail> {
+    for (rest, want) in table {
+        expect_text(answer_of_parts(alloc, head, rest)?, want)?;
+    }
+    Ok(())
+}
+
+/// Whether the same text is written from what a text says, which has a position for each name.
+fn is_written_again(alloc: Global, text: &str, saved: &SavedConfig) -> Result<bool, AllocError> {
     if saved.positions.len() != saved.config.names().len() {
-        return Err(Fail::from("a position for each name"));
+        return Ok(false);
     }
     let written = write_config(alloc, &saved.config, saved.positions.as_slice())?;
+    Ok(written.as_slice() == text.as_bytes())
+}
+
+/// What a text says that is written again from that.
+fn written_again(alloc: Global, text: &str) -> Result<String, Fail> {
+    let saved = read_config(alloc, text.as_bytes())?;
+    expect(is_written_again(alloc, text, &saved)?, text)?;
     let settings = settings_text(alloc, &saved.config)?;
-    let said = format!(in alloc; "{settings} at {:?}", saved.positions.as_slice())?;
-    Ok((said, written.as_slice() == text.as_bytes()))
+    Ok(format!(in alloc; "{settings} at {:?}", saved.positions.as_slice())?)
 }
 
 /// Texts, each beside what it says.
@@ -62,9 +69,7 @@ static TEXTS: [(&str, &str); 2] = [
 #[test]
 fn a_text_is_read_and_written_again(rt: HostRuntime) -> Result<(), Fail> {
     for &(text, want) in &TEXTS {
-        let (said, is_same) = written_again(rt.alloc(), text)?;
-        assert_eq!(rt; said.as_str(), want);
-        assert!(rt; is_same, "{want}");
+        expect_text(written_again(rt.alloc(), text)?, want)?;
     }
     Ok(())
 }
@@ -128,9 +133,7 @@ static FAULTY_LINES: [(&str, &str); 29] = [
 
 #[test]
 fn the_faulty_line_is_named(rt: HostRuntime) -> Result<(), Fail> {
-    let missed = misses(rt.alloc(), "", &FAULTY_LINES)?;
-    assert_eq!(rt; missed.as_str(), "");
-    Ok(())
+    expect_answers(rt.alloc(), "", &FAULTY_LINES)
 }
 
 /// Lines of names, each beside what reading them answers.
@@ -157,9 +160,7 @@ static FAULTY_NAMES: [(&str, &str); 17] = [
 
 #[test]
 fn the_faulty_name_is_named(rt: HostRuntime) -> Result<(), Fail> {
-    let missed = misses(rt.alloc(), HEAD, &FAULTY_NAMES)?;
-    assert_eq!(rt; missed.as_str(), "");
-    Ok(())
+    expect_answers(rt.alloc(), HEAD, &FAULTY_NAMES)
 }
 
 /// Lines behind those of the roll, each beside what reading them answers.
@@ -221,40 +222,41 @@ static LIMITS: [(&str, &str); 13] = [
 
 #[test]
 fn limits_are_told_apart(rt: HostRuntime) -> Result<(), Fail> {
-    let missed = misses(rt.alloc(), "cq 1\nroll hourly\n", &LIMITS)?;
-    assert_eq!(rt; missed.as_str(), "");
-    Ok(())
+    expect_answers(rt.alloc(), "cq 1\nroll hourly\n", &LIMITS)
 }
 
-/// A text with so many names, each of so many letters, the first of which tell the names apart.
-fn text_of_names(alloc: Global, count: u8, len: usize) -> Result<String, AllocError> {
-    let mut text = String::from_str(alloc, HEAD)?;
+/// The lines of so many names, each of a letter of its own, up to 26, and these behind it.
+fn lines_of_names(alloc: Global, count: u8, letters: &str) -> Result<String, AllocError> {
+    let mut text = String::new(alloc);
     for i in 0..count {
-        text.push_str("name ")?;
-        text.push(char::from(b'a' + i % 26))?;
-        for _ in 1..len {
-            text.push('n')?;
-        }
-        text.push_str(" 5\n")?;
+        let first = char::from(b'a' + i % 26);
+        write!(text, "name {first}{letters} 5\n")?;
     }
     Ok(text)
 }
 
-/// Numbers of names and their letters, each beside what reading such a text answers.
-static NAMES: [(u8, usize, &str); 5] = [
-    (1, 32, "1 names, 1 positions"),
-    (1, 33, "BadConfig"),
-    (16, 32, "16 names, 16 positions"),
-    (17, 1, "BadConfig"),
-    (27, 1, "BadConfig"),
+/// What reading the lines of so many names answers.
+fn answer_of_names(alloc: Global, count: u8, letters: &str) -> Result<String, AllocError> {
+    let lines = lines_of_names(alloc, count, letters)?;
+    answer_of_parts(alloc, HEAD, lines.as_str())
+}
+
+/// The letters of a name of 32 letters behind the first one.
+const LONGEST: &str = "nnnnnnnnnnnnnnnnnnnnnnnnnnnnnnn";
+
+/// Numbers of names and their letters behind the first one, each beside what reading such a text answers.
+static NAMES: [(u8, &str, &str); 5] = [
+    (1, LONGEST, "1 names, 1 positions"),
+    (1, "nnnnnnnnnnnnnnnnnnnnnnnnnnnnnnnn", "BadConfig"),
+    (16, LONGEST, "16 names, 16 positions"),
+    (17, "", "BadConfig"),
+    (27, "", "BadConfig"),
 ];
 
 #[test]
 fn names_have_limits(rt: HostRuntime) -> Result<(), Fail> {
-    for &(count, len, want) in &NAMES {
-        let text = text_of_names(rt.alloc(), count, len)?;
-        let answer = answer_of(rt.alloc(), text.as_str())?;
-        assert_eq!(rt; answer.as_str(), want, "{count} of {len}");
+    for &(count, letters, want) in &NAMES {
+        expect_text(answer_of_names(rt.alloc(), count, letters)?, want)?;
     }
     Ok(())
 }

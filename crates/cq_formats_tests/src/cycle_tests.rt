@@ -1,4 +1,5 @@
 //! Roll cycles, their names, and indexes.
+use crate::wanted::{expect, expect_row, expect_text};
 use cq_cycle::{
     BadMoment, Index, LAST_MOMENT, NameFault, Roll, cycle_named, cycle_of, has_cycle, name_of,
     roll_named,
@@ -32,14 +33,11 @@ static CYCLES: [(Roll, u64, u64, Result<u32, BadMoment>); 15] = [
 ];
 
 #[test]
-fn tells_the_cycle_of_a_moment(rt: HostRuntime) {
+fn tells_the_cycle_of_a_moment() -> Result<(), Fail> {
     for &(roll, epoch, moment, want) in &CYCLES {
-        assert_eq!(rt;
-            cycle_of(roll, epoch, moment),
-            want,
-            "{roll:?} from {epoch} at {moment}"
-        );
+        expect_row(cycle_of(roll, epoch, moment) == want, moment)?;
     }
+    Ok(())
 }
 
 /// Rolls, epochs and cycles, each beside whether there is such a cycle.
@@ -60,14 +58,11 @@ static KNOWN: [(Roll, u64, u32, bool); 13] = [
 ];
 
 #[test]
-fn knows_which_cycles_there_are(rt: HostRuntime) {
+fn knows_which_cycles_there_are() -> Result<(), Fail> {
     for &(roll, epoch, cycle, want) in &KNOWN {
-        assert_eq!(rt;
-            has_cycle(roll, epoch, cycle),
-            want,
-            "{roll:?} from {epoch}, cycle {cycle}"
-        );
+        expect_row(has_cycle(roll, epoch, cycle) == want, u64::from(cycle))?;
     }
+    Ok(())
 }
 
 /// Whether there is this cycle, and it has this name, which is that of no other.
@@ -109,7 +104,7 @@ static NAMES: [(Roll, u64, u32, &str); 17] = [
 #[test]
 fn names_cycles_and_finds_them(rt: HostRuntime) -> Result<(), Fail> {
     for &(roll, epoch, cycle, want) in &NAMES {
-        assert!(rt; is_named(rt.alloc(), roll, epoch, cycle, want)?, "{want}");
+        expect(is_named(rt.alloc(), roll, epoch, cycle, want)?, want)?;
     }
     Ok(())
 }
@@ -160,14 +155,14 @@ static NO_NAMES: [(Roll, u64, &str); 35] = [
 ];
 
 #[test]
-fn refuses_names_of_no_cycle(rt: HostRuntime) {
+fn refuses_names_of_no_cycle() -> Result<(), Fail> {
     for &(roll, epoch, name) in &NO_NAMES {
-        assert_eq!(rt;
-            cycle_named(roll, epoch, name),
-            Err(NameFault::BadName),
-            "{name:?} of {roll:?}"
-        );
+        expect(
+            cycle_named(roll, epoch, name) == Err(NameFault::BadName),
+            name,
+        )?;
     }
+    Ok(())
 }
 
 /// An index of these as text: its value, its cycle and its sequence, and what it prints, if it is the one of its value.
@@ -195,8 +190,7 @@ static INDEXES: [(u32, u32, &str); 4] = [
 #[test]
 fn joins_and_splits_indexes(rt: HostRuntime) -> Result<(), Fail> {
     for &(cycle, sequence, want) in &INDEXES {
-        let text = index_text(rt.alloc(), cycle, sequence)?;
-        assert_eq!(rt; text.as_str(), want);
+        expect_text(index_text(rt.alloc(), cycle, sequence)?, want)?;
     }
     Ok(())
 }
@@ -215,8 +209,9 @@ static WORDS: [(&str, Option<Roll>); 9] = [
 ];
 
 #[test]
-fn words_name_rolls(rt: HostRuntime) {
+fn words_name_rolls() -> Result<(), Fail> {
     for &(word, want) in &WORDS {
-        assert_eq!(rt; roll_named(word), want, "{word:?}");
+        expect(roll_named(word) == want, word)?;
     }
+    Ok(())
 }

@@ -1,4 +1,5 @@
 //! Folders and their files.
+use crate::wanted::{expect, expect_text};
 use cq_folder::{FailingFolder, Folder, FolderFault, MemoryFolder, RealFolder};
 use std::alloc::{AllocError, Global};
 use std::rt::Files;
@@ -55,11 +56,21 @@ fn files_text<F: Folder>(alloc: Global, folder: &mut F) -> Result<String, Fail> 
 
 #[test]
 fn a_folder_in_memory_keeps_its_files(rt: HostRuntime) -> Result<(), Fail> {
-    let mut folder = two_files(rt.alloc())?;
-    assert_eq!(rt; files_text(rt.alloc(), &mut folder)?.as_str(), TWO_FILES);
-    assert_eq!(rt; read_text(rt.alloc(), &mut folder, "", 9)?.as_str(), "none");
-    assert_eq!(rt; folder.failures(), 0);
-    Ok(())
+    expect_text(memory_text(rt.alloc())?, TWO_FILES)?;
+    expect_text(nameless_text(rt.alloc())?, "none, 0 failed")
+}
+
+/// What `files_text` says of a folder in memory.
+fn memory_text(alloc: Global) -> Result<String, Fail> {
+    let mut folder = two_files(alloc)?;
+    files_text(alloc, &mut folder)
+}
+
+/// What a folder in memory answers to a read of a file without a name, and how many calls failed, as text.
+fn nameless_text(alloc: Global) -> Result<String, Fail> {
+    let mut folder = two_files(alloc)?;
+    let read = read_text(alloc, &mut folder, "", 9)?;
+    Ok(format!(in alloc; "{read}, {} failed", folder.failures())?)
 }
 
 /// What the calls of a folder answer of which the one with this number fails, how many failed, and what `a` holds then, as
@@ -86,8 +97,7 @@ static FAILURES: [(u64, &str); 5] = [
 #[test]
 fn each_call_can_fail_once(rt: HostRuntime) -> Result<(), Fail> {
     for &(number, want) in &FAILURES {
-        let text = failing_text(rt.alloc(), number)?;
-        assert_eq!(rt; text.as_str(), want, "{number}");
+        expect_text(failing_text(rt.alloc(), number)?, want)?;
     }
     Ok(())
 }
@@ -101,11 +111,18 @@ fn a_real_folder_keeps_its_files(rt: HostRuntime) -> Result<(), Fail> {
         within.display(),
         process::id(rt.process())
     )?;
-    fs::create_dir(&rt, path.as_str())?;
-    assert_eq!(rt; names_count(&rt, path.as_str())?, 0);
-    assert_eq!(rt; kept_text(&rt, path.as_str())?.as_str(), TWO_FILES);
-    fs::remove_dir_all(&rt, path.as_str())?;
-    Ok(())
+    keeps_files(&rt, path.as_str())
+}
+
+/// Makes an empty folder at a path, fills it, and takes it away again.
+fn keeps_files<R>(rt: &R, path: &str) -> Result<(), Fail>
+where
+    R: Files + AllocGlobal + Clone + Drop,
+{
+    fs::create_dir(rt, path)?;
+    expect(names_count(rt, path)? == 0, "a new folder has no files")?;
+    expect_text(kept_text(rt, path)?, TWO_FILES)?;
+    Ok(fs::remove_dir_all(rt, path)?)
 }
 
 /// How many files there are in the folder at a path.
@@ -134,13 +151,19 @@ where
 
 #[test]
 fn a_missing_folder_is_a_device_fault(rt: HostRuntime) -> Result<(), Fail> {
-    let alloc = rt.alloc();
-    let mut folder = RealFolder::new(&rt, String::from_str(alloc, "/no/such/folder")?);
-    assert_eq!(rt; folder.names(alloc).is_ok(), false);
-    assert_eq!(rt;
-        folder.write("a", b"abc".as_slice()),
-        Err(FolderFault::Device)
-    );
-    assert_eq!(rt; folder.failures(), 2);
-    Ok(())
+    let text = missing_text(&rt, "/no/such/folder")?;
+    expect_text(text, "false, Err(Device), 2 failed")
+}
+
+/// Whether the names of the files of a folder that is missing are known, what a write answers, and how many calls failed, as
+/// text.
+fn missing_text<R>(rt: &R, path: &str) -> Result<String, Fail>
+where
+    R: Files + AllocGlobal + Clone + Drop,
+{
+    let mut folder = RealFolder::new(rt, String::from_str(rt.alloc(), path)?);
+    let names = folder.names(rt.alloc()).is_ok();
+    let write = folder.write("a", b"abc".as_slice());
+    let failures = folder.failures();
+    Ok(format!(in rt.alloc(); "{names}, {write:?}, {failures} failed")?)
 }

@@ -1,5 +1,7 @@
 //! The header of a record.
+use crate::wanted::expect_row;
 use cq_header::{BadHeader, Header, read, write};
+use std::test::Fail;
 
 /// Each kind of header beside its bits, as Chronicle Wire's table has them.
 static TABLE: [(u32, Header); 8] = [
@@ -22,10 +24,11 @@ fn written_again(bits: u32, header: Header) -> Option<u32> {
 }
 
 #[test]
-fn each_kind_is_read_and_written(rt: HostRuntime) {
+fn each_kind_is_read_and_written() -> Result<(), Fail> {
     for &(bits, header) in &TABLE {
-        assert_eq!(rt; written_again(bits, header), Some(bits), "{header:?}");
+        expect_row(written_again(bits, header) == Some(bits), u64::from(bits))?;
     }
+    Ok(())
 }
 
 /// Bits of no header.
@@ -38,8 +41,9 @@ static OTHERS: [u32; 5] = [
 ];
 
 #[test]
-fn other_bits_are_refused(rt: HostRuntime) {
+fn other_bits_are_refused() -> Result<(), Fail> {
     for &bits in &OTHERS {
-        assert_eq!(rt; read(bits), Err(BadHeader), "at {bits:#010x}");
+        expect_row(read(bits) == Err(BadHeader), u64::from(bits))?;
     }
+    Ok(())
 }

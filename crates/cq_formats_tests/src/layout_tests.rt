@@ -1,5 +1,7 @@
 //! Cells, the shapes of cycles, and what has room in a cycle.
+use crate::wanted::{expect, expect_row, expect_text};
 use cq_layout::{BadShape, Shape, cells_for, fits, needs, pack, unpack};
+use std::alloc::{AllocError, Global};
 use std::test::Fail;
 
 /// Lengths, each beside the cells that it takes.
@@ -13,20 +15,30 @@ static LENGTHS: [(u32, u32); 6] = [
 ];
 
 #[test]
-fn payloads_take_cells(rt: HostRuntime) {
+fn payloads_take_cells() -> Result<(), Fail> {
     for &(len, want) in &LENGTHS {
-        assert_eq!(rt; cells_for(len), want, "at {len}");
+        expect_row(cells_for(len) == want, u64::from(len))?;
     }
+    Ok(())
 }
 
 #[test]
-fn payloads_are_packed_and_unpacked(rt: HostRuntime) -> Result<(), Fail> {
-    let cells = [pack(b"hello", 0), pack(b"hello", 1)];
-    assert_eq!(rt; cells, [0x6C6C_6568, 0x0000_006F]);
-    let bytes = unpack(rt.alloc(), &[0x6C6C_6568, 0x0000_006F], 5)?;
-    assert_eq!(rt; bytes.as_slice(), b"hello".as_slice());
-    assert!(rt; unpack(rt.alloc(), &[], 0)?.is_empty());
-    Ok(())
+fn payloads_are_packed() -> Result<(), Fail> {
+    expect_row(pack(b"hello", 0) == 0x6C6C_6568, 0)?;
+    expect_row(pack(b"hello", 1) == 0x0000_006F, 1)
+}
+
+/// The bytes that are unpacked from the cells of "hello", and from none, as text.
+fn unpacked_text(alloc: Global) -> Result<String, AllocError> {
+    let hello = unpack(alloc, &[0x6C6C_6568, 0x0000_006F], 5)?;
+    let nothing = unpack(alloc, &[], 0)?;
+    format!(in alloc; "{:?} {:?}", hello.as_slice(), nothing.as_slice())
+}
+
+#[test]
+fn payloads_are_unpacked(rt: HostRuntime) -> Result<(), Fail> {
+    // The letters of "hello".
+    expect_text(unpacked_text(rt.alloc())?, "[104, 101, 108, 108, 111] []")
 }
 
 /// The measures of the shape that is made with these: cells, index count and index spacing.
@@ -56,38 +68,48 @@ static SHAPES: [(u32, u32, u32, bool); 16] = [
 ];
 
 #[test]
-fn shapes_have_limits(rt: HostRuntime) {
+fn shapes_have_limits() -> Result<(), Fail> {
     for &(cells, count, spacing, accepted) in &SHAPES {
         let want = if accepted {
             Ok((cells, count, spacing))
         } else {
             Err(BadShape)
         };
-        assert_eq!(rt; measures(cells, count, spacing), want, "{cells}");
+        expect_row(measures(cells, count, spacing) == want, u64::from(cells))?;
     }
+    Ok(())
 }
 
 #[test]
-fn messages_need_cells(rt: HostRuntime) -> Result<(), Fail> {
+fn messages_need_cells() -> Result<(), Fail> {
     let shape = Shape::new(64, 8, 1)?;
-    let cells = [needs(shape, &[]), needs(shape, &[5]), needs(shape, &[5; 9])];
-    assert_eq!(rt; cells, [0, 28, 61]);
-    Ok(())
+    expect_row(needs(shape, &[]) == 0, 0)?;
+    expect_row(needs(shape, &[5]) == 28, 1)?;
+    expect_row(needs(shape, &[5; 9]) == 61, 9)
 }
 
 #[test]
-fn messages_fit_up_to_the_end_of_data_and_of_the_index(rt: HostRuntime) -> Result<(), Fail> {
-    let small = Shape::new(64, 8, 1)?;
-    let large = Shape::new(4096, 8, 1)?;
-    let fitting = [
-        fits(small, &[5; 8], 5),
-        fits(small, &[5; 9], 5),
-        fits(small, &[5; 9], 4),
-        fits(small, &[5, 5, 5, 5, 5, 5, 5, 5, 5, 4], 1),
-        fits(small, &[], 1_073_741_823),
-        fits(large, &[1; 63], 1),
-        fits(large, &[1; 64], 1),
-    ];
-    assert_eq!(rt; fitting, [true, false, true, false, false, true, false]);
-    Ok(())
+fn messages_fit_up_to_the_end_of_data() -> Result<(), Fail> {
+    let shape = Shape::new(64, 8, 1)?;
+    expect(fits(shape, &[5; 8], 5), "a ninth message fits")?;
+    expect(!fits(shape, &[5; 9], 5), "a tenth message does not fit")?;
+    expect(fits(shape, &[5; 9], 4), "a tenth message of one cell fits")?;
+    expect(
+        !fits(shape, &[5, 5, 5, 5, 5, 5, 5, 5, 5, 4], 1),
+        "nothing fits in a full cycle",
+    )?;
+    expect(
+        !fits(shape, &[], 1_073_741_823),
+        "the longest message does not fit",
+    )
+}
+
+#[test]
+fn messages_fit_up_to_the_end_of_the_index() -> Result<(), Fail> {
+    let shape = Shape::new(4096, 8, 1)?;
+    expect(
+        fits(shape, &[1; 63], 1),
+        "message 64 has a place in the index",
+    )?;
+    expect(!fits(shape, &[1; 64], 1), "message 65 has none")
 }

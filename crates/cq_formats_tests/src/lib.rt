@@ -26,3 +26,5 @@ mod plain_cycle_tests;
 mod settings;
 #[cfg(test)]
 mod text_tests;
+#[cfg(test)]
+mod wanted;

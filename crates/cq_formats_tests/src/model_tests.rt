@@ -1,21 +1,27 @@
 //! Settings with their limits, and contents.
 use crate::settings::{names_of, settings_text};
+use crate::wanted::{expect_row, expect_text};
 use cq_cycle::{LAST_MOMENT, Roll};
 use cq_fixtures::{contents_of, contents_text};
 use cq_layout::Shape;
 use cq_model::Config;
-use std::alloc::Global;
+use std::alloc::{AllocError, Global};
 use std::test::Fail;
+
+/// What the settings of four cycles of an hour each, of 64 cells, say of themselves.
+fn hourly_text(alloc: Global) -> Result<String, Fail> {
+    let shape = Shape::new(64, 8, 1)?;
+    let names = names_of(alloc, &["reader", "b-2_.Z"])?;
+    let config = Config::new(shape, 4, Roll::Hourly, 3_600_000, names)?;
+    Ok(settings_text(alloc, &config)?)
+}
 
 #[test]
 fn a_configuration_gives_back_its_settings(rt: HostRuntime) -> Result<(), Fail> {
-    let names = names_of(rt.alloc(), &["reader", "b-2_.Z"])?;
-    let config = Config::new(Shape::new(64, 8, 1)?, 4, Roll::Hourly, 3_600_000, names)?;
-    assert_eq!(rt;
-        settings_text(rt.alloc(), &config)?.as_str(),
-        "Hourly from 3600000, 4 of Shape { cells: 64, index_count: 8, index_spacing: 1 }, [\"reader\", \"b-2_.Z\"]"
-    );
-    Ok(())
+    expect_text(
+        hourly_text(rt.alloc())?,
+        "Hourly from 3600000, 4 of Shape { cells: 64, index_count: 8, index_spacing: 1 }, [\"reader\", \"b-2_.Z\"]",
+    )
 }
 
 /// Whether these are settings.
@@ -49,11 +55,8 @@ static SETTINGS: [(u32, u32, u64, bool); 11] = [
 #[test]
 fn a_configuration_has_limits(rt: HostRuntime) -> Result<(), Fail> {
     for &(cells, cycles, epoch, accepted) in &SETTINGS {
-        assert_eq!(rt;
-            is_config(rt.alloc(), cells, cycles, epoch, &["reader"])?,
-            accepted,
-            "{cells} cells, {cycles} cycles, epoch {epoch}"
-        );
+        let found = is_config(rt.alloc(), cells, cycles, epoch, &["reader"])?;
+        expect_row(found == accepted, u64::from(cycles))?;
     }
     Ok(())
 }
@@ -88,20 +91,26 @@ static NAMES: [(&[&str], bool); 11] = [
 #[test]
 fn names_have_limits(rt: HostRuntime) -> Result<(), Fail> {
     for &(names, accepted) in &NAMES {
-        assert_eq!(rt;
-            is_config(rt.alloc(), 64, 4, 0, names)?,
-            accepted,
-            "{names:?}"
-        );
+        let found = is_config(rt.alloc(), 64, 4, 0, names)?;
+        expect_row(found == accepted, names.len() as u64)?;
     }
     Ok(())
 }
 
+/// What contents of one cycle say of themselves.
+fn one_cycle_text(alloc: Global) -> Result<String, Fail> {
+    let contents = contents_of(alloc, &[(5, &["hello"])], &[1])?;
+    contents_text(alloc, &contents)
+}
+
+/// How many cycles there are in contents of one cycle.
+fn one_cycle_count(alloc: Global) -> Result<usize, AllocError> {
+    let contents = contents_of(alloc, &[(5, &["hello"])], &[1])?;
+    Ok(contents.lists.into_vec().len())
+}
+
 #[test]
 fn contents_give_back_their_items(rt: HostRuntime) -> Result<(), Fail> {
-    let contents = contents_of(rt.alloc(), &[(5, &["hello"])], &[1])?;
-    let text = contents_text(rt.alloc(), &contents)?;
-    assert_eq!(rt; text.as_str(), "5[hello;] at [1]");
-    assert_eq!(rt; contents.lists.into_vec().len(), 1);
-    Ok(())
+    expect_text(one_cycle_text(rt.alloc())?, "5[hello;] at [1]")?;
+    expect_row(one_cycle_count(rt.alloc())? == 1, 1)
 }
