@@ -6,12 +6,21 @@ use std::rt::Files;
 use std::test::Fail;
 use std::{env, fs, process};
 
-/// A folder with the files `a` and `b`, of three bytes and of none.
+/// The bytes that are written to files in turn.
+static WRITES: [(&str, &[u8]); 4] = [("b", b"old"), ("a", b"old"), ("b", b""), ("a", b"abc")];
+
+/// Writes the files `a` and `b`, at last of three bytes and of none.
+fn write_two_files<F: Folder>(folder: &mut F) -> Result<(), FolderFault> {
+    for &(name, bytes) in &WRITES {
+        folder.write(name, bytes)?;
+    }
+    Ok(())
+}
+
+/// A folder in memory with those two files.
 fn two_files(alloc: Global) -> Result<MemoryFolder, FolderFault> {
     let mut folder = MemoryFolder::new(alloc);
-    folder.write("b", b"old".as_slice())?;
-    folder.write("a", b"abc".as_slice())?;
-    folder.write("b", b"".as_slice())?;
+    write_two_files(&mut folder)?;
     Ok(folder)
 }
 
@@ -36,92 +45,97 @@ fn names_text<F: Folder>(alloc: Global, folder: &mut F) -> Result<String, Fail> 
     Ok(format!(in alloc; "{:?}", names.as_slice())?)
 }
 
-/// Reads of a file up to a limit.
-static READS: [(&str, usize); 5] = [("a", 3), ("a", usize::MAX), ("a", 2), ("b", 0), ("c", 0)];
+/// Reads of a file up to a limit, each beside what it answers of those two files.
+static READS: [(&str, usize, &str); 5] = [
+    ("a", 3, "[97, 98, 99]"),
+    ("a", usize::MAX, "[97, 98, 99]"),
+    ("a", 2, "TooLarge"),
+    ("b", 0, "[]"),
+    ("c", 0, "none"),
+];
 
-/// What `files_text` says of the files `a` and `b`, of the three bytes `abc` and of none.
-const TWO_FILES: &str = "[\"a\", \"b\"]; [97, 98, 99]; [97, 98, 99]; TooLarge; []; none; 0 failed";
-
-/// The names of the files, what the reads answer, and how many calls failed, as text.
-fn files_text<F: Folder>(alloc: Global, folder: &mut F) -> Result<String, Fail> {
-    let mut text = names_text(alloc, folder)?;
-    for &(name, limit) in &READS {
-        text.push_str("; ")?;
-        text.push_str(read_text(alloc, folder, name, limit)?.as_str())?;
+/// Fails where a folder keeps other files than those two, or a call of it failed.
+fn expect_two_files<F: Folder>(alloc: Global, folder: &mut F) -> Result<(), Fail> {
+    expect_text(names_text(alloc, folder)?, "[\"a\", \"b\"]")?;
+    for &(name, limit, want) in &READS {
+        expect_text(read_text(alloc, folder, name, limit)?, want)?;
     }
-    let failures = folder.failures();
-    text.push_str(format!(in alloc; "; {failures} failed")?.as_str())?;
-    Ok(text)
+    expect(folder.failures() == 0, "no call fails")
+}
+
+/// Fails as `expect_two_files` does, and where there is a file without a name.
+fn expect_no_more_files<F: Folder>(alloc: Global, folder: &mut F) -> Result<(), Fail> {
+    expect_two_files(alloc, folder)?;
+    expect_text(read_text(alloc, folder, "", 9)?, "none")?;
+    expect(
+        folder.failures() == 0,
+        "no read of a file without a name fails",
+    )
 }
 
 #[test]
 fn a_folder_in_memory_keeps_its_files(rt: HostRuntime) -> Result<(), Fail> {
-    expect_text(memory_text(rt.alloc())?, TWO_FILES)?;
-    expect_text(nameless_text(rt.alloc())?, "none, 0 failed")
+    let mut folder = two_files(rt.alloc())?;
+    expect_no_more_files(rt.alloc(), &mut folder)
 }
 
-/// What `files_text` says of a folder in memory.
-fn memory_text(alloc: Global) -> Result<String, Fail> {
-    let mut folder = two_files(alloc)?;
-    files_text(alloc, &mut folder)
-}
-
-/// What a folder in memory answers to a read of a file without a name, and how many calls failed, as text.
-fn nameless_text(alloc: Global) -> Result<String, Fail> {
-    let mut folder = two_files(alloc)?;
-    let read = read_text(alloc, &mut folder, "", 9)?;
-    Ok(format!(in alloc; "{read}, {} failed", folder.failures())?)
-}
-
-/// What the calls of a folder answer of which the one with this number fails, how many failed, and what `a` holds then, as
-/// text.
-fn failing_text(alloc: Global, number: u64) -> Result<String, Fail> {
-    let mut folder = FailingFolder::new(two_files(alloc)?, number);
+/// Whether a folder lists its files, what a write and a read answer, and how many calls failed, as text.
+fn calls_text<F: Folder>(alloc: Global, folder: &mut F) -> Result<String, AllocError> {
     let names = folder.names(alloc).is_ok();
-    let write = folder.write("a", b"new".as_slice()).is_ok();
-    let read = read_text(alloc, &mut folder, "b", 0)?;
+    let write = folder.write("a", b"new".as_slice());
+    let read = read_text(alloc, folder, "b", 0)?;
     let failures = folder.failures();
-    let held = read_text(alloc, &mut folder.into_inner(), "a", 3)?;
-    Ok(format!(in alloc; "{names} {write} {read}, {failures} failed, {held}")?)
+    format!(in alloc; "{names}, {write:?}, {read}, {failures} failed")
 }
 
-/// The number of the call that fails, beside what `failing_text` says.
-static FAILURES: [(u64, &str); 5] = [
-    (0, "true true [], 0 failed, [110, 101, 119]"),
-    (1, "false true [], 1 failed, [110, 101, 119]"),
-    (2, "true false [], 1 failed, [97, 98, 99]"),
-    (3, "true true Device, 1 failed, [110, 101, 119]"),
-    (4, "true true [], 0 failed, [110, 101, 119]"),
+/// Fails where the calls of a folder of which the one with this number fails answer otherwise than wanted, or `a` holds
+/// something else then.
+fn expect_failing(alloc: Global, number: u64, calls: &str, held: &str) -> Result<(), Fail> {
+    let mut folder = FailingFolder::new(two_files(alloc)?, number);
+    expect_text(calls_text(alloc, &mut folder)?, calls)?;
+    expect_text(read_text(alloc, &mut folder.into_inner(), "a", 3)?, held)
+}
+
+/// The number of the call that fails, beside what `calls_text` says, and what `a` holds then.
+static FAILURES: [(u64, &str, &str); 5] = [
+    (0, "true, Ok(()), [], 0 failed", "[110, 101, 119]"),
+    (1, "false, Ok(()), [], 1 failed", "[110, 101, 119]"),
+    (2, "true, Err(Device), [], 1 failed", "[97, 98, 99]"),
+    (3, "true, Ok(()), Device, 1 failed", "[110, 101, 119]"),
+    (4, "true, Ok(()), [], 0 failed", "[110, 101, 119]"),
 ];
 
 #[test]
 fn each_call_can_fail_once(rt: HostRuntime) -> Result<(), Fail> {
-    for &(number, want) in &FAILURES {
-        expect_text(failing_text(rt.alloc(), number)?, want)?;
+    for &(number, calls, held) in &FAILURES {
+        expect_failing(rt.alloc(), number, calls, held)?;
     }
     Ok(())
 }
 
-#[test]
-fn a_real_folder_keeps_its_files(rt: HostRuntime) -> Result<(), Fail> {
-    let alloc = rt.alloc();
-    let within = env::temp_dir(&rt)?;
-    let path = format!(in alloc;
-        "{}/cq_folder_{}",
-        within.display(),
-        process::id(rt.process())
-    )?;
-    keeps_files(&rt, path.as_str())
+/// A path within the folder for temporary files.
+fn temporary_path(rt: &HostRuntime) -> Result<String, Fail> {
+    let within = env::temp_dir(rt)?;
+    let id = process::id(rt.process());
+    Ok(format!(in rt.alloc(); "{}/cq_folder_{id}", within.display())?)
 }
 
-/// Makes an empty folder at a path, fills it, and takes it away again.
-fn keeps_files<R>(rt: &R, path: &str) -> Result<(), Fail>
+#[test]
+fn a_real_folder_keeps_its_files(rt: HostRuntime) -> Result<(), Fail> {
+    expect_kept(&rt, temporary_path(&rt)?.as_str())
+}
+
+/// Makes an empty folder at a path, fills it, and takes it away again. Fails where it does not keep its files.
+fn expect_kept<R>(rt: &R, path: &str) -> Result<(), Fail>
 where
     R: Files + AllocGlobal + Clone + Drop,
 {
     fs::create_dir(rt, path)?;
     expect(names_count(rt, path)? == 0, "a new folder has no files")?;
-    expect_text(kept_text(rt, path)?, TWO_FILES)?;
+    leave_part(rt, path)?;
+    let mut folder = RealFolder::new(rt, String::from_str(rt.alloc(), path)?);
+    write_two_files(&mut folder)?;
+    expect_two_files(rt.alloc(), &mut folder)?;
     Ok(fs::remove_dir_all(rt, path)?)
 }
 
@@ -134,36 +148,26 @@ where
     Ok(folder.names(rt.alloc())?.len())
 }
 
-/// Fills the empty folder at a path, and says what it keeps. What a write that was cut short left behind is replaced.
-fn kept_text<R>(rt: &R, path: &str) -> Result<String, Fail>
+/// Leaves behind what a write to `a` that was cut short does, which the next write replaces.
+fn leave_part<R>(rt: &R, path: &str) -> Result<(), Fail>
 where
     R: Files + AllocGlobal + Clone + Drop,
 {
-    let alloc = rt.alloc();
-    let leftover = format!(in alloc; "{path}/a.part")?;
-    fs::write(rt, leftover.as_str(), "much longer than the new bytes")?;
-    let mut folder = RealFolder::new(rt, String::from_str(alloc, path)?);
-    folder.write("a", b"old".as_slice())?;
-    folder.write("b", b"".as_slice())?;
-    folder.write("a", b"abc".as_slice())?;
-    files_text(alloc, &mut folder)
+    let part = format!(in rt.alloc(); "{path}/a.part")?;
+    Ok(fs::write(rt, part.as_str(), "much longer than the new bytes")?)
 }
 
-#[test]
-fn a_missing_folder_is_a_device_fault(rt: HostRuntime) -> Result<(), Fail> {
-    let text = missing_text(&rt, "/no/such/folder")?;
-    expect_text(text, "false, Err(Device), 2 failed")
-}
-
-/// Whether the names of the files of a folder that is missing are known, what a write answers, and how many calls failed, as
-/// text.
-fn missing_text<R>(rt: &R, path: &str) -> Result<String, Fail>
+/// What the calls of the folder at a path answer, as text.
+fn real_calls_text<R>(rt: &R, path: &str) -> Result<String, AllocError>
 where
     R: Files + AllocGlobal + Clone + Drop,
 {
     let mut folder = RealFolder::new(rt, String::from_str(rt.alloc(), path)?);
-    let names = folder.names(rt.alloc()).is_ok();
-    let write = folder.write("a", b"abc".as_slice());
-    let failures = folder.failures();
-    Ok(format!(in rt.alloc(); "{names}, {write:?}, {failures} failed")?)
+    calls_text(rt.alloc(), &mut folder)
+}
+
+#[test]
+fn a_missing_folder_is_a_device_fault(rt: HostRuntime) -> Result<(), Fail> {
+    let text = real_calls_text(&rt, "/no/such/folder")?;
+    expect_text(text, "false, Err(Device), none, 2 failed")
 }

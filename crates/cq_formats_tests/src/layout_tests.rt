@@ -1,4 +1,7 @@
 //! Cells, the shapes of cycles, and what has room in a cycle.
+
+ghost use Rattle.std.specs.Prelude.{◌≤◌};
+
 use crate::wanted::{expect, expect_row, expect_text};
 use cq_layout::{BadShape, Shape, cells_for, fits, needs, pack, unpack};
 use std::alloc::{AllocError, Global};
@@ -104,12 +107,20 @@ fn messages_fit_up_to_the_end_of_data() -> Result<(), Fail> {
     )
 }
 
+/// Whether a message of one byte fits behind so many others in a cycle of 4,096 cells.
+#[tactic(auto, using(std::proofs::lemmas::Grind::pieces))]
+fn fits_behind(alloc: Global, count: usize) -> Result<bool, Fail>
+    requires { count ≤ 64 }
+{
+    let lengths = vec![in alloc; 1; count]?;
+    Ok(fits(Shape::new(4096, 8, 1)?, &lengths, 1))
+}
+
 #[test]
-fn messages_fit_up_to_the_end_of_the_index() -> Result<(), Fail> {
-    let shape = Shape::new(4096, 8, 1)?;
+fn messages_fit_up_to_the_end_of_the_index(rt: HostRuntime) -> Result<(), Fail> {
     expect(
-        fits(shape, &[1; 63], 1),
+        fits_behind(rt.alloc(), 63)?,
         "message 64 has a place in the index",
     )?;
-    expect(!fits(shape, &[1; 64], 1), "message 65 has none")
+    expect(!fits_behind(rt.alloc(), 64)?, "message 65 has none")
 }

@@ -1,5 +1,5 @@
-//! Settings for the tests, as text.
-use cq_model::Config;
+//! Settings and messages for the tests.
+use cq_model::{Config, Items, Message};
 use std::alloc::{AllocError, Global};
 
 /// These names, each in memory of its own.
@@ -9,6 +9,15 @@ pub fn names_of(alloc: Global, texts: &[&str]) -> Result<Vec<String>, AllocError
         names.push(String::from_str(alloc, text)?)?;
     }
     Ok(names)
+}
+
+/// A message of each of these bytes, in their order.
+pub fn messages_of(alloc: Global, texts: &[&[u8]]) -> Result<Vec<Message>, AllocError> {
+    let mut messages = Vec::new(alloc);
+    for text in texts {
+        messages.push(Items::new(Vec::from_slice(alloc, text)?))?;
+    }
+    Ok(messages)
 }
 
 /// Settings as text: the roll and the epoch, the number of cycles and their shape, and the names.
