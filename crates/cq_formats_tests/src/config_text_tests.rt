@@ -44,12 +44,18 @@ fn is_written_again(alloc: Global, text: &str, saved: &SavedConfig) -> Result<bo
     Ok(written.as_slice() == text.as_bytes())
 }
 
-/// What a text says that is written again from that.
-fn written_again(alloc: Global, text: &str) -> Result<String, Fail> {
-    let saved = read_config(alloc, text.as_bytes())?;
-    expect(is_written_again(alloc, text, &saved)?, text)?;
+/// Fails where a text is not written again from what it says, or that is not what is wanted.
+fn expect_saved(alloc: Global, text: &str, saved: &SavedConfig, want: &str) -> Result<(), Fail> {
+    expect(is_written_again(alloc, text, saved)?, text)?;
     let settings = settings_text(alloc, &saved.config)?;
-    Ok(format!(in alloc; "{settings} at {:?}", saved.positions.as_slice())?)
+    let said = format!(in alloc; "{settings} at {:?}", saved.positions.as_slice())?;
+    expect_text(said, want)
+}
+
+/// Reads a text, and fails as `expect_saved` does.
+fn expect_read(alloc: Global, text: &str, want: &str) -> Result<(), Fail> {
+    let saved = read_config(alloc, text.as_bytes())?;
+    expect_saved(alloc, text, &saved, want)
 }
 
 /// Texts, each beside what it says.
@@ -69,7 +75,7 @@ static TEXTS: [(&str, &str); 2] = [
 #[test]
 fn a_text_is_read_and_written_again(rt: HostRuntime) -> Result<(), Fail> {
     for &(text, want) in &TEXTS {
-        expect_text(written_again(rt.alloc(), text)?, want)?;
+        expect_read(rt.alloc(), text, want)?;
     }
     Ok(())
 }

@@ -54,8 +54,9 @@ static READS: [(&str, usize, &str); 5] = [
     ("c", 0, "none"),
 ];
 
-/// Fails where a folder keeps other files than those two, or a call of it failed.
+/// Writes those two files, and fails where a folder then keeps other files, or a call of it failed.
 fn expect_two_files<F: Folder>(alloc: Global, folder: &mut F) -> Result<(), Fail> {
+    write_two_files(folder)?;
     expect_text(names_text(alloc, folder)?, "[\"a\", \"b\"]")?;
     for &(name, limit, want) in &READS {
         expect_text(read_text(alloc, folder, name, limit)?, want)?;
@@ -75,7 +76,7 @@ fn expect_no_more_files<F: Folder>(alloc: Global, folder: &mut F) -> Result<(), 
 
 #[test]
 fn a_folder_in_memory_keeps_its_files(rt: HostRuntime) -> Result<(), Fail> {
-    let mut folder = two_files(rt.alloc())?;
+    let mut folder = MemoryFolder::new(rt.alloc());
     expect_no_more_files(rt.alloc(), &mut folder)
 }
 
@@ -134,7 +135,6 @@ where
     expect(names_count(rt, path)? == 0, "a new folder has no files")?;
     leave_part(rt, path)?;
     let mut folder = RealFolder::new(rt, String::from_str(rt.alloc(), path)?);
-    write_two_files(&mut folder)?;
     expect_two_files(rt.alloc(), &mut folder)?;
     Ok(fs::remove_dir_all(rt, path)?)
 }
