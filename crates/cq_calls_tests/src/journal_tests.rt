@@ -1,72 +1,23 @@
 //! Queues whose opener is their only caller.
+use crate::lives::{Cycles, Start, push_contents};
+use crate::queues::{push_message, push_number};
 use cq_cycle::Index;
-use cq_fixtures::{DAY, contents_of, contents_text, message_text, small_config};
+use cq_fixtures::{DAY, small_config};
 use cq_gated_tail::Direction;
 use cq_journal::{Journal, JournalReader, JournalWriter};
-use cq_model::{Contents, Message};
-use cq_shown::CreateError;
-use std::alloc::Global;
+use cq_model::Message;
+use std::alloc::{AllocError, Global};
+use std::process::Abort;
 use std::test::Fail;
 
 /// The first moment behind the last one that there is.
 const TOO_LATE: u64 = 253_402_300_800_000;
 
-/// Cycles, each with its messages.
-type Cycles = &'static [(u32, &'static [&'static str])];
-
 /// "a" in cycle 0, none in cycle 5, "b" and "c" in cycle 9.
 const THREE_CYCLES: Cycles = &[(0, &["a"]), (5, &[]), (9, &["b", "c"])];
 
-/// A journal of so many cycles, made at moment 0.
-fn created(alloc: Global, cycles: u32) -> Result<Journal, Fail> {
-    Ok(Journal::create(alloc, small_config(alloc, cycles)?, 0)?)
-}
-
-/// A journal of 4 cycles that holds the three cycles, and the name at a position.
-fn reopened(alloc: Global, position: u64) -> Result<Journal, Fail> {
-    let held = contents_of(alloc, THREE_CYCLES, &[position])?;
-    Ok(Journal::reopen(alloc, small_config(alloc, 4)?, &held)?)
-}
-
-/// What a writer answers when it appends these bytes at a moment.
-fn append_text(
-    alloc: Global,
-    writer: &mut JournalWriter,
-    moment: u64,
-    bytes: &[u8],
-) -> Result<String, Fail> {
-    match writer.append(moment, bytes) {
-        Ok(index) => Ok(format!(in alloc; "{}; ", index.value())?),
-        Err(refusal) => Ok(format!(in alloc; "{refusal}; ")?),
-    }
-}
-
-/// What a writer answers when it appends each of these at its moment.
-fn appended(
-    alloc: Global,
-    writer: &mut JournalWriter,
-    appends: &[(u64, &[u8])],
-) -> Result<String, Fail> {
-    let mut text = String::new(alloc);
-    for (moment, bytes) in appends {
-        text.push_str(append_text(alloc, writer, *moment, bytes)?.as_str())?;
-    }
-    Ok(text)
-}
-
-/// What a writer answers when it appends each of these at its moment, and what the journal holds then.
-fn written(alloc: Global, journal: Journal, appends: &[(u64, &[u8])]) -> Result<String, Fail> {
-    let mut writer = journal.into_writer();
-    let mut text = appended(alloc, &mut writer, appends)?;
-    let held = writer.into_contents(alloc)?;
-    text.push_str(contents_text(alloc, &held)?.as_str())?;
-    Ok(text)
-}
-
-/// The same of a new journal of so many cycles.
-fn written_new(alloc: Global, cycles: u32, appends: &[(u64, &[u8])]) -> Result<String, Fail> {
-    written(alloc, created(alloc, cycles)?, appends)
-}
+/// The three cycles, and the name at 0.
+const THREE_UNREAD: Start = Start::Held(THREE_CYCLES, &[0]);
 
 /// A call of a reader.
 #[derive(Clone, Copy)]
@@ -77,188 +28,304 @@ enum Call {
     Take(&'static str),
 }
 
+/// What is done with a journal before it is stopped.
+#[derive(Clone, Copy)]
+enum Work {
+    /// Appends these bytes, each at its moment.
+    Write(&'static [(u64, &'static [u8])]),
+    /// Reads this way from a position on.
+    Read(Direction, u64, &'static [Call]),
+}
+
+/// A journal with cycles of 64 cells and the name "reader".
+struct Row {
+    /// How many cycles it may have.
+    cycles: u32,
+    /// How it begins.
+    start: Start,
+    /// What is done with it.
+    work: Work,
+    /// What is answered, and what it holds then.
+    answers: &'static str,
+}
+
+/// What a writer answers when it appends these bytes at a moment.
+fn push_append(
+    writer: &mut JournalWriter,
+    moment: u64,
+    bytes: &[u8],
+    out: &mut String,
+) -> Result<(), AllocError> {
+    match writer.append(moment, bytes) {
+        Ok(index) => push_number("", index.value(), out),
+        Err(refusal) => write!(out, "{refusal}"),
+    }
+}
+
+/// What a writer answers when it appends each of these at its moment.
+fn push_appends(
+    writer: &mut JournalWriter,
+    appends: &[(u64, &[u8])],
+    out: &mut String,
+) -> Result<(), AllocError> {
+    for (moment, bytes) in appends {
+        push_append(writer, *moment, bytes, out)?;
+        out.push_str("; ")?;
+    }
+    Ok(())
+}
+
 /// A message with its index as text, or none.
-fn found_text(alloc: Global, found: &Option<(Index, Message)>) -> Result<String, Fail> {
+fn push_found(found: &Option<(Index, Message)>, out: &mut String) -> Result<(), AllocError> {
     match found {
-        Some((index, message)) => message_text(alloc, *index, message),
-        None => Ok(String::from_str(alloc, "none")?),
+        Some((index, message)) => push_message(*index, message, out),
+        None => out.push_str("none"),
     }
 }
 
 /// What a reader answers to a call.
-fn answer(alloc: Global, reader: &mut JournalReader, call: Call) -> Result<String, Fail> {
+fn push_answer(
+    alloc: Global,
+    reader: &mut JournalReader,
+    call: Call,
+    out: &mut String,
+) -> Result<(), AllocError> {
     match call {
-        Call::Next => found_text(alloc, &reader.next(alloc)?),
+        Call::Next => push_found(&reader.next(alloc)?, out),
         Call::Take(name) => match reader.take(alloc, name) {
-            Ok(taken) => found_text(alloc, &taken),
-            Err(fault) => Ok(format!(in alloc; "{fault}")?),
+            Ok(taken) => push_found(&taken, out),
+            Err(fault) => write!(out, "{fault}"),
         },
     }
 }
 
 /// What a reader answers to these calls in turn.
-fn answers(alloc: Global, reader: &mut JournalReader, calls: &[Call]) -> Result<String, Fail> {
-    let mut text = String::new(alloc);
-    for call in calls {
-        text.push_str(answer(alloc, reader, *call)?.as_str())?;
-        text.push_str("; ")?;
-    }
-    Ok(text)
-}
-
-/// What a reader of the three cycles answers to these calls, the name being at a position, and what the journal holds then.
-fn read(
+fn push_answers(
     alloc: Global,
-    position: u64,
-    way: Direction,
-    start: u64,
+    reader: &mut JournalReader,
     calls: &[Call],
-) -> Result<String, Fail> {
-    let mut reader = reopened(alloc, position)?.into_reader(way, start);
-    let mut text = answers(alloc, &mut reader, calls)?;
-    let held = reader.into_contents(alloc)?;
-    text.push_str(contents_text(alloc, &held)?.as_str())?;
-    Ok(text)
+    out: &mut String,
+) -> Result<(), AllocError> {
+    for call in calls {
+        push_answer(alloc, reader, *call, out)?;
+        out.push_str("; ")?;
+    }
+    Ok(())
 }
 
-/// Appends in journals of so many cycles, each beside what `written` says.
-static WRITTEN: [(u32, &[(u64, &[u8])], &str); 4] = [
+/// What a journal answers to these appends, and what it holds then.
+fn push_written(
+    alloc: Global,
+    journal: Journal,
+    appends: &[(u64, &[u8])],
+    out: &mut String,
+) -> Result<(), Fail> {
+    let mut writer = journal.into_writer();
+    push_appends(&mut writer, appends, out)?;
+    push_contents(alloc, &writer.into_contents(alloc)?, out)
+}
+
+/// What a reader answers to these calls, and what its journal holds then.
+fn push_read(
+    alloc: Global,
+    mut reader: JournalReader,
+    calls: &[Call],
+    out: &mut String,
+) -> Result<(), Fail> {
+    push_answers(alloc, &mut reader, calls, out)?;
+    push_contents(alloc, &reader.into_contents(alloc)?, out)
+}
+
+impl Row {
+    /// What is answered in the journal and what it holds then, or why there is no journal.
+    fn push_done(&self, alloc: Global, out: &mut String) -> Result<(), Fail> {
+        let config = small_config(alloc, self.cycles)?;
+        match self.start.journal(alloc, config) {
+            Ok(journal) => match self.work {
+                Work::Write(appends) => push_written(alloc, journal, appends, out),
+                Work::Read(way, start, calls) => {
+                    push_read(alloc, journal.into_reader(way, start), calls, out)
+                }
+            },
+            Err(refusal) => Ok(write!(out, "{refusal}")?),
+        }
+    }
+}
+
+/// Works in each of these journals, and compares what is answered.
+fn assert_rows(rt: &impl Abort, alloc: Global, rows: &[Row]) -> Result<(), Fail> {
+    for row in rows {
+        let mut answers = String::new(alloc);
+        row.push_done(alloc, &mut answers)?;
+        assert_eq!(rt; answers.as_str(), row.answers);
+    }
+    Ok(())
+}
+
+static APPENDED: [Row; 4] = [
     // The cycle of the moment, or the last one.
-    (
-        4,
-        &[(7, b"hello"), (5 * DAY, b"ab"), (DAY, b"z")],
-        "0; 21474836480; 21474836481; 0[hello;] 5[ab;z;] at [0]",
-    ),
-    (
-        1,
-        &[(TOO_LATE, b""), (TOO_LATE, b"a")],
-        "BadRoom; BadMoment; 0[] at [0]",
-    ),
+    Row {
+        cycles: 4,
+        start: Start::New(0),
+        work: Work::Write(&[(7, b"hello"), (5 * DAY, b"ab"), (DAY, b"z")]),
+        answers: "0; 21474836480; 21474836481; 0[hello;] 5[ab;z;] at [0]",
+    },
+    Row {
+        cycles: 1,
+        start: Start::New(0),
+        work: Work::Write(&[(TOO_LATE, b""), (TOO_LATE, b"a")]),
+        answers: "BadRoom; BadMoment; 0[] at [0]",
+    },
     // No more cycles than the queue may have.
-    (
-        2,
-        &[(DAY, b"a"), (2 * DAY, b"b"), (DAY, b"c")],
-        "4294967296; NoCycleLeft; 4294967297; 0[] 1[a;c;] at [0]",
-    ),
+    Row {
+        cycles: 2,
+        start: Start::New(0),
+        work: Work::Write(&[(DAY, b"a"), (2 * DAY, b"b"), (DAY, b"c")]),
+        answers: "4294967296; NoCycleLeft; 4294967297; 0[] 1[a;c;] at [0]",
+    },
     // A message that does not fit leaves its cycle begun.
-    (2, &[(3 * DAY, &[65; 256])], "CycleFull; 0[] 3[] at [0]"),
+    Row {
+        cycles: 2,
+        start: Start::New(0),
+        work: Work::Write(&[(3 * DAY, &[65; 256])]),
+        answers: "CycleFull; 0[] 3[] at [0]",
+    },
 ];
 
 #[test]
 fn messages_are_appended(rt: HostRuntime) -> Result<(), Fail> {
-    for &(cycles, appends, want) in &WRITTEN {
-        let text = written_new(rt.alloc(), cycles, appends)?;
-        assert_eq!(rt; text.as_str(), want);
-    }
-    Ok(())
+    assert_rows(&rt, rt.alloc(), &APPENDED)
 }
+
+static OPENED_AGAIN: [Row; 1] = [Row {
+    cycles: 4,
+    start: Start::Held(THREE_CYCLES, &[1]),
+    work: Work::Write(&[(9 * DAY, b"x")]),
+    answers: "38654705666; 0[a;] 5[] 9[b;c;x;] at [1]",
+}];
 
 #[test]
 fn appends_go_on_where_a_journal_was_opened_again(rt: HostRuntime) -> Result<(), Fail> {
-    let journal = reopened(rt.alloc(), 1)?;
-    let text = written(rt.alloc(), journal, &[(9 * DAY, b"x")])?;
-    assert_eq!(rt; text.as_str(), "38654705666; 0[a;] 5[] 9[b;c;x;] at [1]");
-    Ok(())
+    assert_rows(&rt, rt.alloc(), &OPENED_AGAIN)
 }
+
+static TOO_LATE_TO_BEGIN: [Row; 1] = [Row {
+    cycles: 1,
+    start: Start::New(TOO_LATE),
+    work: Work::Write(&[]),
+    answers: "BadMoment",
+}];
 
 #[test]
 fn no_journal_begins_after_the_last_moment(rt: HostRuntime) -> Result<(), Fail> {
-    let config = small_config(rt.alloc(), 1)?;
-    assert!(rt;
-        matches!(
-            Journal::create(rt.alloc(), config, TOO_LATE),
-            Err(CreateError::BadMoment)
-        )
-    );
-    Ok(())
+    assert_rows(&rt, rt.alloc(), &TOO_LATE_TO_BEGIN)
 }
 
-/// Cycles with their messages and positions, each beside whether a journal of 4 cycles is opened with them.
-static HELD: [(Cycles, &[u64], bool); 5] = [
-    (&[], &[0], false),
-    (&[(5, &[]), (3, &[])], &[0], false),
-    (THREE_CYCLES, &[(9 << 32) + 3], false),
-    (THREE_CYCLES, &[(9 << 32) + 2], true),
-    (&[(0, &["a"])], &[0, 0], false),
+static HELD: [Row; 5] = [
+    Row {
+        cycles: 4,
+        start: Start::Held(&[], &[0]),
+        work: Work::Write(&[]),
+        answers: "BadContents",
+    },
+    Row {
+        cycles: 4,
+        start: Start::Held(&[(5, &[]), (3, &[])], &[0]),
+        work: Work::Write(&[]),
+        answers: "BadContents",
+    },
+    Row {
+        cycles: 4,
+        start: Start::Held(THREE_CYCLES, &[(9 << 32) + 3]),
+        work: Work::Write(&[]),
+        answers: "BadContents",
+    },
+    Row {
+        cycles: 4,
+        start: Start::Held(THREE_CYCLES, &[(9 << 32) + 2]),
+        work: Work::Write(&[]),
+        answers: "0[a;] 5[] 9[b;c;] at [38654705666]",
+    },
+    Row {
+        cycles: 4,
+        start: Start::Held(&[(0, &["a"])], &[0, 0]),
+        work: Work::Write(&[]),
+        answers: "BadContents",
+    },
 ];
-
-/// Whether a journal of 4 cycles is opened with these contents.
-fn is_opened(alloc: Global, held: &Contents) -> Result<bool, Fail> {
-    match Journal::reopen(alloc, small_config(alloc, 4)?, held) {
-        Ok(_) => Ok(true),
-        Err(CreateError::BadContents) => Ok(false),
-        Err(fault) => Err(fault.into()),
-    }
-}
 
 #[test]
 fn contents_that_no_queue_holds_are_refused(rt: HostRuntime) -> Result<(), Fail> {
-    for &(cycles, positions, want) in &HELD {
-        let held = contents_of(rt.alloc(), cycles, positions)?;
-        assert_eq!(rt; is_opened(rt.alloc(), &held)?, want);
-    }
-    Ok(())
+    assert_rows(&rt, rt.alloc(), &HELD)
 }
 
-/// Readers of the three cycles: the position of the name, the direction, the start and the calls, each beside what `read`
-/// says.
-static READ: [(u64, Direction, u64, &[Call], &str); 6] = [
-    (
-        0,
-        Direction::Forwards,
-        0,
-        &[Call::Next, Call::Next, Call::Next, Call::Next],
-        "0 a; 38654705664 b; 38654705665 c; none; 0[a;] 5[] 9[b;c;] at [0]",
-    ),
-    (
-        0,
-        Direction::Forwards,
-        (9 << 32) + 1,
-        &[Call::Next, Call::Next],
-        "38654705665 c; none; 0[a;] 5[] 9[b;c;] at [0]",
-    ),
-    (
-        0,
-        Direction::Backwards,
-        u64::MAX,
-        &[Call::Next, Call::Next, Call::Next, Call::Next],
-        "38654705665 c; 38654705664 b; 0 a; none; 0[a;] 5[] 9[b;c;] at [0]",
-    ),
+static READ: [Row; 6] = [
+    Row {
+        cycles: 4,
+        start: THREE_UNREAD,
+        work: Work::Read(
+            Direction::Forwards,
+            0,
+            &[Call::Next, Call::Next, Call::Next, Call::Next],
+        ),
+        answers: "0 a; 38654705664 b; 38654705665 c; none; 0[a;] 5[] 9[b;c;] at [0]",
+    },
+    Row {
+        cycles: 4,
+        start: THREE_UNREAD,
+        work: Work::Read(
+            Direction::Forwards,
+            (9 << 32) + 1,
+            &[Call::Next, Call::Next],
+        ),
+        answers: "38654705665 c; none; 0[a;] 5[] 9[b;c;] at [0]",
+    },
+    Row {
+        cycles: 4,
+        start: THREE_UNREAD,
+        work: Work::Read(
+            Direction::Backwards,
+            u64::MAX,
+            &[Call::Next, Call::Next, Call::Next, Call::Next],
+        ),
+        answers: "38654705665 c; 38654705664 b; 0 a; none; 0[a;] 5[] 9[b;c;] at [0]",
+    },
     // Nothing is behind the end.
-    (
-        0,
-        Direction::Forwards,
-        u64::MAX,
-        &[Call::Next],
-        "none; 0[a;] 5[] 9[b;c;] at [0]",
-    ),
+    Row {
+        cycles: 4,
+        start: THREE_UNREAD,
+        work: Work::Read(Direction::Forwards, u64::MAX, &[Call::Next]),
+        answers: "none; 0[a;] 5[] 9[b;c;] at [0]",
+    },
     // A taker moves the name, and not the reader.
-    (
-        1,
-        Direction::Forwards,
-        0,
-        &[
-            Call::Take("reader"),
-            Call::Take("reader"),
-            Call::Take("reader"),
-            Call::Next,
-        ],
-        "38654705664 b; 38654705665 c; none; 0 a; 0[a;] 5[] 9[b;c;] at [38654705666]",
-    ),
-    (
-        0,
-        Direction::Forwards,
-        0,
-        &[Call::Take("writer"), Call::Take("reader")],
-        "NoSuchName; 0 a; 0[a;] 5[] 9[b;c;] at [1]",
-    ),
+    Row {
+        cycles: 4,
+        start: Start::Held(THREE_CYCLES, &[1]),
+        work: Work::Read(
+            Direction::Forwards,
+            0,
+            &[
+                Call::Take("reader"),
+                Call::Take("reader"),
+                Call::Take("reader"),
+                Call::Next,
+            ],
+        ),
+        answers: "38654705664 b; 38654705665 c; none; 0 a; 0[a;] 5[] 9[b;c;] at [38654705666]",
+    },
+    Row {
+        cycles: 4,
+        start: THREE_UNREAD,
+        work: Work::Read(
+            Direction::Forwards,
+            0,
+            &[Call::Take("writer"), Call::Take("reader")],
+        ),
+        answers: "NoSuchName; 0 a; 0[a;] 5[] 9[b;c;] at [1]",
+    },
 ];
 
 #[test]
 fn messages_are_read_and_taken(rt: HostRuntime) -> Result<(), Fail> {
-    for &(position, way, start, calls, want) in &READ {
-        let text = read(rt.alloc(), position, way, start, calls)?;
-        assert_eq!(rt; text.as_str(), want);
-    }
-    Ok(())
+    assert_rows(&rt, rt.alloc(), &READ)
 }

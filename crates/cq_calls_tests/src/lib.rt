@@ -12,6 +12,8 @@ mod cycle_tests;
 #[cfg(test)]
 mod journal_tests;
 #[cfg(test)]
+mod lives;
+#[cfg(test)]
 mod message_tests;
 #[cfg(test)]
 mod queues;

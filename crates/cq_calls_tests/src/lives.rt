@@ -1,0 +1,128 @@
+//! Lives of queues: how they begin, their calls, and their ends, beside what is answered.
+
+use crate::queues::{Call, Fixture};
+use cq_fixtures::{contents_of, contents_text, small_config};
+use cq_gated_words::Queue;
+use cq_journal::Journal;
+use cq_model::{Config, Contents};
+use cq_shown::CreateError;
+use std::alloc::{AllocError, Global};
+use std::process::Abort;
+use std::test::Fail;
+
+/// Cycles, each with its messages.
+pub type Cycles = &'static [(u32, &'static [&'static str])];
+
+/// How a queue begins.
+#[derive(Clone, Copy)]
+pub enum Start {
+    /// New at a moment.
+    New(u64),
+    /// Opened again with these cycles, and the name "reader" at these positions.
+    Held(Cycles, &'static [u64]),
+}
+
+impl Start {
+    /// A queue of this configuration that begins so.
+    fn queue(self, alloc: Global, config: Config) -> Result<Fixture, CreateError> {
+        match self {
+            Start::New(moment) => {
+                let (queue, caller) = Queue::create(alloc, config, moment)?;
+                Ok(Fixture::new(queue, caller))
+            }
+            Start::Held(cycles, positions) => {
+                reopened(alloc, config, &contents_of(alloc, cycles, positions)?)
+            }
+        }
+    }
+
+    /// A journal of this configuration that begins so.
+    pub fn journal(self, alloc: Global, config: Config) -> Result<Journal, CreateError> {
+        match self {
+            Start::New(moment) => Journal::create(alloc, config, moment),
+            Start::Held(cycles, positions) => {
+                Journal::reopen(alloc, config, &contents_of(alloc, cycles, positions)?)
+            }
+        }
+    }
+}
+
+/// A queue of this configuration that is opened again with contents.
+fn reopened(alloc: Global, config: Config, contents: &Contents) -> Result<Fixture, CreateError> {
+    let (queue, caller) = Queue::reopen(alloc, config, contents)?;
+    Ok(Fixture::new(queue, caller))
+}
+
+/// What is looked at behind the calls of a queue.
+#[derive(Clone, Copy)]
+pub enum End {
+    /// Nothing.
+    Dropped,
+    /// What is left of it once it was stopped.
+    Stopped,
+    /// What these calls answer once it was stopped and opened again.
+    Reopened(&'static [Call]),
+}
+
+/// A queue with cycles of 64 cells and the name "reader".
+pub struct Life {
+    /// How many cycles it may have.
+    pub cycles: u32,
+    /// How it begins.
+    pub start: Start,
+    /// Calls of it, in turn.
+    pub calls: &'static [Call],
+    /// What is looked at behind them.
+    pub end: End,
+    /// What is answered to all this.
+    pub answers: &'static str,
+}
+
+impl Life {
+    /// What is answered when the queue is lived through.
+    fn push_answers(&self, alloc: Global, out: &mut String) -> Result<(), Fail> {
+        let mut fixture = self.start.queue(alloc, small_config(alloc, self.cycles)?)?;
+        fixture.answers(alloc, self.calls, out)?;
+        self.push_end(alloc, fixture, out)
+    }
+
+    /// What is looked at behind the calls.
+    fn push_end(&self, alloc: Global, fixture: Fixture, out: &mut String) -> Result<(), Fail> {
+        match self.end {
+            End::Dropped => Ok(()),
+            End::Stopped => push_contents(alloc, &fixture.into_contents(alloc)?, out),
+            End::Reopened(calls) => {
+                let contents = fixture.into_contents(alloc)?;
+                self.push_again(alloc, &contents, calls, out)
+            }
+        }
+    }
+
+    /// What calls answer of the queue once it was opened again with contents.
+    fn push_again(
+        &self,
+        alloc: Global,
+        contents: &Contents,
+        calls: &[Call],
+        out: &mut String,
+    ) -> Result<(), Fail> {
+        let mut fixture = reopened(alloc, small_config(alloc, self.cycles)?, contents)?;
+        fixture.answers(alloc, calls, out)
+    }
+}
+
+/// Contents as text.
+pub fn push_contents(alloc: Global, contents: &Contents, out: &mut String) -> Result<(), Fail> {
+    let text = contents_text(alloc, contents)?;
+    Ok(out.push_str(text.as_str())?)
+}
+
+/// Lives through each of these, and compares what is answered.
+pub fn assert_lives(rt: &impl Abort, alloc: Global, lives: &[Life]) -> Result<(), Fail> {
+    for life in lives {
+        let mut answers = String::new(alloc);
+        life.push_answers(alloc, &mut answers)?;
+        assert_eq!(rt; answers.as_str(), life.answers);
+    }
+    Ok(())
+}
