@@ -6,7 +6,7 @@ use cq_gated_words::Queue;
 use cq_journal::Journal;
 use cq_model::{Config, Contents};
 use cq_shown::CreateError;
-use std::alloc::{AllocError, Global};
+use std::alloc::Global;
 use std::process::Abort;
 use std::test::Fail;
 
@@ -79,7 +79,7 @@ pub struct Life {
 }
 
 impl Life {
-    /// What is answered when the queue is lived through.
+    /// What is answered from its start to its end.
     fn push_answers(&self, alloc: Global, out: &mut String) -> Result<(), Fail> {
         let mut fixture = self.start.queue(alloc, small_config(alloc, self.cycles)?)?;
         fixture.answers(alloc, self.calls, out)?;
@@ -92,8 +92,7 @@ impl Life {
             End::Dropped => Ok(()),
             End::Stopped => push_contents(alloc, &fixture.into_contents(alloc)?, out),
             End::Reopened(calls) => {
-                let contents = fixture.into_contents(alloc)?;
-                self.push_again(alloc, &contents, calls, out)
+                self.push_again(alloc, &fixture.into_contents(alloc)?, calls, out)
             }
         }
     }

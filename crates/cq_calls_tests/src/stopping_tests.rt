@@ -3,6 +3,7 @@ use crate::lives::{End, Life, Start, assert_lives};
 use crate::queues::Call;
 use cq_fixtures::{DAY, small_config};
 use cq_image::image;
+use std::alloc::Global;
 use std::test::Fail;
 
 /// "hello", and seven bytes of another message, beside which nobody else appends.
@@ -48,12 +49,21 @@ fn cycles_without_messages_are_kept(rt: HostRuntime) -> Result<(), Fail> {
     assert_lives(&rt, rt.alloc(), &WITHOUT_MESSAGES)
 }
 
+/// The image of a cycle without messages that has ended, or that has not.
+fn image_without_messages(alloc: Global, cycle: u32, has_ended: bool) -> Result<Vec<u8>, Fail> {
+    let shape = small_config(alloc, 4)?.shape();
+    Ok(image(alloc, cycle, shape, &[], has_ended)?)
+}
+
+/// Cycles, whether they have ended, and the images that they have without messages.
+static IMAGES: [(u32, bool, &[u8]); 2] = [(0, true, &[0, 0, 0, 0xc0]), (5, false, &[])];
+
 #[test]
 fn cycles_without_messages_have_images(rt: HostRuntime) -> Result<(), Fail> {
-    let shape = small_config(rt.alloc(), 4)?.shape();
-    let ended = image(rt.alloc(), 0, shape, &[], true)?;
-    assert_eq!(rt; ended.as_slice(), [0, 0, 0, 0xc0].as_slice());
-    assert!(rt; image(rt.alloc(), 5, shape, &[], false)?.is_empty());
+    for &(cycle, has_ended, want) in &IMAGES {
+        let bytes = image_without_messages(rt.alloc(), cycle, has_ended)?;
+        assert_eq!(rt; bytes.as_slice(), want);
+    }
     Ok(())
 }
 
