@@ -2,7 +2,7 @@ ghost use Rattle.std.specs.Prelude.{◌≡◌, ◌≢◌, ◌<◌, ◌≤◌, �
 
 use crate::storage::{Folder, FolderFault};
 use std::alloc::{AllocError, Global};
-use std::fs::{self, File, OpenFile};
+use std::fs::{self, DirEntry, File, OpenFile};
 use std::io::{self, ErrorKind, Read, Write};
 use std::rt::Files;
 
@@ -39,11 +39,7 @@ impl<'a, R: Files + AllocGlobal + Clone + Drop> RealFolder<'a, R> {
     fn list(&self, alloc: Global) -> io::Result<Vec<String>> {
         let mut names = Vec::new(alloc);
         for entry in fs::read_dir(self.rt, self.path.as_str())? {
-            match entry {
-                Ok(entry) => names.push(String::from_str(alloc, entry.file_name())?)?,
-                Err(error) if error.kind() == ErrorKind::InvalidFilename => {}
-                Err(error) => return Err(error),
-            }
+            push_name(alloc, &mut names, entry)?;
         }
         Ok(names)
     }
@@ -52,21 +48,43 @@ impl<'a, R: Files + AllocGlobal + Clone + Drop> RealFolder<'a, R> {
     fn read_up_to(&self, alloc: Global, name: &str, limit: usize) -> io::Result<Vec<u8>> {
         let path = self.path_of(name)?;
         let file = File::open(self.rt, path.as_str())?;
-        let mut bytes = Vec::new(alloc);
-        file.take((limit as u64).saturating_add(1))
-            .read_to_end(&mut bytes)?;
-        Ok(bytes)
+        read_at_most(alloc, file, (limit as u64).saturating_add(1))
     }
 
     /// Writes a file so that it holds all of the bytes or what it held, also where the system stops in between.
     fn replace(&self, name: &str, bytes: &[u8]) -> io::Result<()> {
         let path = self.path_of(name)?;
         let part = format!(in self.rt.alloc(); "{path}.part")?;
-        let mut file = File::create(self.rt, part.as_str())?;
-        file.write_all(bytes)?;
-        file.sync_all()?;
+        self.write_whole(part.as_str(), bytes)?;
         fs::rename(self.rt, part.as_str(), path.as_str())?;
         File::open(self.rt, self.path.as_str())?.sync_all()
+    }
+
+    /// Makes these bytes the whole file at this path, and waits until all of them are on the device.
+    fn write_whole(&self, path: &str, bytes: &[u8]) -> io::Result<()> {
+        let mut file = File::create(self.rt, path)?;
+        file.write_all(bytes)?;
+        file.sync_all()
+    }
+}
+
+/// The bytes that a reader has left, of which no more than `most` are read.
+fn read_at_most<R: Read + Drop>(alloc: Global, reader: R, most: u64) -> io::Result<Vec<u8>> {
+    let mut bytes = Vec::new(alloc);
+    reader.take(most).read_to_end(&mut bytes)?;
+    Ok(bytes)
+}
+
+/// Adds the name of an entry, if it is text.
+fn push_name<R: Files + Drop>(
+    alloc: Global,
+    names: &mut Vec<String>,
+    entry: io::Result<DirEntry<R>>,
+) -> io::Result<()> {
+    match entry {
+        Ok(entry) => Ok(names.push(String::from_str(alloc, entry.file_name())?)?),
+        Err(error) if error.kind() == ErrorKind::InvalidFilename => Ok(()),
+        Err(error) => Err(error),
     }
 }
 
