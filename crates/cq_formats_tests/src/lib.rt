@@ -25,6 +25,8 @@ mod plain_cycle_tests;
 #[cfg(test)]
 mod settings;
 #[cfg(test)]
+mod tables_tests;
+#[cfg(test)]
 mod text_tests;
 #[cfg(test)]
 mod wanted;
