@@ -1,0 +1,103 @@
+//! Claims at one header, by two callers in turn and by two threads at once.
+
+ghost use Rattle.std.specs.Prelude.{◌≡◌, None};
+ghost use Rattle.cq_words.specs.Rule.{first_mark};
+ghost use Rattle.cq_words.specs.Values.{IsOf};
+
+use crate::first::claim_first;
+use cq_fixtures::{contents_text, small_config};
+use cq_shown::recover;
+use cq_words::{Caller, Queue};
+use std::alloc::Global;
+use std::test::Fail;
+use std::thread::{Threads, join};
+
+/// The header of a message that a caller has begun.
+const WORKING: u32 = 0x8000_0000;
+
+/// Claims by two threads at one header: what each found there.
+fn found_by_two<R: Threads + Sync>(
+    rt: &R,
+    queue: &Queue,
+    mut one: Caller,
+    mut two: Caller,
+) -> (Option<u32>, Option<u32>)
+    requires one { IsOf queue.now one }
+    requires two { IsOf queue.now two }
+    requires idle { (one.view.claim ≡ None) × (two.view.claim ≡ None) }
+    requires marks { (one.view.mark ≡ first_mark) × (two.view.mark ≡ first_mark) }
+{
+    join(
+        rt,
+        move || -> Option<u32>
+            requires of { IsOf queue.now one }
+            requires idle { one.view.claim ≡ None }
+            requires mark { one.view.mark ≡ first_mark }
+        { claim_first(queue, &mut one, 5) },
+        move || -> Option<u32>
+            requires of { IsOf queue.now two }
+            requires idle { two.view.claim ≡ None }
+            requires mark { two.view.mark ≡ first_mark }
+        { claim_first(queue, &mut two, 5) },
+    )
+}
+
+/// Whether just one of two threads won the header of a new queue, and the other one found it working.
+fn is_won_once<R: Threads + Sync>(rt: &R, alloc: Global) -> Result<bool, Fail> {
+    let (queue, mut caller) = Queue::create(alloc, small_config(alloc, 1)?, 0)?;
+    let one = queue.split(&mut caller);
+    let two = queue.split(&mut caller);
+    let found = found_by_two(rt, &queue, one, two);
+    Ok(found == (Some(0), Some(WORKING)) || found == (Some(WORKING), Some(0)))
+}
+
+/// Whether that is so of so many new queues.
+fn are_won_once<R: Threads + Sync>(rt: &R, alloc: Global, count: u32) -> Result<bool, Fail> {
+    for _ in 0..count {
+        if !is_won_once(rt, alloc)? {
+            return Ok(false);
+        }
+    }
+    Ok(true)
+}
+
+#[test]
+fn one_of_two_threads_wins_a_header(rt: HostRuntime) -> Result<(), Fail> {
+    assert!(rt; are_won_once(&rt, rt.alloc(), 200)?);
+    Ok(())
+}
+
+/// What a child finds that is split off in a claim of its parent, and what the parent finds once it has given that up.
+fn split_in_a_claim(alloc: Global) -> Result<(Option<u32>, Option<u32>), Fail> {
+    let (queue, mut parent) = Queue::create(alloc, small_config(alloc, 1)?, 0)?;
+    if claim_first(&queue, &mut parent, 5) != Some(0) {
+        return Ok((None, None));
+    }
+    let mut child = queue.split(&mut parent);
+    let found = claim_first(&queue, &mut child, 5);
+    queue.give_up(&mut parent, 0, 0);
+    let again = claim_first(&queue, &mut parent, 5);
+    Ok((found, again))
+}
+
+#[test]
+fn a_child_split_in_a_claim_has_none(rt: HostRuntime) -> Result<(), Fail> {
+    assert_eq!(rt; split_in_a_claim(rt.alloc())?, (Some(WORKING), Some(0)));
+    Ok(())
+}
+
+/// The contents of a queue of which a caller was dropped in a claim, as another one stopped it that had made no step.
+fn stopped_in_a_claim(alloc: Global) -> Result<String, Fail> {
+    let (queue, mut writer) = Queue::create(alloc, small_config(alloc, 1)?, 0)?;
+    let other = queue.split(&mut writer);
+    let _found = claim_first(&queue, &mut writer, 5);
+    let contents = recover(alloc, &queue.stop(other))?;
+    contents_text(alloc, &contents)
+}
+
+#[test]
+fn a_message_that_was_begun_is_in_no_list(rt: HostRuntime) -> Result<(), Fail> {
+    let text = stopped_in_a_claim(rt.alloc())?;
+    assert_eq!(rt; text.as_str(), "0[] at [0]");
+    Ok(())
+}
