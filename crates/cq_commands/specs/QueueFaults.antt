@@ -9,8 +9,8 @@ use Rattle.cq_layout.specs.declared.refusal.Refusal.TheVariants.{BadRoom, CycleF
 use Rattle.cq_journal.specs.Journals.{Declares}
 use Rattle.cq_image.specs.Image.{AreNext}
 use Rattle.cq_folder.specs.Folder.{Files}
-use Rattle.cq_gated_tail.specs.declared.error.TakeFault.{TakeFault}
-use Rattle.cq_gated_tail.specs.declared.error.TakeFault.TheVariants as take
+use Rattle.cq_tail.specs.declared.error.TakeFault.{TakeFault}
+use Rattle.cq_tail.specs.declared.error.TakeFault.TheVariants as take
 use Rattle.cq_files.specs.declared.opening.CycleImage.{CycleImage}
 use Rattle.cq_files.specs.declared.opening.SavedQueue.{SavedQueue}
 use Rattle.cq_files.specs.FolderFaults.{HasCause, HasSettings, IsSaveFault}
