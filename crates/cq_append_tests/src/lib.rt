@@ -10,4 +10,6 @@ mod place_tests;
 #[cfg(test)]
 mod queues;
 #[cfg(test)]
+mod thread_tests;
+#[cfg(test)]
 mod writing_tests;
