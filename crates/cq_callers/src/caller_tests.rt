@@ -1,0 +1,86 @@
+//! Runs each caller once.
+
+ghost use Rattle.cq_words.specs.Values.{IsOf};
+
+use crate::{append_beside, append_then_read, append_written, next_message, reopened, take_next};
+use cq_append::Appender;
+use cq_cycle::Index;
+use cq_fixtures::{message_text, small_config};
+use cq_model::Message;
+use cq_tail::Tailer;
+use cq_words::{Caller, Queue};
+use std::alloc::Global;
+use std::sync::Wait;
+use std::test::Fail;
+use std::thread::Threads;
+
+/// A message that was answered, as text.
+fn answer_text(alloc: Global, answer: Option<(Index, Message)>) -> Result<String, Fail> {
+    match answer {
+        Some((index, message)) => message_text(alloc, index, &message),
+        None => Ok(String::from_str(alloc, "none")?),
+    }
+}
+
+#[test]
+fn a_message_is_appended_and_read(rt: HostRuntime) -> Result<(), Fail> {
+    let alloc = rt.alloc();
+    let read = append_then_read(alloc, small_config(alloc, 4)?, 0, b"hello")?;
+    assert_eq!(rt; answer_text(alloc, read)?.as_str(), "0 hello");
+    Ok(())
+}
+
+/// What two threads and a caller that puts bytes make of a queue: whether each thread appended, and the index that comes then.
+fn appended<R: Threads + Wait + Sync>(
+    rt: &R,
+    queue: &Queue,
+    caller: &mut Caller,
+) -> (bool, bool, Option<Index>)
+    requires { IsOf queue.now caller.old }
+    ensures { IsOf queue.now caller.new }
+{
+    let (one, two) = append_beside(rt, queue, caller, 0);
+    let appender = Appender::new(queue.split(caller));
+    let (_appender, index) = append_written(queue, appender, 0, 20, b"last");
+    (one, two, index)
+}
+
+/// What is taken from a queue by the name "reader", and what is read first.
+fn taken(alloc: Global, queue: &Queue, caller: &mut Caller) -> Result<String, Fail>
+    requires { IsOf queue.now caller.old }
+{
+    let mut tailer = Tailer::new(queue.split(caller));
+    let taken = take_next(alloc, queue, &mut tailer, "reader")?;
+    answer_text(alloc, taken)
+}
+
+/// What is read first of a queue that was stopped and opened again.
+fn read_again(alloc: Global, queue: Queue, caller: Caller) -> Result<String, Fail>
+    requires { IsOf queue caller }
+{
+    let (queue, caller) = reopened(alloc, small_config(alloc, 4)?, queue, caller)?;
+    let mut tailer = Tailer::new(caller);
+    let read = next_message(alloc, &queue, &mut tailer)?;
+    answer_text(alloc, read)
+}
+
+#[test]
+fn threads_append_and_one_message_is_taken(rt: HostRuntime) -> Result<(), Fail> {
+    let alloc = rt.alloc();
+    let (queue, mut caller) = Queue::create(alloc, small_config(alloc, 4)?, 0)?;
+    let (one, two, index) = appended(&rt, &queue, &mut caller);
+    assert!(rt; one && two);
+    assert_eq!(rt; index, Some(Index::new(0, 2)));
+    assert_eq!(rt; taken(alloc, &queue, &mut caller)?.as_str(), "0 hello");
+    Ok(())
+}
+
+#[test]
+fn a_queue_is_opened_again(rt: HostRuntime) -> Result<(), Fail> {
+    let alloc = rt.alloc();
+    let (queue, mut caller) = Queue::create(alloc, small_config(alloc, 4)?, 0)?;
+    let appender = Appender::new(queue.split(&mut caller));
+    let (_appender, _index) = append_written(&queue, appender, 0, 20, b"hello");
+    assert_eq!(rt; read_again(alloc, queue, caller)?.as_str(), "0 hello");
+    Ok(())
+}

@@ -1,0 +1,16 @@
+//! How the types of a queue are called: a caller of each, proved, and run by the tests. `docs/CALLING.md` shows them.
+#![tactic(auto)]
+
+#[cfg(test)]
+mod caller_tests;
+mod reading;
+mod sharing;
+mod stopping;
+mod taking;
+mod writing;
+
+pub use reading::next_message;
+pub use sharing::append_beside;
+pub use stopping::reopened;
+pub use taking::take_next;
+pub use writing::{append_then_read, append_written};
