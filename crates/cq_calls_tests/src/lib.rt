@@ -8,6 +8,8 @@ mod numbering;
 pub use numbering::is_numbered;
 
 #[cfg(test)]
+mod claim_tests;
+#[cfg(test)]
 mod cycle_tests;
 #[cfg(test)]
 mod journal_tests;
@@ -15,6 +17,8 @@ mod journal_tests;
 mod lives;
 #[cfg(test)]
 mod message_tests;
+#[cfg(test)]
+mod parts_tests;
 #[cfg(test)]
 mod queues;
 #[cfg(test)]
