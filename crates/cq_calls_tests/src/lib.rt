@@ -16,6 +16,8 @@ mod journal_tests;
 #[cfg(test)]
 mod lives;
 #[cfg(test)]
+mod many_tests;
+#[cfg(test)]
 mod message_tests;
 #[cfg(test)]
 mod parts_tests;
