@@ -3,7 +3,7 @@ use crate::lives::{Cycles, Start, push_contents};
 use crate::queues::{push_message, push_number};
 use cq_cycle::Index;
 use cq_fixtures::{DAY, small_config};
-use cq_gated_tail::Direction;
+use cq_tail::Direction;
 use cq_journal::{Journal, JournalReader, JournalWriter};
 use cq_model::Message;
 use std::alloc::{AllocError, Global};

@@ -8,13 +8,19 @@ mod numbering;
 pub use numbering::is_numbered;
 
 #[cfg(test)]
+mod claim_tests;
+#[cfg(test)]
 mod cycle_tests;
 #[cfg(test)]
 mod journal_tests;
 #[cfg(test)]
 mod lives;
 #[cfg(test)]
+mod many_tests;
+#[cfg(test)]
 mod message_tests;
+#[cfg(test)]
+mod parts_tests;
 #[cfg(test)]
 mod queues;
 #[cfg(test)]

@@ -2,11 +2,11 @@
 
 use crate::queues::{Call, Fixture};
 use cq_fixtures::{contents_of, contents_text, small_config};
-use cq_gated_words::Queue;
 use cq_journal::Journal;
 use cq_model::{Config, Contents};
-use cq_shown::CreateError;
-use std::alloc::Global;
+use cq_shown::{CreateError, Stopped};
+use cq_words::Queue;
+use std::alloc::{AllocError, Global};
 use std::process::Abort;
 use std::test::Fail;
 
@@ -24,7 +24,7 @@ pub enum Start {
 
 impl Start {
     /// A queue of this configuration that begins so.
-    fn queue(self, alloc: Global, config: Config) -> Result<Fixture, CreateError> {
+    pub fn queue(self, alloc: Global, config: Config) -> Result<Fixture, CreateError> {
         match self {
             Start::New(moment) => {
                 let (queue, caller) = Queue::create(alloc, config, moment)?;
@@ -58,8 +58,10 @@ fn reopened(alloc: Global, config: Config, contents: &Contents) -> Result<Fixtur
 pub enum End {
     /// Nothing.
     Dropped,
-    /// What is left of it once it was stopped.
+    /// What it holds once it was stopped.
     Stopped,
+    /// Which cells of its first cycle are not 0 once it was stopped, from this one on.
+    Cells(u32),
     /// What these calls answer once it was stopped and opened again.
     Reopened(&'static [Call]),
 }
@@ -91,6 +93,7 @@ impl Life {
         match self.end {
             End::Dropped => Ok(()),
             End::Stopped => push_contents(alloc, &fixture.into_contents(alloc)?, out),
+            End::Cells(from) => push_cells(&fixture.stop(), from, out),
             End::Reopened(calls) => {
                 self.push_again(alloc, &fixture.into_contents(alloc)?, calls, out)
             }
@@ -114,6 +117,23 @@ impl Life {
 pub fn push_contents(alloc: Global, contents: &Contents, out: &mut String) -> Result<(), Fail> {
     let text = contents_text(alloc, contents)?;
     Ok(out.push_str(text.as_str())?)
+}
+
+/// The cells of the first slot that are not 0, from this one on, each behind its number.
+fn push_cells(stopped: &Stopped, from: u32, out: &mut String) -> Result<(), Fail> {
+    let cells = stopped.config().shape().cells();
+    for k in from..cells {
+        push_cell(k, stopped.cell(0, k), out)?;
+    }
+    Ok(())
+}
+
+/// A cell behind its number, where it is not 0.
+fn push_cell(k: u32, cell: u32, out: &mut String) -> Result<(), AllocError> {
+    if cell == 0 {
+        return Ok(());
+    }
+    write!(out, "{k}:{cell:08x} ")
 }
 
 /// Lives through each of these, and compares what is answered.

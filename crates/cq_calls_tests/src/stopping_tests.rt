@@ -3,6 +3,7 @@ use crate::lives::{End, Life, Start, assert_lives};
 use crate::queues::Call;
 use cq_fixtures::{DAY, small_config};
 use cq_image::image;
+use cq_shown::CreateError;
 use std::alloc::Global;
 use std::test::Fail;
 
@@ -14,7 +15,16 @@ const BEGUN_BEHIND_HELLO: &[Call] = &[
     Call::AppendBeside("x"),
 ];
 
-static BEGUN: [Life; 2] = [
+/// The same, where the other message is dropped first.
+const DROPPED_BEHIND_HELLO: &[Call] = &[
+    Call::Append(0, "hello"),
+    Call::Begin(12),
+    Call::Put("1234567"),
+    Call::DropWriting,
+    Call::AppendBeside("x"),
+];
+
+static BEGUN: [Life; 4] = [
     Life {
         cycles: 4,
         start: Start::New(0),
@@ -28,6 +38,20 @@ static BEGUN: [Life; 2] = [
         calls: BEGUN_BEHIND_HELLO,
         end: End::Reopened(&[Call::Append(0, "x")]),
         answers: "0; begun; put; Busy, 0 hello; 1; ",
+    },
+    Life {
+        cycles: 4,
+        start: Start::New(0),
+        calls: DROPPED_BEHIND_HELLO,
+        end: End::Stopped,
+        answers: "0; begun; put; dropped; Busy, 0 hello; 0[hello;] at [0]",
+    },
+    Life {
+        cycles: 4,
+        start: Start::New(0),
+        calls: DROPPED_BEHIND_HELLO,
+        end: End::Reopened(&[Call::Append(0, "x")]),
+        answers: "0; begun; put; dropped; Busy, 0 hello; 1; ",
     },
 ];
 
@@ -78,6 +102,18 @@ static OPENED_AGAIN: [Life; 1] = [Life {
 #[test]
 fn a_stopped_queue_keeps_what_it_was_opened_with(rt: HostRuntime) -> Result<(), Fail> {
     assert_lives(&rt, rt.alloc(), &OPENED_AGAIN)
+}
+
+/// Whether no queue is opened again with no cycle.
+fn is_refused_without_cycles(alloc: Global) -> Result<bool, Fail> {
+    let made = Start::Held(&[], &[0]).queue(alloc, small_config(alloc, 4)?);
+    Ok(matches!(made, Err(CreateError::BadContents)))
+}
+
+#[test]
+fn a_queue_without_cycles_is_refused(rt: HostRuntime) -> Result<(), Fail> {
+    assert!(rt; is_refused_without_cycles(rt.alloc())?);
+    Ok(())
 }
 
 static LATER: [Life; 1] = [Life {
