@@ -1,5 +1,5 @@
 -- Which faults of a folder's queue are answered.
-use Rattle.std.specs.Prelude.{◌≡◌, ◌≢◌, ◌⊎◌, ⊤, ℕ, ◌+◌, ◌-◌, ◌^◌, ◌∷◌, ◌++◌, map, min, ◌<◌, ◌≤◌, List, [], length, slice_get, IsSomeAnd, Option, None, Some}
+use Rattle.std.specs.Prelude.{◌≡◌, ◌≢◌, ◌⊎◌, ⊤, ℕ, ◌+◌, ◌-◌, ◌^◌, ◌∷◌, ◌++◌, map, min, ◌<◌, ◌≤◌, List, [], length, slice_get, IsSomeAnd, Option, None, Some, Bool}
 use Rattle.cq_layout.specs.Room.{Fits, IsMessageLength}
 use Rattle.cq_layout.specs.Shape.{Measures}
 use Rattle.cq_cycle.specs.Index.{index_text}
@@ -13,7 +13,8 @@ use Rattle.cq_tail.specs.declared.error.TakeFault.{TakeFault}
 use Rattle.cq_tail.specs.declared.error.TakeFault.TheVariants as take
 use Rattle.cq_files.specs.declared.opening.CycleImage.{CycleImage}
 use Rattle.cq_files.specs.declared.opening.SavedQueue.{SavedQueue}
-use Rattle.cq_files.specs.FolderFaults.{HasCause, HasSettings, IsSaveFault}
+use Rattle.cq_files.specs.FolderFaults.{HasCause, IsQueueFault, IsSaveFault}
+use Rattle.cq_commands.specs.Messages.{IsReadOut, IsStart}
 use Rattle.cq_files.specs.Queue.{CanBeOpened, HoldQueue, IsLawfulQueue, contents_in}
 use Rattle.cq_text.specs.declared.fault.ToolFault.{ToolFault}
 use Rattle.cq_text.specs.declared.fault.ToolFault.TheVariants.{OutOfMemory, Refused, WriteFault, BadIndex, BadContents, NoSuchName}
@@ -46,33 +47,41 @@ pub record HoldsBadContents (files : Files) : Type 0 where
   pub held : HoldQueue queue files
   pub bad : ¬ CanBeOpened queue.saved.config (contents_in queue)
 
+-- the files are those of the queue, and it can be opened
+pub record HoldOpenable (queue : SavedQueue) (files : Files) : Type 0 where
+  pub lawful : IsLawfulQueue queue
+  pub held : HoldQueue queue files
+  pub openable : CanBeOpened queue.saved.config (contents_in queue)
+
 -- why a folder's queue is not opened: the folder is at fault, or the queue cannot be opened
 abbrev pub IsOpenFault : Files → ToolFault → Type 0
-IsOpenFault files fault = ((fault ≡ BadContents) × HoldsBadContents files) ⊎ HasCause files fault
+IsOpenFault files fault = ((fault ≡ BadContents) × HoldsBadContents files) ⊎ IsQueueFault files fault
 
 -- the word is no index
 abbrev pub IsNoIndex : List ℕ → Type 0
 IsNoIndex word = (index : ℕ) → index < 2 ^ 64 → word ≢ index_text index
 
--- why messages are not read: the index is none, the queue is not opened, or the lines are not written
-abbrev pub IsReadFault : Option (List ℕ) → Files → ToolFault → Type 0
-IsReadFault from files fault =
-    ((fault ≡ BadIndex) × IsSomeAnd from IsNoIndex) ⊎ ((fault ≡ WriteFault) ⊎ IsOpenFault files fault)
-
--- the files' configuration declares no such name
-pub record DeclaresNot (files : Files) (name : List ℕ) : Type 0 where
-  pub settings : Settings
-  pub configured : HasSettings files settings
-  pub none : ¬ Declares settings name
+-- why messages are not read: the word is no index; else the queue is not opened; else the lines are not written
+abbrev pub IsReadFault : Bool → Option (List ℕ) → Files → ToolFault → Type 0
+IsReadFault back from files fault = ((fault ≡ BadIndex) × IsSomeAnd from IsNoIndex)
+    ⊎ (((start : ℕ) × IsStart back from start × IsOpenFault files fault)
+    ⊎ ((fault ≡ WriteFault) × ((text : List ℕ) × IsReadOut back from (Some files) text)))
 
 -- memory ran out, or no such name is declared
 abbrev pub IsNameFault : Settings → List ℕ → ToolFault → Type 0
 IsNameFault settings name fault = (fault ≡ OutOfMemory) ⊎ ((fault ≡ NoSuchName) × ¬ Declares settings name)
 
--- why no message is taken: there is no such name, the queue is not opened, or what was taken is not saved or printed
+-- why no message is taken under a name of a queue that was opened: there is no such name; else what was taken is not saved or
+-- printed
+pub record RefusesName (name : List ℕ) (files : Files) (fault : ToolFault) : Type 0 where
+  pub queue : SavedQueue
+  pub opened : HoldOpenable queue files
+  pub cause : ((fault ≡ NoSuchName) × ¬ Declares queue.saved.config name)
+      ⊎ (Declares queue.saved.config name × IsSaveFault fault)
+
+-- why no message is taken: the queue is not opened, or it is and the name is at fault, or what was taken
 abbrev pub IsTakeFault : List ℕ → Files → ToolFault → Type 0
-IsTakeFault name files fault =
-    ((fault ≡ NoSuchName) × DeclaresNot files name) ⊎ (IsSaveFault fault ⊎ IsOpenFault files fault)
+IsTakeFault name files fault = IsOpenFault files fault ⊎ RefusesName name files fault
 
 -- why a line is no message behind these: it has a length that no message has, or it does not fit
 abbrev pub IsRefusedBehind : Measures → List (List ℕ) → List ℕ → Refusal → Type 0

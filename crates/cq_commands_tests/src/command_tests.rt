@@ -219,7 +219,7 @@ fn read_order(alloc: Global, back: bool, from: Option<&str>) -> Result<Order, Al
 }
 
 /// What an order writes over a folder, with the input "hello".
-fn ran<F: Folder>(alloc: Global, folder: &mut F, order: Order) -> Result<String, Fail> {
+fn ran<F: Folder>(alloc: Global, folder: &mut F, order: &Order) -> Result<String, Fail> {
     let mut output = Vec::new(alloc);
     let mut rest: &[u8] = b"hello\n";
     let done = run(alloc, order, folder, &mut rest, &mut output);
@@ -230,7 +230,7 @@ fn ran<F: Folder>(alloc: Global, folder: &mut F, order: Order) -> Result<String,
 fn ran_behind(alloc: Global, before: &[Step], asked: Asked) -> Result<String, Fail> {
     let mut folder = MemoryFolder::new(alloc);
     said_by(alloc, &mut folder, before)?;
-    let ran = ran(alloc, &mut folder, order_of(alloc, asked)?)?;
+    let ran = ran(alloc, &mut folder, &order_of(alloc, asked)?)?;
     let checked = said_by(alloc, &mut folder, &[Step::Check])?;
     Ok(format!(in alloc; "{ran}|{checked}")?)
 }

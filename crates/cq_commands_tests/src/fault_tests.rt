@@ -227,9 +227,10 @@ static UNPRINTED: Failing = Failing {
     step: Step::WriteUnprinted,
     after: &[Step::Check],
     table: &[
-        (3, "cq: file fault: 19700101.cqi", ""),
-        (4, "cq: write fault", "19700101.cqi: 1 messages, open\n"),
+        (4, "cq: file fault: 19700101.cqi", ""),
+        (5, "cq: write fault", "19700101.cqi: 1 messages, open\n"),
     ],
+    writes: false,
 };
 
 #[test]
@@ -330,12 +331,13 @@ const TWO_CYCLES: &[Step] = &[
 /// What `check` says of it.
 const BOTH: &str = "19700101.cqi: 1 messages, ended\n19700102.cqi: 1 messages, open\n";
 
-/// The calls of a command that reads all images: the list, `queue.cqc`, and the images.
+/// The calls of a command that reads all images: it comes in, then the list, `queue.cqc`, and the images.
 const READER_FAULTS: &[(u64, &str, &str)] = &[
     (1, "cq: folder fault", BOTH),
-    (2, "cq: file fault: queue.cqc", BOTH),
-    (3, "cq: file fault: 19700101.cqi", BOTH),
-    (4, "cq: file fault: 19700102.cqi", BOTH),
+    (2, "cq: folder fault", BOTH),
+    (3, "cq: file fault: queue.cqc", BOTH),
+    (4, "cq: file fault: 19700101.cqi", BOTH),
+    (5, "cq: file fault: 19700102.cqi", BOTH),
 ];
 
 static FAILING_READ: Failing = Failing {
@@ -343,6 +345,7 @@ static FAILING_READ: Failing = Failing {
     step: Step::Read(false, None),
     after: &[Step::Check],
     table: READER_FAULTS,
+    writes: false,
 };
 
 #[test]
@@ -355,6 +358,7 @@ static FAILING_CHECK: Failing = Failing {
     step: Step::Check,
     after: &[Step::Check],
     table: READER_FAULTS,
+    writes: false,
 };
 
 #[test]
@@ -368,15 +372,17 @@ static FAILING_DUMP: Failing = Failing {
     after: &[Step::Check],
     table: &[
         (1, "cq: folder fault", BOTH),
-        (2, "cq: file fault: queue.cqc", BOTH),
-        (3, "cq: file fault: 19700102.cqi", BOTH),
+        (2, "cq: folder fault", BOTH),
+        (3, "cq: file fault: queue.cqc", BOTH),
+        (4, "cq: file fault: 19700102.cqi", BOTH),
         (
-            4,
+            5,
             "00000000 40000018 store 1 1 8 1 64\n0000001c 40000020 top 64 0 0 0 0 0 0 0\n\
 00000040 40000020 table 0 100 0 0 0 0 0 0 0\n00000064 00000001 data 0 61\n",
             BOTH,
         ),
     ],
+    writes: false,
 };
 
 #[test]
@@ -387,54 +393,78 @@ fn dump_passes_each_folder_fault_on(rt: HostRuntime) -> Result<(), Fail> {
 static FAILING_INIT: Failing = Failing {
     before: &[Step::Put("notes", b"kept")],
     step: Step::Queue(4),
-    after: &[Step::Text("notes")],
+    after: &[Step::Text("notes"), Step::Check],
     table: &[
-        (1, "cq: folder fault", "kept"),
-        (2, "cq: file fault: queue.cqc", "kept"),
+        (1, "cq: folder fault", "keptcq: no queue here"),
+        (2, "cq: folder fault", "keptcq: no queue here"),
+        (3, "cq: file fault: queue.cqc", "keptcq: no queue here"),
+        (4, "", "kept"),
     ],
+    writes: false,
+};
+
+/// The same where the queue is made all the same.
+static MADE_INIT: Failing = Failing {
+    before: &[Step::Put("notes", b"kept")],
+    step: Step::Queue(4),
+    after: &[Step::Text("notes"), Step::Check],
+    table: &[(3, "cq: file fault: queue.cqc", "kept")],
+    writes: true,
 };
 
 #[test]
 fn init_passes_each_folder_fault_on(rt: HostRuntime) -> Result<(), Fail> {
-    expect_failing(&rt, &FAILING_INIT)
+    expect_failing(&rt, &FAILING_INIT)?;
+    expect_failing(&rt, &MADE_INIT)
 }
 
-/// The calls of a write that begins a cycle: the list, `queue.cqc`, one image, the ended image and the new one.
+/// A queue with "hello" in cycle 0, beside a file that is none of its own.
+const BESIDE_NOTES: &[Step] = &[
+    Step::Queue(4),
+    Step::Put("notes", b"kept"),
+    Step::Write(0, b"hello\n"),
+];
+
+/// What is left of it.
+const LEFT: &[Step] = &[Step::Check, Step::Text("notes"), Step::Text("queue.cqc")];
+
+/// The calls of a write that begins a cycle: it comes in, then the list, `queue.cqc`, the image, and both images at once.
 static FAILING_WRITE: Failing = Failing {
-    before: &[
-        Step::Queue(4),
-        Step::Put("notes", b"kept"),
-        Step::Write(0, b"hello\n"),
-    ],
+    before: BESIDE_NOTES,
     step: Step::Write(DAY, b"a\n"),
-    after: &[Step::Check, Step::Text("notes"), Step::Text("queue.cqc")],
+    after: LEFT,
     table: &[
         (1, "cq: folder fault", OPEN),
-        (2, "cq: file fault: queue.cqc", OPEN),
-        (3, "cq: file fault: 19700101.cqi", OPEN),
+        (2, "cq: folder fault", OPEN),
+        (3, "cq: file fault: queue.cqc", OPEN),
         (4, "cq: file fault: 19700101.cqi", OPEN),
-        (
-            5,
-            "cq: file fault: 19700102.cqi",
-            "19700101.cqi: 1 messages, ended\n\
-keptcq 1\nroll daily\nepoch 0\ncells 64\ncount 8\nspacing 1\ncycles 4\nname reader 0\n",
-        ),
-        (
-            6,
-            "0000000100000000\n",
-            "19700101.cqi: 1 messages, ended\n19700102.cqi: 1 messages, open\n\
-keptcq 1\nroll daily\nepoch 0\ncells 64\ncount 8\nspacing 1\ncycles 4\nname reader 0\n",
-        ),
+        (5, "cq: file fault: 19700101.cqi", OPEN),
+        (6, "0000000100000000\n", ROLLED),
     ],
+    writes: false,
+};
+
+/// The same where both images are saved all the same.
+static SAVED_WRITE: Failing = Failing {
+    before: BESIDE_NOTES,
+    step: Step::Write(DAY, b"a\n"),
+    after: LEFT,
+    table: &[(5, "cq: file fault: 19700101.cqi", ROLLED)],
+    writes: true,
 };
 
 /// What is left of the folder as long as no image is written.
 const OPEN: &str = "19700101.cqi: 1 messages, open\n\
 keptcq 1\nroll daily\nepoch 0\ncells 64\ncount 8\nspacing 1\ncycles 4\nname reader 0\n";
 
+/// What is left of it where both are.
+const ROLLED: &str = "19700101.cqi: 1 messages, ended\n19700102.cqi: 1 messages, open\n\
+keptcq 1\nroll daily\nepoch 0\ncells 64\ncount 8\nspacing 1\ncycles 4\nname reader 0\n";
+
 #[test]
-fn write_passes_each_folder_fault_on(rt: HostRuntime) -> Result<(), Fail> {
-    expect_failing(&rt, &FAILING_WRITE)
+fn write_saves_all_or_nothing(rt: HostRuntime) -> Result<(), Fail> {
+    expect_failing(&rt, &FAILING_WRITE)?;
+    expect_failing(&rt, &SAVED_WRITE)
 }
 
 static REFUSED: [(Step, &str); 9] = [

@@ -8,6 +8,10 @@ mod command_tests;
 #[cfg(test)]
 mod echo_tests;
 #[cfg(test)]
+mod falling;
+#[cfg(test)]
+mod falling_tests;
+#[cfg(test)]
 mod fault_tests;
 #[cfg(test)]
 mod limit_tests;

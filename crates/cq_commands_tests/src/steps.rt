@@ -1,7 +1,7 @@
 //! Steps over a folder in memory, and what is said at each.
 use crate::streams::{Broken, said};
 use cq_commands::{InitSettings, check, dump, init, read, take, write};
-use cq_folder::{FailingFolder, Folder, MemoryFolder};
+use cq_folder::{FailingFolder, Folder, FolderFault, MemoryFolder};
 use std::alloc::{AllocError, Global};
 use std::process::Abort;
 use std::test::Fail;
@@ -93,7 +93,7 @@ fn made<F: Folder>(
         cycles,
         names: texts(alloc, names)?,
     };
-    said(alloc, init(alloc, folder, settings), &[])
+    said(alloc, init(alloc, folder, &settings), &[])
 }
 
 /// Texts of their own.
@@ -183,9 +183,10 @@ fn copies(alloc: Global, byte: u8, count: usize) -> Result<Vec<u8>, AllocError> 
 
 /// The bytes of a file, none where it is not there.
 fn bytes_of<F: Folder>(alloc: Global, folder: &mut F, file: &str) -> Result<Vec<u8>, Fail> {
-    match folder.read(alloc, file, MOST_BYTES)? {
-        Some(bytes) => Ok(bytes),
-        None => Ok(Vec::new(alloc)),
+    match folder.read(alloc, file, MOST_BYTES) {
+        Ok(bytes) => Ok(bytes),
+        Err(FolderFault::Device) => Ok(Vec::new(alloc)),
+        Err(fault) => Err(Fail::from(fault)),
     }
 }
 
@@ -309,13 +310,18 @@ pub struct Failing {
     pub after: &'static [Step],
     /// For a number of the failing call, what is said at the step and behind it.
     pub table: &'static [(u64, &'static str, &'static str)],
+    /// Whether what the failing call writes is written all the same.
+    pub writes: bool,
 }
 
 /// What is said at the step and behind it, where the call with this number fails.
 fn said_failing(alloc: Global, failing: &Failing, number: u64) -> Result<String, Fail> {
     let mut folder = MemoryFolder::new(alloc);
     said_by(alloc, &mut folder, failing.before)?;
-    let mut folder = FailingFolder::new(folder, number);
+    let mut folder = match failing.writes {
+        false => FailingFolder::new(folder, number),
+        true => FailingFolder::written(folder, number),
+    };
     let said = said_at(alloc, &mut folder, &failing.step)?;
     let behind = said_by(alloc, &mut folder.into_inner(), failing.after)?;
     Ok(format!(in alloc; "{said}|{behind}")?)

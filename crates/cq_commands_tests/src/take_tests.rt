@@ -158,29 +158,44 @@ fn takes_by_two_names_over_several_days(rt: HostRuntime) -> Result<(), Fail> {
 const AT_START: &str =
     "cq 1\nroll daily\nepoch 0\ncells 64\ncount 8\nspacing 1\ncycles 4\nname reader 0\n";
 
+/// The same where "hello" is taken.
+const BEHIND_HELLO: &str =
+    "cq 1\nroll daily\nepoch 0\ncells 64\ncount 8\nspacing 1\ncycles 4\nname reader 1\n";
+
+/// A queue with "hello" in cycle 0 and "a" in cycle 1.
+const TWO_CYCLES: &[Step] = &[
+    Step::Queue(4),
+    Step::Write(0, b"hello\n"),
+    Step::Write(DAY, b"a\n"),
+];
+
 static FAILING: Failing = Failing {
-    before: &[
-        Step::Queue(4),
-        Step::Write(0, b"hello\n"),
-        Step::Write(DAY, b"a\n"),
-    ],
+    before: TWO_CYCLES,
     step: Step::Take("reader"),
     after: &[Step::Text("queue.cqc")],
     table: &[
         (1, "cq: folder fault", AT_START),
-        (2, "cq: file fault: queue.cqc", AT_START),
-        (3, "cq: file fault: 19700101.cqi", AT_START),
-        (4, "cq: file fault: 19700102.cqi", AT_START),
-        (5, "cq: file fault: queue.cqc", AT_START),
-        (
-            6,
-            "0000000000000000 hello\n",
-            "cq 1\nroll daily\nepoch 0\ncells 64\ncount 8\nspacing 1\ncycles 4\nname reader 1\n",
-        ),
+        (2, "cq: folder fault", AT_START),
+        (3, "cq: file fault: queue.cqc", AT_START),
+        (4, "cq: file fault: 19700101.cqi", AT_START),
+        (5, "cq: file fault: 19700102.cqi", AT_START),
+        (6, "cq: file fault: queue.cqc", AT_START),
+        (7, "0000000000000000 hello\n", BEHIND_HELLO),
     ],
+    writes: false,
+};
+
+/// The same where the position is saved all the same.
+static SAVED: Failing = Failing {
+    before: TWO_CYCLES,
+    step: Step::Take("reader"),
+    after: &[Step::Text("queue.cqc")],
+    table: &[(6, "cq: file fault: queue.cqc", BEHIND_HELLO)],
+    writes: true,
 };
 
 #[test]
 fn take_passes_each_folder_fault_on(rt: HostRuntime) -> Result<(), Fail> {
-    expect_failing(&rt, &FAILING)
+    expect_failing(&rt, &FAILING)?;
+    expect_failing(&rt, &SAVED)
 }

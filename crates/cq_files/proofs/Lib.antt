@@ -1,4 +1,7 @@
+pub mod NameLemmas
 pub mod QueueLemmas
 pub mod CauseLemmas
+pub mod OrderLemmas
 pub mod SavingLemmas
+pub mod WritingLemmas
 pub mod CheckLemmas

@@ -1,6 +1,8 @@
 -- Which faults of a folder and its files are answered.
-use Rattle.std.specs.Prelude.{◌≡◌, ◌⊎◌, ⊤, ℕ, ◌+◌, ◌++◌, true, false, ◌<◌, List, length, slice_get, Err, IsSome, IsSomeAnd, Some, codes, string_bytes}
-use Rattle.cq_model.specs.Settings.{Settings}
+use Rattle.std.specs.Prelude.{◌≡◌, ◌⊎◌, ⊤, ℕ, ◌+◌, true, false, ◌<◌, ◌≤◌, List, length, slice_get, take, Err, IsOk, IsSome, IsSomeAnd, Some, codes, string_bytes}
+use Rattle.std.specs.List.{AllByRecursion}
+use Rattle.std.specs.declared.cmp.Ordering.TheVariants.{Less}
+use Rattle.cq_model.specs.Settings.{IsLawfulSettings, Settings}
 use Rattle.cq_image.specs.declared.fault.ImageFault.{ImageFault}
 use Rattle.cq_image.specs.Reading.{read_of}
 use Rattle.cq_folder.specs.ConfigFault.{RefusesText}
@@ -10,7 +12,7 @@ use Rattle.cq_folder.specs.declared.config_fault.ConfigFault.{ConfigFault}
 use Rattle.cq_folder.specs.declared.config_fault.ConfigFault.TheVariants as config
 use Rattle.cq_files.specs.declared.opening.CycleImage.{CycleImage}
 use Rattle.cq_files.specs.declared.opening.SavedQueue.{SavedQueue}
-use Rattle.cq_files.specs.Queue.{HoldQueue, IsImageName, file_of}
+use Rattle.cq_files.specs.Queue.{HoldQueue, IsImageFile, IsImageName, IsLawfulImage, file_of, name_cmp}
 use Rattle.cq_files.specs.declared.files.TheConstants.{MOST_FILE_BYTES}
 use Rattle.cq_text.specs.declared.fault.ToolFault.{ToolFault}
 use Rattle.cq_text.specs.declared.fault.ToolFault.TheVariants.{OutOfMemory, FolderFault, FileFault, FileTooLarge, WriteFault, ConfigLine, BadShape, BadConfig, BadCycleName, FaultyImage, NoQueueHere, WrongEnd, NoSuchFile, ImagesAtFault}
@@ -63,15 +65,17 @@ pub record HoldsFault (files : Files) (file : List ℕ) (fault : ImageFault) : T
   pub named : IsImageName settings cycle file
   pub found : IsSomeAnd (files file) (λ bytes. read_of settings.shape cycle bytes ≡ Err fault)
 
--- the file is one of the queue's images, and ends wrongly among them
+-- the file is one of the queue's images, and the first that ends wrongly among them
 pub record EndsWrongly (files : Files) (file : List ℕ) : Type 0 where
   pub queue : SavedQueue
   pub held : HoldQueue queue files
+  pub lawful : AllByRecursion (IsLawfulImage queue.saved.config) queue.images.items
   pub at : ℕ
   pub image : CycleImage
   pub there : slice_get queue.images.items at ≡ Some image
   pub named : file ≡ file_of image
   pub ends : EndsWronglyAt queue.images.items at image
+  pub before : AllByRecursion (λ other. other.ended ≡ true) (take at queue.images.items)
 
 -- what the files have to do with a fault that they are said to have; of a fault of the device, and of want of memory,
 -- they say nothing
@@ -89,16 +93,86 @@ HasCause files (FaultyImage file fault) = HoldsFault files (string_bytes file) f
 HasCause files (WrongEnd file) = EndsWrongly files (string_bytes file)
 HasCause files _ = ⊥
 
+-- the file is named as the image of a cycle
+abbrev pub NamesCycle : Settings → List ℕ → Type 0
+NamesCycle settings file = (cycle : ℕ) × IsImageName settings cycle file
+
+-- the file is small enough to be read
+abbrev pub IsSmall : Files → Settings → List ℕ → Type 0
+IsSmall files settings file = IsSomeAnd (files file) (λ bytes. length bytes ≤ MOST_FILE_BYTES)
+
+-- the file is small enough, and the strict reader finds no fault in the image of the cycle that its name gives
+pub record IsWhole (files : Files) (settings : Settings) (file : List ℕ) : Type 0 where
+  pub cycle : ℕ
+  pub named : IsImageName settings cycle file
+  pub read : IsSomeAnd (files file) (λ bytes. (length bytes ≤ MOST_FILE_BYTES) × IsOk (read_of settings.shape cycle bytes))
+
+-- by the files' configuration all image files are named as images of cycles
+pub record NameCycles (files : Files) : Type 0 where
+  pub settings : Settings
+  pub configured : HasSettings files settings
+  pub lawful : IsLawfulSettings settings
+  pub named : (file : List ℕ) → IsImageFile files file → NamesCycle settings file
+
+-- by the files' configuration this holds of each image file that comes before the file in the order of names
+pub record HoldsBefore (files : Files) (file : List ℕ) (P : Settings → List ℕ → Type 0) : Type 0 where
+  pub settings : Settings
+  pub configured : HasSettings files settings
+  pub lawful : IsLawfulSettings settings
+  pub before : (other : List ℕ) → IsImageFile files other → name_cmp other file ≡ Less → P settings other
+
+-- what is looked at before the file is as it must be: nothing is before `queue.cqc`; before an image are the names of all
+-- images, and the images before it in the order of names, of which this must hold
+abbrev pub IsReached : (Files → Settings → List ℕ → Type 0) → Files → List ℕ → Type 0
+IsReached P files file = (file ≡ codes "queue.cqc") ⊎ (NameCycles files × HoldsBefore files file (P files))
+
+-- a fault is the first one, where this must hold of each image before the next one is looked at
+abbrev pub IsFirstFault : (Files → Settings → List ℕ → Type 0) → Files → ToolFault → Type 0
+IsFirstFault P files (FileFault file) = IsReached P files (string_bytes file)
+IsFirstFault P files (FileTooLarge file) = IsReached P files (string_bytes file)
+IsFirstFault P files (FaultyImage file fault) = IsReached P files (string_bytes file)
+IsFirstFault P files (BadCycleName file) = HoldsBefore files (string_bytes file) NamesCycle
+IsFirstFault P files _ = ⊤
+
+-- a fault that is found before any image is looked at
+abbrev pub IsFolderFault : ToolFault → Type 0
+IsFolderFault OutOfMemory = ⊤
+IsFolderFault FolderFault = ⊤
+IsFolderFault (FileFault file) = string_bytes file ≡ codes "queue.cqc"
+IsFolderFault (FileTooLarge file) = string_bytes file ≡ codes "queue.cqc"
+IsFolderFault NoQueueHere = ⊤
+IsFolderFault (ConfigLine number) = ⊤
+IsFolderFault BadShape = ⊤
+IsFolderFault BadConfig = ⊤
+IsFolderFault _ = ⊥
+
+-- a fault of the names of images: the first one that names no cycle
+abbrev pub IsNamingFault : Files → ToolFault → Type 0
+IsNamingFault files OutOfMemory = ⊤
+IsNamingFault files (BadCycleName file) = HoldsBefore files (string_bytes file) NamesCycle
+IsNamingFault files _ = ⊥
+
+-- a fault of the image with this name
+abbrev pub IsImageFault : List ℕ → ToolFault → Type 0
+IsImageFault name (FaultyImage file fault) = string_bytes file ≡ name
+IsImageFault name fault = IsFileFault name fault
+
+-- why the images of a queue are not read: the first fault of its folder
+abbrev pub IsQueueFault : Files → ToolFault → Type 0
+IsQueueFault files fault = HasCause files fault × IsFirstFault IsWhole files fault
+
 -- the folder has no file of that name with the ending of images
 abbrev pub IsMissing : List ℕ → Files → ToolFault → Type 0
 IsMissing file files (NoSuchFile name) =
-    (string_bytes name ≡ file) × ((front : List ℕ) → file ≡ front ++ codes ".cqi" → ¬ IsSome (files file))
+    (string_bytes name ≡ file) × ¬ IsImageFile files file
 IsMissing file files _ = ⊥
 
 -- why a file is not dumped: there is none, the folder is at fault, or the lines are not written
 abbrev pub IsDumpFault : List ℕ → Files → ToolFault → Type 0
 IsDumpFault file files fault = IsMissing file files fault ⊎ ((fault ≡ WriteFault) ⊎ HasCause files fault)
 
--- why images are not checked: one of them is at fault, the folder is, or the lines are not written
+-- why images are not checked: one of them is at fault, the folder is, of which this is the first fault, or the lines are
+-- not written
 abbrev pub IsCheckFault : Files → ToolFault → Type 0
-IsCheckFault files fault = (fault ≡ ImagesAtFault) ⊎ ((fault ≡ WriteFault) ⊎ HasCause files fault)
+IsCheckFault files fault =
+    (fault ≡ ImagesAtFault) ⊎ ((fault ≡ WriteFault) ⊎ (HasCause files fault × IsFirstFault IsSmall files fault))

@@ -1,5 +1,5 @@
 -- What `init` makes of its settings.
-use Rattle.std.specs.Prelude.{◌≡◌, ◌⊎◌, ⊤, ℕ, List, length, replicate, IsSome, codes, string_bytes}
+use Rattle.std.specs.Prelude.{◌≡◌, ◌⊎◌, ⊤, ℕ, List, length, replicate, Option, IfSome, IsSome, codes, string_bytes}
 use Rattle.cq_layout.specs.Shape.{IsLawfulShape, Measures, measures}
 use Rattle.cq_cycle.specs.declared.roll.Roll.{Roll}
 use Rattle.cq_cycle.specs.RollWord.{roll_word}
@@ -9,7 +9,7 @@ use Rattle.cq_folder.specs.Folder.{Files}
 use Rattle.cq_text.specs.declared.fault.ToolFault.{ToolFault}
 use Rattle.cq_text.specs.declared.fault.ToolFault.TheVariants.{BadConfig, BadShape, FolderFault, OutOfMemory, QueueThereAlready}
 use Rattle.cq_orders.specs.declared.settings.InitSettings.{InitSettings}
-use Rattle.cq_files.specs.FolderFaults.{IsFileFault}
+use Rattle.cq_files.specs.FolderFaults.{IsFileFault, IsSaveFault}
 
 -- the measures that were asked for
 abbrev pub wanted_shape : InitSettings → Measures
@@ -38,12 +38,16 @@ HasQueue files = IsSome (files (codes "queue.cqc"))
 abbrev pub NamesRoll : List ℕ → Type 0
 NamesRoll word = (roll : Roll) × (word ≡ roll_word roll)
 
--- why a folder is not found new
-abbrev pub IsListingFault : ToolFault → Type 0
-IsListingFault OutOfMemory = ⊤
-IsListingFault FolderFault = ⊤
-IsListingFault QueueThereAlready = ⊤
-IsListingFault _ = ⊥
+-- why a folder is not found new: it is not listed, or it has a queue
+abbrev pub IsListingFault : Option Files → ToolFault → Type 0
+IsListingFault files OutOfMemory = ⊤
+IsListingFault files FolderFault = ⊤
+IsListingFault files QueueThereAlready = IfSome files HasQueue
+IsListingFault files _ = ⊥
+
+-- the folder is new
+abbrev pub IsNew : Option Files → Type 0
+IsNew files = IfSome files (λ held. ¬ HasQueue held)
 
 -- why the settings are refused: their limits, of which the shape's come first
 abbrev pub IsLimitFault : InitSettings → Roll → ToolFault → Type 0
@@ -52,8 +56,14 @@ IsLimitFault wanted roll BadShape = ¬ IsLawfulShape (wanted_shape wanted)
 IsLimitFault wanted roll BadConfig = IsLawfulShape (wanted_shape wanted) × ¬ IsLawfulSettings (wanted_settings wanted roll)
 IsLimitFault wanted roll _ = ⊥
 
--- why no queue is made: no roll has the word, or the folder, the settings or the file are at fault
-abbrev pub IsInitFault : InitSettings → ToolFault → Type 0
-IsInitFault wanted fault = ((fault ≡ BadConfig) × ¬ NamesRoll (string_bytes wanted.roll))
+-- why no queue is made in a new folder: the settings are refused, or they are lawful and the file is at fault
+abbrev pub IsMakingFault : InitSettings → Roll → ToolFault → Type 0
+IsMakingFault wanted roll fault = IsLimitFault wanted roll fault
+    ⊎ (IsLawfulSettings (wanted_settings wanted roll) × IsFileFault (codes "queue.cqc") fault × IsSaveFault fault)
+
+-- why no queue is made: no roll has the word; else the folder is not found new; else it is, and the settings or the file are
+-- at fault
+abbrev pub IsInitFault : InitSettings → Option Files → ToolFault → Type 0
+IsInitFault wanted files fault = ((fault ≡ BadConfig) × ¬ NamesRoll (string_bytes wanted.roll))
     ⊎ ((roll : Roll) × (string_bytes wanted.roll ≡ roll_word roll)
-    × (IsListingFault fault ⊎ (IsLimitFault wanted roll fault ⊎ IsFileFault (codes "queue.cqc") fault)))
+    × (IsListingFault files fault ⊎ (IsNew files × IsMakingFault wanted roll fault)))

@@ -1,15 +1,15 @@
 //! The files of a queue's folder.
 
-ghost use Rattle.std.specs.Prelude.{◌≡◌, ◌≤◌, length, string_bytes, IfOk, IfErr, IfSome, OnOk, OnErr, Some};
+ghost use Rattle.std.specs.Prelude.{◌≡◌, ◌≤◌, ◌∷◌, [], length, map, string_bytes, IfOk, IfErr, IfSome, OnOk, OnErr, Some};
 ghost use Rattle.std.specs.List.{list_any};
 ghost use Rattle.std.specs.Str.{bytes_eq};
 ghost use Rattle.cq_model.specs.Settings.{texts};
-ghost use Rattle.cq_folder.specs.Folder.{KeepsFiles, KeepsOthers, ListsFiles, WritesFile};
+ghost use Rattle.cq_folder.specs.Folder.{KeepsFiles, KeepsOrWrites, ListsFiles, WritesFile, WritesFiles, named_file};
 ghost use Rattle.cq_files.specs.FolderFaults.{HasCause, IsFileFault, IsListFault, IsSaveFault};
 
-use cq_folder::{Folder, FolderFault};
+use cq_folder::{Access, Folder, FolderFault, NewFile};
 use cq_text::ToolFault;
-use std::alloc::Global;
+use std::alloc::{AllocError, Global};
 
 /// The file in which a queue's settings and positions are kept.
 pub const CONFIG_FILE: &str = "queue.cqc";
@@ -20,17 +20,33 @@ pub(crate) const IMAGE_ENDING: &str = ".cqi";
 /// The most bytes of a file that a command reads, and of the input that `write` takes.
 pub const MOST_FILE_BYTES: usize = 8_388_608;
 
-/// The names of a folder's files.
-pub(crate) fn listed<F: Folder>(alloc: Global, folder: &mut F) -> Result<Vec<String>, ToolFault>
+/// Begins a command, and gives the names of the folder's files.
+pub(crate) fn listed<F: Folder>(
+    alloc: Global,
+    folder: &mut F,
+    access: Access,
+) -> Result<Vec<String>, ToolFault>
     ensures listed { IfOk result (λ names. IfSome (F.files folder.old) (ListsFiles (texts names.items))) }
     ensures fault { IfErr result IsListFault }
     ensures cause { IfErr result (λ fault. IfSome (F.files folder.old) (λ files. HasCause files fault)) }
     ensures kept { KeepsFiles (F.files folder.old) (F.files folder.new) }
 {
+    if let Err(fault) = folder.begin(alloc, access) {
+        return Err(list_fault(fault));
+    }
     match folder.names(alloc) {
         Ok(names) => Ok(names),
-        Err(FolderFault::OutOfMemory) => Err(ToolFault::OutOfMemory),
-        Err(FolderFault::Device | FolderFault::TooLarge) => Err(ToolFault::FolderFault),
+        Err(fault) => Err(list_fault(fault)),
+    }
+}
+
+/// The fault of a folder that is not listed.
+fn list_fault(fault: FolderFault) -> ToolFault
+    ensures { IsListFault result }
+{
+    match fault {
+        FolderFault::OutOfMemory => ToolFault::OutOfMemory,
+        FolderFault::Device | FolderFault::TooLarge => ToolFault::FolderFault,
     }
 }
 
@@ -54,10 +70,8 @@ pub(crate) fn read_file<F: Folder>(
     ensures kept { KeepsFiles (F.files folder.old) (F.files folder.new) }
 {
     match folder.read(alloc, name, MOST_FILE_BYTES) {
-        Ok(Some(bytes)) => Ok(bytes),
-        Ok(None) | Err(FolderFault::Device) => {
-            Err(ToolFault::FileFault(String::from_str(alloc, name)?))
-        }
+        Ok(bytes) => Ok(bytes),
+        Err(FolderFault::Device) => Err(ToolFault::FileFault(String::from_str(alloc, name)?)),
         Err(FolderFault::TooLarge) => {
             Err(ToolFault::FileTooLarge(String::from_str(alloc, name)?))
         }
@@ -75,13 +89,53 @@ pub fn write_file<F: Folder>(
     ensures written { OnOk result (WritesFile (F.files folder.old) (F.files folder.new) name.now bytes.now) }
     ensures fault { IfErr result (IsFileFault name.now) }
     ensures save { IfErr result IsSaveFault }
-    ensures others { OnErr result (KeepsOthers (F.files folder.old) (F.files folder.new) name.now) }
+    ensures whole { OnErr result (KeepsOrWrites (F.files folder.old) (F.files folder.new) ((name.now, bytes.now) ∷ [])) }
+    ensures scarce { IfErr result (λ fault. fault ≡ ToolFault.OutOfMemory
+        → KeepsFiles (F.files folder.old) (F.files folder.new)) }
 {
+    // Made before the file is written: want of memory then leaves it as it was.
+    let file = String::from_str(alloc, name)?;
     match folder.write(name, bytes) {
         Ok(()) => Ok(()),
-        Err(FolderFault::OutOfMemory) => Err(ToolFault::OutOfMemory),
-        Err(FolderFault::Device | FolderFault::TooLarge) => {
-            Err(ToolFault::FileFault(String::from_str(alloc, name)?))
-        }
+        Err(fault) => Err(save_fault(fault, file)),
+    }
+}
+
+/// Makes the bytes of each of these the whole file of its name, together. A fault is told with the name of the first.
+pub(crate) fn save_files<F: Folder>(
+    alloc: Global,
+    folder: &mut F,
+    changes: &[NewFile],
+) -> Result<(), ToolFault>
+    ensures written { OnOk result (WritesFiles (F.files folder.old) (F.files folder.new) (map named_file changes.now)) }
+    ensures save { IfErr result IsSaveFault }
+    ensures whole { OnErr result (KeepsOrWrites (F.files folder.old) (F.files folder.new) (map named_file changes.now)) }
+    ensures scarce { IfErr result (λ fault. fault ≡ ToolFault.OutOfMemory
+        → KeepsFiles (F.files folder.old) (F.files folder.new)) }
+{
+    let first = first_name(alloc, changes)?;
+    match folder.save(changes) {
+        Ok(()) => Ok(()),
+        Err(fault) => Err(save_fault(fault, first)),
+    }
+}
+
+/// The name of the first of these files.
+fn first_name(alloc: Global, changes: &[NewFile]) -> Result<String, AllocError> {
+    match changes.first() {
+        Some(file) => String::from_str(alloc, file.name.as_str()),
+        None => Ok(String::new(alloc)),
+    }
+}
+
+/// The fault of a file that is not written.
+fn save_fault(fault: FolderFault, file: String) -> ToolFault
+    ensures fault { IsFileFault (string_bytes file) result }
+    ensures save { IsSaveFault result }
+    ensures scarce { result ≡ ToolFault.OutOfMemory → fault ≡ FolderFault.OutOfMemory }
+{
+    match fault {
+        FolderFault::OutOfMemory => ToolFault::OutOfMemory,
+        FolderFault::Device | FolderFault::TooLarge => ToolFault::FileFault(file),
     }
 }

@@ -1,12 +1,13 @@
-ghost use Rattle.std.specs.Prelude.{◌≡◌, ℕ, List, IfErr, IfOk, IfSome, OnErr, OnOk, codes};
+ghost use Rattle.std.specs.Prelude.{◌≡◌, ◌⊎◌, ℕ, List, IfErr, IfOk, IfSome, OnErr, OnOk, codes};
 ghost use Rattle.cq_model.specs.Settings.{IsLawfulSettings};
-ghost use Rattle.cq_folder.specs.Folder.{KeepsFiles, KeepsOthers, WritesFile};
+ghost use Rattle.cq_folder.specs.Folder.{KeepsFiles, WritesFile};
 ghost use Rattle.cq_files.specs.FolderFaults.{IsSaveFault};
-ghost use Rattle.cq_files.specs.Initialised.{HasQueue, IsInitFault, IsInitialText, IsLimitFault, IsListingFault, IsTextFor, wanted_settings};
+ghost use Rattle.cq_files.specs.Initialised.{HasQueue, IsInitFault, IsInitialText, IsLimitFault, IsListingFault, IsNew, IsTextFor, wanted_settings};
 
 use crate::files::{CONFIG_FILE, has_name, listed, write_file};
+use crate::names::copied_names;
 use cq_cycle::{Roll, roll_named};
-use cq_folder::{Folder, WantedConfig, write_config};
+use cq_folder::{Access, Folder, WantedConfig, write_config};
 use cq_model::Config;
 use cq_orders::InitSettings;
 use cq_text::ToolFault;
@@ -16,19 +17,25 @@ use std::alloc::Global;
 /// cycle begins with the first `write`.
 ///
 /// The first of these faults is answered: `BadConfig` where the word names no roll, `FolderFault`, `QueueThereAlready`,
-/// `BadShape`, `BadConfig`, `FileFault`. `OutOfMemory` can come at any growth.
+/// `BadShape`, `BadConfig`, `FileFault`. `OutOfMemory` can come at any growth, and leaves every file as it was. After a
+/// `FileFault` the queue is made whole, or every file is as it was.
 pub fn init<F: Folder>(
     alloc: Global,
     folder: &mut F,
-    settings: InitSettings,
+    settings: &InitSettings,
 ) -> Result<(), ToolFault>
-    ensures written { OnOk result ((text : List ℕ) × IsInitialText settings text
+    ensures written { OnOk result ((text : List ℕ) × IsInitialText settings.now text
         × WritesFile (F.files folder.old) (F.files folder.new) (codes "queue.cqc") text) }
-    ensures new { OnOk result (IfSome (F.files folder.old) (λ files. ¬ HasQueue files)) }
-    ensures fault { IfErr result (IsInitFault settings) }
-    ensures there { IfErr result (λ fault. fault ≡ ToolFault.QueueThereAlready → IfSome (F.files folder.old) HasQueue) }
+    ensures new { OnOk result (IsNew (F.files folder.old)) }
+    ensures fault { IfErr result (IsInitFault settings.now (F.files folder.old)) }
     ensures kept { IfErr result (λ fault. ¬ IsSaveFault fault → KeepsFiles (F.files folder.old) (F.files folder.new)) }
-    ensures others { OnErr result (KeepsOthers (F.files folder.old) (F.files folder.new) (codes "queue.cqc")) }
+    ensures whole { OnErr result (KeepsFiles (F.files folder.old) (F.files folder.new)
+        ⊎ ((text : List ℕ) × IsInitialText settings.now text
+        × WritesFile (F.files folder.old) (F.files folder.new) (codes "queue.cqc") text)) }
+    ensures scarce { IfErr result (λ fault. fault ≡ ToolFault.OutOfMemory
+        → KeepsFiles (F.files folder.old) (F.files folder.new)) }
+    ensures safe { IfErr result (λ _. IfSome (F.files folder.old) (λ files. HasQueue files
+        → KeepsFiles (F.files folder.old) (F.files folder.new))) }
 {
     let roll = roll_named(settings.roll.as_str()).ok_or(ToolFault::BadConfig)?;
     check_new(alloc, folder)?;
@@ -38,12 +45,11 @@ pub fn init<F: Folder>(
 
 /// Refuses a folder that has a queue.
 fn check_new<F: Folder>(alloc: Global, folder: &mut F) -> Result<(), ToolFault>
-    ensures new { OnOk result (IfSome (F.files folder.old) (λ files. ¬ HasQueue files)) }
-    ensures there { IfErr result (λ fault. fault ≡ ToolFault.QueueThereAlready → IfSome (F.files folder.old) HasQueue) }
-    ensures fault { IfErr result IsListingFault }
+    ensures new { OnOk result (IsNew (F.files folder.old)) }
+    ensures fault { IfErr result (IsListingFault (F.files folder.old)) }
     ensures kept { KeepsFiles (F.files folder.old) (F.files folder.new) }
 {
-    let files = listed(alloc, folder)?;
+    let files = listed(alloc, folder, Access::Alone)?;
     if has_name(files.as_slice(), CONFIG_FILE) {
         return Err(ToolFault::QueueThereAlready);
     }
@@ -51,20 +57,20 @@ fn check_new<F: Folder>(alloc: Global, folder: &mut F) -> Result<(), ToolFault>
 }
 
 /// The text of `queue.cqc` with these settings.
-fn initial_text(alloc: Global, roll: Roll, settings: InitSettings) -> Result<Vec<u8>, ToolFault>
-    ensures text { IfOk result (λ text. IsTextFor settings roll text.items) }
-    ensures fault { IfErr result (IsLimitFault settings roll) }
+fn initial_text(alloc: Global, roll: Roll, settings: &InitSettings) -> Result<Vec<u8>, ToolFault>
+    ensures text { IfOk result (λ text. IsTextFor settings.now roll text.items) }
+    ensures fault { IfErr result (IsLimitFault settings.now roll) }
 {
-    let config = config_for(roll, settings)?;
+    let config = config_for(alloc, roll, settings)?;
     let positions = vec![in alloc; 0; config.names().len()]?;
     Ok(write_config(alloc, &config, positions.as_slice())?)
 }
 
 /// The configuration that was asked for, if it is within the limits.
-fn config_for(roll: Roll, settings: InitSettings) -> Result<Config, ToolFault>
-    ensures config { IfOk result (λ config. (config ≡ wanted_settings settings roll)
-        × IsLawfulSettings (wanted_settings settings roll)) }
-    ensures fault { IfErr result (IsLimitFault settings roll) }
+fn config_for(alloc: Global, roll: Roll, settings: &InitSettings) -> Result<Config, ToolFault>
+    ensures config { IfOk result (λ config. (config ≡ wanted_settings settings.now roll)
+        × IsLawfulSettings (wanted_settings settings.now roll)) }
+    ensures fault { IfErr result (IsLimitFault settings.now roll) }
 {
     let wanted = WantedConfig {
         roll,
@@ -74,5 +80,6 @@ fn config_for(roll: Roll, settings: InitSettings) -> Result<Config, ToolFault>
         index_spacing: settings.index_spacing,
         cycles: settings.cycles,
     };
-    Ok(wanted.config(settings.names)?)
+    let names = copied_names(alloc, settings.names.as_slice())?;
+    Ok(wanted.config(names)?)
 }

@@ -6,6 +6,7 @@ mod checking;
 mod dumping;
 mod files;
 mod initialising;
+mod names;
 mod opening;
 mod saving;
 
@@ -13,5 +14,6 @@ pub use checking::check;
 pub use dumping::dump;
 pub use files::{CONFIG_FILE, MOST_FILE_BYTES, has_name, write_file};
 pub use initialising::init;
+pub use names::copied_names;
 pub use opening::{CycleImage, ImageFile, SavedQueue, open_queue};
 pub use saving::save;

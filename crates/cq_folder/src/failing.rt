@@ -1,10 +1,11 @@
-ghost use Rattle.std.specs.Prelude.{◌≡◌, ◌+◌, ◌-◌, ◌^◌, ◌↔◌, IsTrue, false, min};
+ghost use Rattle.std.specs.Prelude.{◌≡◌, ◌+◌, ◌-◌, ◌^◌, ◌↔◌, IsTrue, false, min, true};
 
-use crate::storage::{Folder, FolderFault};
+use crate::storage::{Access, Folder, FolderFault, NewFile};
 use std::alloc::Global;
 
-/// A folder of which one call answers `Device`, for tests of what stands on a folder. The calls of `names`, `read` and
-/// `write` are counted together, from 1; all others are those of the folder within.
+/// A folder of which one call answers `Device`, for tests of what stands on a folder. The calls of `begin`, `names`, `read`,
+/// `write` and `save` are counted together, from 1; all others are those of the folder within. A `write` or a `save` may be
+/// done all the same.
 #[derive(Drop)]
 pub struct FailingFolder<F: Folder> {
     /// The folder within.
@@ -18,21 +19,42 @@ pub struct FailingFolder<F: Folder> {
 pub struct FailingCall {
     /// After how many calls the next failing one has been made; 0 where no further call fails.
     pub calls_left: u64,
+    /// Whether what the failing call writes is written.
+    pub writes: bool,
     /// How many calls failed.
     pub failures: u64,
 }
 
 impl<F: Folder> FailingFolder<F> {
-    /// The folder whose call with this number fails; with number 0 none does.
+    /// The folder whose call with this number fails and does nothing; with number 0 none fails.
     pub fn new(folder: F, number: u64) -> Self
         ensures folder { result.folder ≡ folder }
         ensures call { result.failing.calls_left ≡ number }
+        ensures not_done { result.failing.writes ≡ false }
         ensures none { result.failing.failures ≡ 0 }
     {
         FailingFolder {
             folder,
             failing: FailingCall {
                 calls_left: number,
+                writes: false,
+                failures: 0,
+            },
+        }
+    }
+
+    /// The folder whose call with this number fails, and writes what it is to write.
+    pub fn written(folder: F, number: u64) -> Self
+        ensures folder { result.folder ≡ folder }
+        ensures call { result.failing.calls_left ≡ number }
+        ensures done { result.failing.writes ≡ true }
+        ensures none { result.failing.failures ≡ 0 }
+    {
+        FailingFolder {
+            folder,
+            failing: FailingCall {
+                calls_left: number,
+                writes: true,
                 failures: 0,
             },
         }
@@ -52,6 +74,7 @@ impl FailingCall {
     fn is_next(&mut self) -> bool
         ensures due { IsTrue result ↔ (self.old.calls_left ≡ 1) }
         ensures counted { self.new.calls_left ≡ self.old.calls_left - 1 }
+        ensures same { self.new.writes ≡ self.old.writes }
         ensures failed { IsTrue result → self.new.failures ≡ min (self.old.failures + 1) (2 ^ 64 - 1) }
         ensures passed { result ≡ false → self.new.failures ≡ self.old.failures }
     {
@@ -69,6 +92,17 @@ impl<F: Folder> Folder for FailingFolder<F> {
 
     ghost failed = { λ failing. min (F.failed failing.folder + failing.failing.failures) (2 ^ 64 - 1) };
 
+    fn begin(&mut self, alloc: Global, access: Access) -> Result<(), FolderFault> {
+        if self.failing.is_next() {
+            return Err(FolderFault::Device);
+        }
+        self.folder.begin(alloc, access)
+    }
+
+    fn end(&mut self) {
+        self.folder.end();
+    }
+
     fn names(&mut self, alloc: Global) -> Result<Vec<String>, FolderFault> {
         if self.failing.is_next() {
             return Err(FolderFault::Device);
@@ -76,12 +110,7 @@ impl<F: Folder> Folder for FailingFolder<F> {
         self.folder.names(alloc)
     }
 
-    fn read(
-        &mut self,
-        alloc: Global,
-        name: &str,
-        limit: usize,
-    ) -> Result<Option<Vec<u8>>, FolderFault> {
+    fn read(&mut self, alloc: Global, name: &str, limit: usize) -> Result<Vec<u8>, FolderFault> {
         if self.failing.is_next() {
             return Err(FolderFault::Device);
         }
@@ -89,10 +118,23 @@ impl<F: Folder> Folder for FailingFolder<F> {
     }
 
     fn write(&mut self, name: &str, bytes: &[u8]) -> Result<(), FolderFault> {
-        if self.failing.is_next() {
-            return Err(FolderFault::Device);
+        if !self.failing.is_next() {
+            return self.folder.write(name, bytes);
         }
-        self.folder.write(name, bytes)
+        if self.failing.writes {
+            let _ = self.folder.write(name, bytes);
+        }
+        Err(FolderFault::Device)
+    }
+
+    fn save(&mut self, changes: &[NewFile]) -> Result<(), FolderFault> {
+        if !self.failing.is_next() {
+            return self.folder.save(changes);
+        }
+        if self.failing.writes {
+            let _ = self.folder.save(changes);
+        }
+        Err(FolderFault::Device)
     }
 
     fn failures(&self) -> u64 {

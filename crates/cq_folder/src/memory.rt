@@ -1,27 +1,56 @@
-ghost use Rattle.std.specs.Prelude.{◌≡◌, ℕ, List, None};
+ghost use Rattle.std.specs.Prelude.{◌≡◌, ℕ, IfOk, List, None, OnErr, OnOk, Some};
 
-use crate::storage::{Folder, FolderFault};
-use std::alloc::Global;
+use crate::storage::{Access, Folder, FolderFault, NewFile};
+use std::alloc::{AllocError, Global};
 use std::collections::BTreeMap;
 
-/// A folder in memory, which never fails but for want of memory.
+/// A folder in memory. It fails for want of memory, and where a file is read that it does not hold.
 #[derive(Drop)]
 pub struct MemoryFolder {
     alloc: Global,
     files: BTreeMap<String, Vec<u8>>,
+    /// How often a call answered `Device`, up to 2^64 - 1.
+    failures: u64,
 }
 
 impl MemoryFolder {
+    ghost use Rattle.cq_folder.specs.Folder.{KeepsFiles, WritesFile};
     ghost use Rattle.cq_folder.specs.MemoryFolder.{files_in};
 
     /// A folder with no file.
     pub fn new(alloc: Global) -> Self
-        ensures { (name : List ℕ) → files_in result name ≡ None }
+        ensures empty { (name : List ℕ) → files_in result name ≡ None }
+        ensures none { result.failures ≡ 0 }
     {
         MemoryFolder {
             alloc,
             files: BTreeMap::new(alloc),
+            failures: 0,
         }
+    }
+
+    /// The same folder once more.
+    fn copied(&self) -> Result<MemoryFolder, AllocError>
+        ensures files { IfOk result (λ copy. (name : List ℕ) → files_in copy name ≡ files_in self.now name) }
+        ensures failures { IfOk result (λ copy. copy.failures ≡ self.now.failures) }
+    {
+        Ok(MemoryFolder {
+            alloc: self.alloc,
+            files: self.files.clone()?,
+            failures: self.failures,
+        })
+    }
+
+    /// Makes these bytes the whole file of that name.
+    fn put(&mut self, name: &str, bytes: &[u8]) -> Result<(), AllocError>
+        ensures written { OnOk result (WritesFile (Some (files_in self.old)) (Some (files_in self.new)) name.now bytes.now) }
+        ensures kept { OnErr result (KeepsFiles (Some (files_in self.old)) (Some (files_in self.new))) }
+        ensures failures { self.new.failures ≡ self.old.failures }
+    {
+        let name = String::from_str(self.alloc, name)?;
+        let bytes = Vec::from_slice(self.alloc, bytes)?;
+        self.files.insert(name, bytes)?;
+        Ok(())
     }
 }
 
@@ -31,7 +60,13 @@ impl Folder for MemoryFolder {
 
     ghost files = { λ folder. Some (files_in folder) };
 
-    ghost failed = { λ _. 0 };
+    ghost failed = { λ folder. folder.failures };
+
+    fn begin(&mut self, _alloc: Global, _access: Access) -> Result<(), FolderFault> {
+        Ok(())
+    }
+
+    fn end(&mut self) {}
 
     fn names(&mut self, alloc: Global) -> Result<Vec<String>, FolderFault> {
         let mut names = Vec::new(alloc);
@@ -41,27 +76,32 @@ impl Folder for MemoryFolder {
         Ok(names)
     }
 
-    fn read(
-        &mut self,
-        alloc: Global,
-        name: &str,
-        limit: usize,
-    ) -> Result<Option<Vec<u8>>, FolderFault> {
+    fn read(&mut self, alloc: Global, name: &str, limit: usize) -> Result<Vec<u8>, FolderFault> {
         match self.files.get(name) {
-            None => Ok(None),
+            None => {
+                self.failures = self.failures.saturating_add(1);
+                Err(FolderFault::Device)
+            }
             Some(bytes) if bytes.len() > limit => Err(FolderFault::TooLarge),
-            Some(bytes) => Ok(Some(Vec::from_slice(alloc, bytes.as_slice())?)),
+            Some(bytes) => Ok(Vec::from_slice(alloc, bytes.as_slice())?),
         }
     }
 
     fn write(&mut self, name: &str, bytes: &[u8]) -> Result<(), FolderFault> {
-        let name = String::from_str(self.alloc, name)?;
-        let bytes = Vec::from_slice(self.alloc, bytes)?;
-        self.files.insert(name, bytes)?;
+        Ok(self.put(name, bytes)?)
+    }
+
+    // All is written to a copy, which then takes the place of what was held.
+    fn save(&mut self, changes: &[NewFile]) -> Result<(), FolderFault> {
+        let mut copy = self.copied()?;
+        for file in changes {
+            copy.put(file.name.as_str(), file.bytes.as_slice())?;
+        }
+        *self = copy;
         Ok(())
     }
 
     fn failures(&self) -> u64 {
-        0
+        self.failures
     }
 }

@@ -1,32 +1,50 @@
 ghost use Rattle.std.specs.Prelude.{◌≡◌, ◌≢◌, ◌<◌, ◌≤◌, ◌-◌, ◌^◌, ◌⊎◌};
 
-use crate::storage::{Folder, FolderFault};
+mod entering;
+mod reading;
+mod replacing;
+
+use crate::record::Record;
+use crate::storage::{Access, Folder, FolderFault, NewFile};
 use std::alloc::{AllocError, Global};
-use std::fs::{self, DirEntry, File, OpenFile};
-use std::io::{self, ErrorKind, Read, Write};
+use std::fs::{File, OpenFile};
+use std::io::{self, ErrorKind};
 use std::rt::Files;
 
 /// A folder of the system. What its files hold is not known to any contract.
 ///
-/// A file that is written keeps what it held until all of the new bytes are on the device: they are written to a
-/// temporary file beside it, whose name is that of the file with `.part` behind it, and which then takes the file's
-/// place. Where a write was cut short, the temporary file stays, and the next write of that file replaces it.
+/// It is locked as a whole, where the system has locks: whoever is alone waits for all others, and the system frees the lock
+/// of a process that ends.
+///
+/// The new bytes of a file are written and synced beside its place, to a part that is made anew: its name is that of the
+/// file, with a dot, the number of the process and `.part` behind it. Then it takes the file's place. Where several files
+/// are saved, the record `queue.save` stands while their parts take their places: from the moment that it stands they are
+/// saved.
 #[derive(Drop)]
-pub struct RealFolder<'a, R: Files + AllocGlobal + Clone + Drop> {
+pub struct RealFolder<'a, R: Files<File = File> + AllocGlobal + Clone + Drop> {
     rt: &'a R,
     path: String,
+    /// The number of this process.
+    process: u32,
+    /// The open folder, which holds the lock.
+    lock: Option<File>,
+    /// The record that stands, which is read through.
+    record: Option<Record>,
     /// How often a call answered `Device`, up to 2^64 - 1.
     pub failures: u64,
 }
 
-impl<'a, R: Files + AllocGlobal + Clone + Drop> RealFolder<'a, R> {
-    /// The folder at this path. It is not looked at yet.
-    pub fn new(rt: &'a R, path: String) -> Self
+impl<'a, R: Files<File = File> + AllocGlobal + Clone + Drop> RealFolder<'a, R> {
+    /// The folder at this path, for the process with this number. It is not looked at yet.
+    pub fn new(rt: &'a R, path: String, process: u32) -> Self
         ensures { result.failures ≡ 0 }
     {
         RealFolder {
             rt,
             path,
+            process,
+            lock: None,
+            record: None,
             failures: 0,
         }
     }
@@ -35,56 +53,21 @@ impl<'a, R: Files + AllocGlobal + Clone + Drop> RealFolder<'a, R> {
         format!(in self.rt.alloc(); "{}/{name}", self.path)
     }
 
-    /// The names in the folder that are text; others cannot be named here, and no file of a queue is called so.
-    fn list(&self, alloc: Global) -> io::Result<Vec<String>> {
-        let mut names = Vec::new(alloc);
-        for entry in fs::read_dir(self.rt, self.path.as_str())? {
-            push_name(alloc, &mut names, entry)?;
-        }
-        Ok(names)
+    fn part_of(&self, name: &str, process: u32) -> Result<String, AllocError> {
+        format!(in self.rt.alloc(); "{}/{name}.{process}.part", self.path)
     }
 
-    /// The bytes of a file, of which no more than `limit + 1` are read.
-    fn read_up_to(&self, alloc: Global, name: &str, limit: usize) -> io::Result<Vec<u8>> {
-        let path = self.path_of(name)?;
-        let file = File::open(self.rt, path.as_str())?;
-        read_at_most(alloc, file, (limit as u64).saturating_add(1))
-    }
-
-    /// Writes a file so that it holds all of the bytes or what it held, also where the system stops in between.
-    fn replace(&self, name: &str, bytes: &[u8]) -> io::Result<()> {
-        let path = self.path_of(name)?;
-        let part = format!(in self.rt.alloc(); "{path}.part")?;
-        self.write_whole(part.as_str(), bytes)?;
-        fs::rename(self.rt, part.as_str(), path.as_str())?;
+    /// Brings what the folder lists to the device.
+    fn sync(&self) -> io::Result<()> {
         File::open(self.rt, self.path.as_str())?.sync_all()
     }
-
-    /// Makes these bytes the whole file at this path, and waits until all of them are on the device.
-    fn write_whole(&self, path: &str, bytes: &[u8]) -> io::Result<()> {
-        let mut file = File::create(self.rt, path)?;
-        file.write_all(bytes)?;
-        file.sync_all()
-    }
 }
 
-/// The bytes that a reader has left, of which no more than `most` are read.
-fn read_at_most<R: Read + Drop>(alloc: Global, reader: R, most: u64) -> io::Result<Vec<u8>> {
-    let mut bytes = Vec::new(alloc);
-    reader.take(most).read_to_end(&mut bytes)?;
-    Ok(bytes)
-}
-
-/// Adds the name of an entry, if it is text.
-fn push_name<R: Files + Drop>(
-    alloc: Global,
-    names: &mut Vec<String>,
-    entry: io::Result<DirEntry<R>>,
-) -> io::Result<()> {
-    match entry {
-        Ok(entry) => Ok(names.push(String::from_str(alloc, entry.file_name())?)?),
-        Err(error) if error.kind() == ErrorKind::InvalidFilename => Ok(()),
-        Err(error) => Err(error),
+/// Passes over the error that there is no such file.
+fn unless_missing(done: io::Result<()>) -> io::Result<()> {
+    match done {
+        Err(error) if error.kind() == ErrorKind::NotFound => Ok(()),
+        done => done,
     }
 }
 
@@ -102,32 +85,47 @@ fn fault_of(failures: &mut u64, error: &io::Error) -> FolderFault
     FolderFault::Device
 }
 
-impl<'a, R: Files + AllocGlobal + Clone + Drop> Folder for RealFolder<'a, R> {
+impl<'a, R: Files<File = File> + AllocGlobal + Clone + Drop> Folder for RealFolder<'a, R> {
     ghost failed = { λ folder. folder.failures };
 
+    fn begin(&mut self, alloc: Global, access: Access) -> Result<(), FolderFault> {
+        match self.enter(alloc, access) {
+            Ok(()) => Ok(()),
+            Err(error) => {
+                self.leave();
+                Err(fault_of(&mut self.failures, &error))
+            }
+        }
+    }
+
+    fn end(&mut self) {
+        self.leave();
+    }
+
     fn names(&mut self, alloc: Global) -> Result<Vec<String>, FolderFault> {
-        match self.list(alloc) {
+        match self.list_through(alloc) {
             Ok(names) => Ok(names),
             Err(error) => Err(fault_of(&mut self.failures, &error)),
         }
     }
 
-    fn read(
-        &mut self,
-        alloc: Global,
-        name: &str,
-        limit: usize,
-    ) -> Result<Option<Vec<u8>>, FolderFault> {
-        match self.read_up_to(alloc, name, limit) {
+    fn read(&mut self, alloc: Global, name: &str, limit: usize) -> Result<Vec<u8>, FolderFault> {
+        match self.read_through(alloc, name, limit) {
             Ok(bytes) if bytes.len() > limit => Err(FolderFault::TooLarge),
-            Ok(bytes) => Ok(Some(bytes)),
-            Err(error) if error.kind() == ErrorKind::NotFound => Ok(None),
+            Ok(bytes) => Ok(bytes),
             Err(error) => Err(fault_of(&mut self.failures, &error)),
         }
     }
 
     fn write(&mut self, name: &str, bytes: &[u8]) -> Result<(), FolderFault> {
         match self.replace(name, bytes) {
+            Ok(()) => Ok(()),
+            Err(error) => Err(fault_of(&mut self.failures, &error)),
+        }
+    }
+
+    fn save(&mut self, changes: &[NewFile]) -> Result<(), FolderFault> {
+        match self.replace_some(changes) {
             Ok(()) => Ok(()),
             Err(error) => Err(fault_of(&mut self.failures, &error)),
         }

@@ -7,7 +7,7 @@ use std::alloc::{AllocError, AllocFailed, Global};
 /// Why a call on a folder is not done (this project's profile).
 #[derive(Clone, Copy, Debug, PartialEq, Eq)]
 pub enum FolderFault {
-    /// The folder could not be listed, or a file not read or written.
+    /// The folder could not be entered or listed, or a file not read or written. One that is not there is not read.
     Device,
     /// The file has more bytes than were asked for.
     TooLarge,
@@ -35,18 +35,49 @@ impl<T: Drop> From<AllocFailed<T>> for FolderFault {
     }
 }
 
+/// How a command comes to a folder.
+#[derive(Clone, Copy, Debug, PartialEq, Eq)]
+pub enum Access {
+    /// It only reads, beside others that do.
+    Shared,
+    /// It may write, and is alone.
+    Alone,
+}
+
+/// A file that is to be saved.
+#[derive(Drop)]
+pub struct NewFile {
+    /// Its name.
+    pub name: String,
+    /// All of its bytes.
+    pub bytes: Vec<u8>,
+}
+
 /// A folder of files (this project's profile). No call makes the folder itself.
 ///
-/// A folder in memory tells contracts what its files hold, and a real one does not. Any call may answer `Device`, which
-/// `failures` counts, or `OutOfMemory`; `read` alone answers `TooLarge`.
+/// A command begins, lists and reads, writes or saves at most once, and ends. A folder in memory tells contracts what its
+/// files hold, and a real one does not. Any call but `end` may answer `Device`, which `failures` counts, or `OutOfMemory`;
+/// `read` alone answers `TooLarge`.
 pub trait Folder {
-    ghost use Rattle.std.specs.Prelude.{◌≡◌, ◌≢◌, ℕ, ◌<◌, ◌≤◌, Option, Err, IfOk, OnErr, OnOk, IfSome, IsSomeAnd, None, length, option_map};
+    ghost use Rattle.std.specs.Prelude.{◌≡◌, ◌≢◌, ◌∷◌, ℕ, ◌<◌, ◌≤◌, Option, Some, [], Err, IfOk, OnErr, OnOk, IfSome, IsSomeAnd, None, length, map};
     ghost use Rattle.cq_model.specs.Settings.{texts};
-    ghost use Rattle.cq_folder.specs.Folder.{Files, IsCounted, KeepsFiles, KeepsOthers, ListsFiles, WritesFile};
+    ghost use Rattle.cq_folder.specs.Folder.{Files, IsCounted, KeepsFiles, KeepsOrWrites, ListsFiles, WritesFile, WritesFiles, named_file};
 
     ghost files: { Self → Option Files } = { λ _. None };
 
     ghost failed: { Self → ℕ };
+
+    /// Begins a command: waits until it may come in, and stays in until `end`, or until the folder is dropped or begins
+    /// again. A save that was cut short counts as done; whoever is alone does what is left of it.
+    fn begin(&mut self, alloc: Global, access: Access) -> Result<(), FolderFault>
+        ensures kept { KeepsFiles (files self.old) (files self.new) }
+        ensures fits { result ≢ Err FolderFault.TooLarge }
+        ensures counted { IsCounted (failed self.old) (failed self.new) result };
+
+    /// Ends a command: others may come in.
+    fn end(&mut self)
+        ensures kept { files self.new ≡ files self.old }
+        ensures counted { failed self.new ≡ failed self.old };
 
     /// The names of the files, each once and in no order that is promised.
     fn names(&mut self, alloc: Global) -> Result<Vec<String>, FolderFault>
@@ -55,27 +86,30 @@ pub trait Folder {
         ensures fits { result ≢ Err FolderFault.TooLarge }
         ensures counted { IsCounted (failed self.old) (failed self.new) result };
 
-    /// The bytes of a file, or `None` where there is no file of that name. Answers `TooLarge` where it has more than
-    /// `limit` bytes.
-    fn read(
-        &mut self,
-        alloc: Global,
-        name: &str,
-        limit: usize,
-    ) -> Result<Option<Vec<u8>>, FolderFault>
-        ensures found { IfOk result (λ read. IfSome (files self.old) (λ held.
-            option_map (λ bytes. bytes.items) read ≡ held name.now)) }
-        ensures small { IfOk result (λ read. IfSome read (λ bytes. length bytes.items ≤ limit)) }
+    /// The bytes of a file. Answers `TooLarge` where it has more than `limit` bytes, and `Device` where there is no file of
+    /// that name.
+    fn read(&mut self, alloc: Global, name: &str, limit: usize) -> Result<Vec<u8>, FolderFault>
+        ensures found { IfOk result (λ bytes. IfSome (files self.old) (λ held. held name.now ≡ Some bytes.items)) }
+        ensures small { IfOk result (λ bytes. length bytes.items ≤ limit) }
         ensures large { result ≡ Err FolderFault.TooLarge → IfSome (files self.old) (λ held.
             IsSomeAnd (held name.now) (λ bytes. limit < length bytes)) }
         ensures kept { KeepsFiles (files self.old) (files self.new) }
         ensures counted { IsCounted (failed self.old) (failed self.new) result };
 
-    /// Makes these bytes the whole file of that name, whether there is one or not. After a fault that file may hold
-    /// anything, and all others hold what they held.
+    /// Makes these bytes the whole file of that name, whether there is one or not. After a fault that is so, or no file has
+    /// changed; after want of memory none has.
     fn write(&mut self, name: &str, bytes: &[u8]) -> Result<(), FolderFault>
         ensures written { OnOk result (WritesFile (files self.old) (files self.new) name.now bytes.now) }
-        ensures others { OnErr result (KeepsOthers (files self.old) (files self.new) name.now) }
+        ensures whole { OnErr result (KeepsOrWrites (files self.old) (files self.new) ((name.now, bytes.now) ∷ [])) }
+        ensures scarce { result ≡ Err FolderFault.OutOfMemory → KeepsFiles (files self.old) (files self.new) }
+        ensures fits { result ≢ Err FolderFault.TooLarge }
+        ensures counted { IsCounted (failed self.old) (failed self.new) result };
+
+    /// The same of several files at once: after a fault all of them are written, or none; after want of memory none is.
+    fn save(&mut self, changes: &[NewFile]) -> Result<(), FolderFault>
+        ensures written { OnOk result (WritesFiles (files self.old) (files self.new) (map named_file changes.now)) }
+        ensures whole { OnErr result (KeepsOrWrites (files self.old) (files self.new) (map named_file changes.now)) }
+        ensures scarce { result ≡ Err FolderFault.OutOfMemory → KeepsFiles (files self.old) (files self.new) }
         ensures fits { result ≢ Err FolderFault.TooLarge }
         ensures counted { IsCounted (failed self.old) (failed self.new) result };
 

@@ -1,10 +1,10 @@
 //! Folders and their files.
 use crate::wanted::{expect, expect_text};
-use cq_folder::{FailingFolder, Folder, FolderFault, MemoryFolder, RealFolder};
+use cq_folder::{Access, FailingFolder, Folder, FolderFault, MemoryFolder, NewFile, RealFolder};
 use std::alloc::{AllocError, Global};
+use std::fs::File;
 use std::rt::Files;
 use std::test::Fail;
-use std::{env, fs, process};
 
 /// The bytes that are written to files in turn.
 static WRITES: [(&str, &[u8]); 4] = [("b", b"old"), ("a", b"old"), ("b", b""), ("a", b"abc")];
@@ -32,8 +32,7 @@ fn read_text<F: Folder>(
     limit: usize,
 ) -> Result<String, AllocError> {
     match folder.read(alloc, name, limit) {
-        Ok(Some(bytes)) => format!(in alloc; "{:?}", bytes.as_slice()),
-        Ok(None) => format!(in alloc; "none"),
+        Ok(bytes) => format!(in alloc; "{:?}", bytes.as_slice()),
         Err(fault) => format!(in alloc; "{fault:?}"),
     }
 }
@@ -51,27 +50,25 @@ static READS: [(&str, usize, &str); 5] = [
     ("a", usize::MAX, "[97, 98, 99]"),
     ("a", 2, "TooLarge"),
     ("b", 0, "[]"),
-    ("c", 0, "none"),
+    ("c", 0, "Device"),
 ];
 
-/// Writes those two files, and fails where a folder then keeps other files, or a call of it failed.
+/// Writes those two files, and fails where a folder then keeps other files, or another call of it failed than the read of a
+/// file that is not there.
 fn expect_two_files<F: Folder>(alloc: Global, folder: &mut F) -> Result<(), Fail> {
     write_two_files(folder)?;
     expect_text(names_text(alloc, folder)?, "[\"a\", \"b\"]")?;
     for &(name, limit, want) in &READS {
         expect_text(read_text(alloc, folder, name, limit)?, want)?;
     }
-    expect(folder.failures() == 0, "no call fails")
+    expect(folder.failures() == 1, "one call fails")
 }
 
 /// Fails as `expect_two_files` does, and where there is a file without a name.
 fn expect_no_more_files<F: Folder>(alloc: Global, folder: &mut F) -> Result<(), Fail> {
     expect_two_files(alloc, folder)?;
-    expect_text(read_text(alloc, folder, "", 9)?, "none")?;
-    expect(
-        folder.failures() == 0,
-        "no read of a file without a name fails",
-    )
+    expect_text(read_text(alloc, folder, "", 9)?, "Device")?;
+    expect(folder.failures() == 2, "a read of no file is counted")
 }
 
 #[test]
@@ -80,94 +77,134 @@ fn a_folder_in_memory_keeps_its_files(rt: HostRuntime) -> Result<(), Fail> {
     expect_no_more_files(rt.alloc(), &mut folder)
 }
 
-/// Whether a folder lists its files, what a write and a read answer, and how many calls failed, as text.
+/// Files of these names and bytes, which are to be saved.
+fn changes(alloc: Global, files: &[(&str, &[u8])]) -> Result<Vec<NewFile>, AllocError> {
+    let mut changes = Vec::new(alloc);
+    for &(name, bytes) in files {
+        changes.push(NewFile {
+            name: String::from_str(alloc, name)?,
+            bytes: Vec::from_slice(alloc, bytes)?,
+        })?;
+    }
+    Ok(changes)
+}
+
+/// What coming in, the list, a write, a read and a save of a folder answer, and how many calls failed, as text.
 fn calls_text<F: Folder>(alloc: Global, folder: &mut F) -> Result<String, AllocError> {
+    let begun = folder.begin(alloc, Access::Alone);
     let names = folder.names(alloc).is_ok();
     let write = folder.write("a", b"new".as_slice());
     let read = read_text(alloc, folder, "b", 0)?;
+    let saved = folder.save(changes(alloc, &[("b", b"1"), ("c", b"2")])?.as_slice());
+    folder.end();
     let failures = folder.failures();
-    format!(in alloc; "{names}, {write:?}, {read}, {failures} failed")
+    format!(in alloc; "{begun:?}, {names}, {write:?}, {read}, {saved:?}, {failures} failed")
 }
 
-/// Fails where the calls of a folder of which the one with this number fails answer otherwise than wanted, or `a` holds
-/// something else then.
-fn expect_failing(alloc: Global, number: u64, calls: &str, held: &str) -> Result<(), Fail> {
-    let mut folder = FailingFolder::new(two_files(alloc)?, number);
+/// What the files `a`, `b` and `c` hold, as text.
+fn three_text<F: Folder>(alloc: Global, folder: &mut F) -> Result<String, AllocError> {
+    let first = read_text(alloc, folder, "a", 3)?;
+    let second = read_text(alloc, folder, "b", 3)?;
+    let third = read_text(alloc, folder, "c", 3)?;
+    format!(in alloc; "{first} {second} {third}")
+}
+
+/// Fails where the calls of a folder answer otherwise than wanted, or its files hold something else then.
+fn expect_failing(
+    alloc: Global,
+    mut folder: FailingFolder<MemoryFolder>,
+    calls: &str,
+    held: &str,
+) -> Result<(), Fail> {
     expect_text(calls_text(alloc, &mut folder)?, calls)?;
-    expect_text(read_text(alloc, &mut folder.into_inner(), "a", 3)?, held)
+    expect_text(three_text(alloc, &mut folder.into_inner())?, held)
 }
 
-/// The number of the call that fails, beside what `calls_text` says, and what `a` holds then.
-static FAILURES: [(u64, &str, &str); 5] = [
-    (0, "true, Ok(()), [], 0 failed", "[110, 101, 119]"),
-    (1, "false, Ok(()), [], 1 failed", "[110, 101, 119]"),
-    (2, "true, Err(Device), [], 1 failed", "[97, 98, 99]"),
-    (3, "true, Ok(()), Device, 1 failed", "[110, 101, 119]"),
-    (4, "true, Ok(()), [], 0 failed", "[110, 101, 119]"),
+/// The number of the call that fails and does nothing, beside what `calls_text` says, and what the files hold then.
+static FAILURES: [(u64, &str, &str); 7] = [
+    (
+        0,
+        "Ok(()), true, Ok(()), [], Ok(()), 0 failed",
+        "[110, 101, 119] [49] [50]",
+    ),
+    (
+        1,
+        "Err(Device), true, Ok(()), [], Ok(()), 1 failed",
+        "[110, 101, 119] [49] [50]",
+    ),
+    (
+        2,
+        "Ok(()), false, Ok(()), [], Ok(()), 1 failed",
+        "[110, 101, 119] [49] [50]",
+    ),
+    (
+        3,
+        "Ok(()), true, Err(Device), [], Ok(()), 1 failed",
+        "[97, 98, 99] [49] [50]",
+    ),
+    (
+        4,
+        "Ok(()), true, Ok(()), Device, Ok(()), 1 failed",
+        "[110, 101, 119] [49] [50]",
+    ),
+    (
+        5,
+        "Ok(()), true, Ok(()), [], Err(Device), 1 failed",
+        "[110, 101, 119] [] Device",
+    ),
+    (
+        6,
+        "Ok(()), true, Ok(()), [], Ok(()), 0 failed",
+        "[110, 101, 119] [49] [50]",
+    ),
 ];
 
 #[test]
 fn each_call_can_fail_once(rt: HostRuntime) -> Result<(), Fail> {
     for &(number, calls, held) in &FAILURES {
-        expect_failing(rt.alloc(), number, calls, held)?;
+        let folder = FailingFolder::new(two_files(rt.alloc())?, number);
+        expect_failing(rt.alloc(), folder, calls, held)?;
     }
     Ok(())
 }
 
-/// A path within the folder for temporary files.
-fn temporary_path(rt: &HostRuntime) -> Result<String, Fail> {
-    let within = env::temp_dir(rt)?;
-    let id = process::id(rt.process());
-    Ok(format!(in rt.alloc(); "{}/cq_folder_{id}", within.display())?)
-}
+/// The same where the call that fails is done all the same.
+static DONE: [(u64, &str, &str); 2] = [
+    (
+        3,
+        "Ok(()), true, Err(Device), [], Ok(()), 1 failed",
+        "[110, 101, 119] [49] [50]",
+    ),
+    (
+        5,
+        "Ok(()), true, Ok(()), [], Err(Device), 1 failed",
+        "[110, 101, 119] [49] [50]",
+    ),
+];
 
 #[test]
-fn a_real_folder_keeps_its_files(rt: HostRuntime) -> Result<(), Fail> {
-    expect_kept(&rt, temporary_path(&rt)?.as_str())
-}
-
-/// Makes an empty folder at a path, fills it, and takes it away again. Fails where it does not keep its files.
-fn expect_kept<R>(rt: &R, path: &str) -> Result<(), Fail>
-where
-    R: Files + AllocGlobal + Clone + Drop,
-{
-    fs::create_dir(rt, path)?;
-    expect(names_count(rt, path)? == 0, "a new folder has no files")?;
-    leave_part(rt, path)?;
-    let mut folder = RealFolder::new(rt, String::from_str(rt.alloc(), path)?);
-    expect_two_files(rt.alloc(), &mut folder)?;
-    Ok(fs::remove_dir_all(rt, path)?)
-}
-
-/// How many files there are in the folder at a path.
-fn names_count<R>(rt: &R, path: &str) -> Result<usize, Fail>
-where
-    R: Files + AllocGlobal + Clone + Drop,
-{
-    let mut folder = RealFolder::new(rt, String::from_str(rt.alloc(), path)?);
-    Ok(folder.names(rt.alloc())?.len())
-}
-
-/// Leaves behind what a write to `a` that was cut short does, which the next write replaces.
-fn leave_part<R>(rt: &R, path: &str) -> Result<(), Fail>
-where
-    R: Files + AllocGlobal + Clone + Drop,
-{
-    let part = format!(in rt.alloc(); "{path}/a.part")?;
-    Ok(fs::write(rt, part.as_str(), "much longer than the new bytes")?)
-}
-
-/// What the calls of the folder at a path answer, as text.
-fn real_calls_text<R>(rt: &R, path: &str) -> Result<String, AllocError>
-where
-    R: Files + AllocGlobal + Clone + Drop,
-{
-    let mut folder = RealFolder::new(rt, String::from_str(rt.alloc(), path)?);
-    calls_text(rt.alloc(), &mut folder)
+fn a_call_that_fails_can_be_done(rt: HostRuntime) -> Result<(), Fail> {
+    for &(number, calls, held) in &DONE {
+        let folder = FailingFolder::written(two_files(rt.alloc())?, number);
+        expect_failing(rt.alloc(), folder, calls, held)?;
+    }
+    Ok(())
 }
 
 #[test]
 fn a_missing_folder_is_a_device_fault(rt: HostRuntime) -> Result<(), Fail> {
     let text = real_calls_text(&rt, "/no/such/folder")?;
-    expect_text(text, "false, Err(Device), none, 2 failed")
+    expect_text(
+        text,
+        "Err(Device), false, Err(Device), Device, Err(Device), 5 failed",
+    )
+}
+
+/// What the calls of the folder at a path answer, as text.
+fn real_calls_text<R>(rt: &R, path: &str) -> Result<String, AllocError>
+where
+    R: Files<File = File> + AllocGlobal + Clone + Drop,
+{
+    let mut folder = RealFolder::new(rt, String::from_str(rt.alloc(), path)?, 7);
+    calls_text(rt.alloc(), &mut folder)
 }

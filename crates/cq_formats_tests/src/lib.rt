@@ -23,6 +23,8 @@ mod model_tests;
 #[cfg(test)]
 mod plain_cycle_tests;
 #[cfg(test)]
+mod real_folder_tests;
+#[cfg(test)]
 mod settings;
 #[cfg(test)]
 mod tables_tests;

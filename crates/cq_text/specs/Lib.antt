@@ -1,4 +1,5 @@
 pub mod Lines
+pub mod Input
 pub mod Echo
 pub mod CycleLine
 pub mod DumpText

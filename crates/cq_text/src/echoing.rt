@@ -1,6 +1,6 @@
-ghost use Rattle.std.specs.Prelude.{◌≡◌, ◌≢◌, ◌⊎◌, length, IfOk, IfErr, IfSome, OnOk, None, Some};
+ghost use Rattle.std.specs.Prelude.{◌≡◌, ◌≢◌, length, IfOk, IfErr, IfSome, OnOk, None};
 ghost use Rattle.std.specs.Io.KnownBytes.{Appends, Keeps};
-ghost use Rattle.cq_text.specs.Echo.{echo_fault, echo_text};
+ghost use Rattle.cq_text.specs.Echo.{IsEchoFault, echo_fault, echo_text};
 ghost use Rattle.cq_text.specs.Lines.{input_lines};
 
 use crate::fault::ToolFault;
@@ -37,9 +37,7 @@ pub fn echo<R: Read, W: Write>(
         Appends (W.contents output.old) (W.contents output.new) (echo_text (input_lines bytes)))) }
 
     // A fault of the input is the one that the input has, and the output is tried for an accepted input alone.
-    ensures fault { IfErr result (λ fault. IfSome (R.remaining input.old) (λ bytes.
-        (fault ≡ ToolFault.OutOfMemory) ⊎ (fault ≡ ToolFault.ReadFault)
-        ⊎ ((fault ≡ ToolFault.WriteFault) × (echo_fault bytes ≡ None)) ⊎ (echo_fault bytes ≡ Some fault))) }
+    ensures fault { IfErr result (λ fault. IfSome (R.remaining input.old) (λ bytes. IsEchoFault bytes fault)) }
     ensures silent { IfErr result (λ fault. fault ≢ ToolFault.WriteFault
         → Keeps (W.contents output.old) (W.contents output.new)) }
 {

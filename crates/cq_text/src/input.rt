@@ -1,6 +1,6 @@
-ghost use Rattle.std.specs.Prelude.{◌≡◌, ◌≤◌, ◌<◌, ◌⊎◌, length, IfOk, IfErr, IfSome};
-ghost use Rattle.std.specs.Result.{IsErrOf};
+ghost use Rattle.std.specs.Prelude.{◌≤◌, length, IfOk, IfErr};
 ghost use Rattle.std.specs.Io.KnownBytes.{Consumes, IsAtEnd};
+ghost use Rattle.cq_text.specs.Input.{IsInputFault};
 
 use crate::fault::ToolFault;
 use std::alloc::Global;
@@ -21,10 +21,7 @@ pub fn read_input<R: Read>(alloc: Global, input: &mut R, most: usize) -> Result<
     ensures bytes { IfOk result (λ bytes. Consumes (R.remaining input.old) (R.remaining input.new) bytes.items) }
     ensures whole { IfOk result (λ _. IsAtEnd (R.remaining input.new)) }
     ensures small { IfOk result (λ bytes. length bytes.items ≤ most) }
-    ensures long { IsErrOf result ToolFault.InputTooLong
-        → IfSome (R.remaining input.old) (λ bytes. most < length bytes) }
-    ensures fault { IfErr result (λ fault. (fault ≡ ToolFault.OutOfMemory) ⊎ (fault ≡ ToolFault.ReadFault)
-        ⊎ (fault ≡ ToolFault.InputTooLong)) }
+    ensures fault { IfErr result (IsInputFault most (R.remaining input.old)) }
 {
     let mut bytes = Vec::new(alloc);
     let mut is_too_long = false;

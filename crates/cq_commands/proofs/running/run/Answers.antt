@@ -1,5 +1,93 @@
-use Rattle.std.proofs.Common.{rules}
+use Rattle.std.proofs.Common.{◌≡◌, ℕ, List, rules, subst, sym}
+use Rattle.std.proofs.lemmas.Result.{on_ok_weaker}
+use Rattle.std.specs.Prelude.{◌⊎◌, IfErr, IfSome, OnErr, OnOk, Option, Result, Ok, Err}
+use Rattle.std.specs.Io.KnownBytes.{Appends}
+use Rattle.cq_folder.specs.Folder.{KeepsFiles}
+use Rattle.cq_files.specs.FolderFaults.{IsSaveFault}
+use Rattle.cq_orders.specs.declared.order.Order.{Order}
+use Rattle.cq_text.specs.declared.fault.ToolFault.{ToolFault}
+use Rattle.cq_text.specs.declared.fault.ToolFault.TheVariants.{OutOfMemory}
+use Rattle.cq_commands.specs.Messages.{IsReadOut}
+use Rattle.cq_commands.specs.Orders.{IsDone, KeepsOrSaves, LeavesFiles, MayFail, Streams}
+use Rattle.cq_commands.specs.QueueFaults.{IsReadFault}
+use Rattle.cq_commands.specs.Taken.{IsTaken}
 use Rattle.cq_commands.proofs.running.run.Goals as goal
+
+-- what is said of a known order is said of the one that was given
+failed : {T : Type 0} (P : Order → Streams → ToolFault → Type 0) (s : Streams) (result : Result T ToolFault) (order known : Order)
+    → order ≡ known → IfErr result (P known s) → IfErr result (P order s)
+failed P s result order known is holds = subst (λ (o : Order). IfErr result (P o s)) (sym is) holds
+
+done : {T : Type 0} (s : Streams) (result : Result T ToolFault) (order known : Order)
+    → order ≡ known → OnOk result (IsDone known s) → OnOk result (IsDone order s)
+done s result order known is holds = subst (λ (o : Order). OnOk result (IsDone o s)) (sym is) holds
+
+each_fault : {T : Type 0} (result : Result T ToolFault) (P Q : ToolFault → Type 0) → ((fault : ToolFault) → P fault → Q fault)
+    → IfErr result P → IfErr result Q
+each_fault (Ok value) P Q weaker holds = tt
+each_fault (Err fault) P Q weaker holds = weaker fault holds
+
+both : {T : Type 0} (result : Result T ToolFault) (P Q : ToolFault → Type 0) → IfErr result P → IfErr result Q
+    → IfErr result (λ fault. P fault × Q fault)
+both (Ok value) P Q one other = tt
+both (Err fault) P Q one other = (one, other)
+
+keeps_or_saves : {T : Type 0} (s : Streams) (Saved : Type 0) (result : Result T ToolFault)
+    → IfErr result (λ fault. ¬ IsSaveFault fault → KeepsFiles s.files s.files_after)
+    → IfErr result (λ fault. fault ≡ OutOfMemory → KeepsFiles s.files s.files_after)
+    → OnErr result (KeepsFiles s.files s.files_after ⊎ Saved) → IfErr result (KeepsOrSaves s Saved)
+keeps_or_saves s Saved (Ok value) unsaved scarce whole = tt
+keeps_or_saves s Saved (Err fault) unsaved scarce whole = record { unsaved = unsaved; scarce = scarce; whole = whole; }
+
+pub returns-in-Init-clause-left : goal.returns-in-Init-clause-left
+returns-in-Init-clause-left g c = failed LeavesFiles _ c.init.result c.args.order.now _ c.in-Init.is
+    (both c.init.result _ _
+    (keeps_or_saves _ _ c.init.result c.init.ensures.kept c.init.ensures.scarce c.init.ensures.whole) c.init.ensures.safe)
+
+pub returns-in-Write-clause-left : goal.returns-in-Write-clause-left
+returns-in-Write-clause-left g c = failed LeavesFiles _ c.write.result c.args.order.now _ c.in-Write.is
+    (keeps_or_saves _ _ c.write.result c.write.ensures.kept c.write.ensures.scarce c.write.ensures.whole)
+
+pub returns-in-Take-clause-left : goal.returns-in-Take-clause-left
+returns-in-Take-clause-left g c = failed LeavesFiles _ c.take.result c.args.order.now _ c.in-Take.is
+    (keeps_or_saves _ _ c.take.result c.take.ensures.kept c.take.ensures.scarce
+    (subst (λ (name : List ℕ). OnErr c.take.result (KeepsFiles (g.F.Folder.files c.args.folder.now) (g.F.Folder.files c.take.new.folder)
+    ⊎ ((text : List ℕ) × IsTaken name (g.F.Folder.files c.args.folder.now) (g.F.Folder.files c.take.new.folder) text)))
+    c.as_str-in-Take.ensures.value c.take.ensures.whole))
+
+pub returns-in-Write-clause-cause : goal.returns-in-Write-clause-cause
+returns-in-Write-clause-cause g c = failed MayFail _ c.write.result c.args.order.now _ c.in-Write.is c.write.ensures.cause
+
+pub returns-in-Read-clause-done : goal.returns-in-Read-clause-done
+returns-in-Read-clause-done g c =
+    let before = g.F.Folder.files c.args.folder.now in
+    done _ c.read.result c.args.order.now _ c.in-Read.is
+    (on_ok_weaker c.read.result
+    (λ printed. (
+      c.read.ensures.kept,
+      subst (λ (word : Option (List ℕ)). (text : List ℕ) × IsReadOut c.in-Read.back word before text
+          × Appends (g.W.Write.contents c.args.output.now) (g.W.Write.contents c.read.new.output) text) c.word_of.ensures printed,
+    ))
+    c.read.ensures.printed)
+
+pub returns-in-Read-clause-cause : goal.returns-in-Read-clause-cause
+returns-in-Read-clause-cause g c =
+    let before = g.F.Folder.files c.args.folder.now in
+    failed MayFail _ c.read.result c.args.order.now _ c.in-Read.is
+    (subst (λ (word : Option (List ℕ)). IfErr c.read.result (λ fault. IfSome before (λ files. IsReadFault c.in-Read.back word files fault)))
+    c.word_of.ensures c.read.ensures.cause)
+
+pub returns-in-Read-clause-left : goal.returns-in-Read-clause-left
+returns-in-Read-clause-left g c =
+    failed LeavesFiles _ c.read.result c.args.order.now _ c.in-Read.is
+    (each_fault c.read.result _ _ (λ fault silent. c.read.ensures.kept) c.read.ensures.silent)
+
+pub returns-in-Read-clause-silent : goal.returns-in-Read-clause-silent
+returns-in-Read-clause-silent g c =
+    each_fault c.read.result _ _ (λ fault silent unwritten unfaulty. silent unwritten) c.read.ensures.silent
 
 pub returns-in-Take-clause-done : goal.returns-in-Take-clause-done
 returns-in-Take-clause-done g c = search rules
+
+pub returns-in-Check-clause-cause : goal.returns-in-Check-clause-cause
+returns-in-Check-clause-cause g c = search rules

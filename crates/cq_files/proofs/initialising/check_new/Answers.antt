@@ -3,8 +3,8 @@ use Rattle.std.specs.Prelude.{codes}
 use Rattle.cq_files.proofs.QueueLemmas.{file_named, file_unnamed, is_named}
 use Rattle.cq_files.proofs.initialising.check_new.Goals as goal
 
-pub returns-then-has_name-clause-there : goal.returns-then-has_name-clause-there
-returns-then-has_name-clause-there g c = λ _.
+pub returns-then-has_name-clause-fault : goal.returns-then-has_name-clause-fault
+returns-then-has_name-clause-fault g c =
     file_named (g.F.Folder.files c.args.folder.now) c.in_ok-files.files.items (codes "queue.cqc") c.in_ok-files.ensures.listed
     (ap (λ names. is_named names (codes "queue.cqc")) (sym c.as_slice.ensures.value) ∙ sym c.has_name.ensures ∙ c.if-has_name.true)
 

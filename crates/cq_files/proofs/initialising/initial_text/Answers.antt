@@ -29,6 +29,6 @@ write_config-requires c =
 
 pub returns-clause-text : goal.returns-clause-text
 returns-clause-text c =
-    text_for c.args.settings c.args.roll c.in_ok-config.config c.names.result.now c.as_slice.result.now c.in_ok-write_config.field-0.items
+    text_for c.args.settings.now c.args.roll c.in_ok-config.config c.names.result.now c.as_slice.result.now c.in_ok-write_config.field-0.items
     c.in_ok-config.ensures.config.0 c.in_ok-config.ensures.config.1 c.names.ensures.value
     (c.as_slice.ensures.value ∙ c.in_ok-positions.ensures.items_if_clones_equal (λ _ same. same)) c.in_ok-write_config.ensures

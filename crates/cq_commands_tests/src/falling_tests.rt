@@ -1,0 +1,171 @@
+//! A folder may list its names in any order: commands answer the same.
+use crate::falling::FallingFolder;
+use crate::steps::{DAY, Step, expect_each, said_by};
+use cq_folder::Folder;
+use std::process::Abort;
+use std::test::Fail;
+
+/// Each list of steps says together what stands beside it, over a folder that lists its names in rising order, and over one
+/// that lists them in falling order.
+fn expect_in_any_order<R: AllocGlobal + Abort>(
+    rt: &R,
+    table: &'static [(&'static [Step], &'static str)],
+) -> Result<(), Fail> {
+    expect_each(rt, table)?;
+    for (steps, want) in table {
+        let said = said_by(rt.alloc(), &mut FallingFolder::new(rt.alloc()), steps)?;
+        assert_eq!(rt; said.as_str(), *want);
+    }
+    Ok(())
+}
+
+#[test]
+fn lists_its_names_in_falling_order(rt: HostRuntime) -> Result<(), Fail> {
+    let mut folder = FallingFolder::new(rt.alloc());
+    folder.write("b", b"")?;
+    folder.write("c", b"")?;
+    folder.write("a", b"")?;
+    let names = folder.names(rt.alloc())?;
+    assert_eq!(rt; names.len(), 3);
+    assert_eq!(rt; names[0].as_str(), "c");
+    assert_eq!(rt; names[1].as_str(), "b");
+    assert_eq!(rt; names[2].as_str(), "a");
+    Ok(())
+}
+
+/// A queue of three cycles, each with one message, and what is done with it.
+static THREE: [(&[Step], &str); 1] = [(
+    &[
+        Step::Queue(4),
+        Step::Write(0, b"a\n"),
+        Step::Write(DAY, b"b\n"),
+        Step::Write(2 * DAY, b"c\n"),
+        Step::Check,
+        Step::Read(false, None),
+        Step::Read(true, None),
+        Step::Dump("19700102.cqi"),
+        Step::Write(2 * DAY, b"d\n"),
+        Step::Take("reader"),
+        Step::Check,
+    ],
+    "0000000000000000\n0000000100000000\n0000000200000000\n\
+19700101.cqi: 1 messages, ended\n19700102.cqi: 1 messages, ended\n19700103.cqi: 1 messages, open\n\
+0000000000000000 a\n0000000100000000 b\n0000000200000000 c\n\
+0000000200000000 c\n0000000100000000 b\n0000000000000000 a\n\
+00000000 40000018 store 1 1 8 1 64\n0000001c 40000020 top 64 0 0 0 0 0 0 0\n\
+00000040 40000020 table 0 100 0 0 0 0 0 0 0\n00000064 00000001 data 0 62\n0000006c c0000000 end\n\
+0000000200000001\n\
+0000000000000000 a\n\
+19700101.cqi: 1 messages, ended\n19700102.cqi: 1 messages, ended\n19700103.cqi: 2 messages, open\n",
+)];
+
+#[test]
+fn answers_the_same_in_any_order(rt: HostRuntime) -> Result<(), Fail> {
+    expect_in_any_order(&rt, &THREE)
+}
+
+/// An image that ended with no message.
+const ENDED: &[u8] = &[0, 0, 0, 0xc0];
+
+/// Two faults, of which the first by the order of names is told, and by what comes first: the configuration, names, images,
+/// ends, contents.
+static TWO: [(&[Step], &str); 8] = [
+    (
+        &[
+            Step::Queue(4),
+            Step::Put("queue.cqc", b""),
+            Step::Put("zzz.cqi", b""),
+            Step::Check,
+            Step::Read(false, None),
+            Step::Dump("zzz.cqi"),
+            Step::Write(0, b"a\n"),
+        ],
+        "cq: queue.cqc: line 1cq: queue.cqc: line 1cq: queue.cqc: line 1cq: queue.cqc: line 1",
+    ),
+    (
+        &[
+            Step::Queue(4),
+            Step::Put("aaa.cqi", b""),
+            Step::Put("zzz.cqi", b""),
+            Step::Check,
+            Step::Read(false, None),
+            Step::Dump("zzz.cqi"),
+            Step::Write(0, b"a\n"),
+        ],
+        "cq: aaa.cqi: bad cycle namecq: aaa.cqi: bad cycle namecq: zzz.cqi: bad cycle namecq: aaa.cqi: bad cycle name",
+    ),
+    (
+        &[
+            Step::Queue(4),
+            Step::Put("19700101.cqi", b"x"),
+            Step::Put("zzz.cqi", b""),
+            Step::Check,
+            Step::Read(false, None),
+            Step::Dump("19700101.cqi"),
+            Step::Write(0, b"a\n"),
+        ],
+        "cq: zzz.cqi: bad cycle namecq: zzz.cqi: bad cycle namecq: 19700101.cqi: Cut at 0cq: zzz.cqi: bad cycle name",
+    ),
+    (
+        &[
+            Step::Queue(4),
+            Step::Put("19700101.cqi", b"x"),
+            Step::Put("19700102.cqi", b"yy"),
+            Step::Check,
+            Step::Read(false, None),
+            Step::Dump("19700102.cqi"),
+            Step::Write(0, b"a\n"),
+        ],
+        "19700101.cqi: Cut at 0\n19700102.cqi: Cut at 0\ncq: images at faultcq: 19700101.cqi: Cut at 0\
+cq: 19700102.cqi: Cut at 0cq: 19700101.cqi: Cut at 0",
+    ),
+    // The first image is open, and not the last.
+    (
+        &[
+            Step::Queue(4),
+            Step::Put("19700101.cqi", b""),
+            Step::Put("19700102.cqi", b"x"),
+            Step::Read(false, None),
+            Step::Write(0, b"a\n"),
+        ],
+        "cq: 19700102.cqi: Cut at 0cq: 19700102.cqi: Cut at 0",
+    ),
+    // So is the second, and the third has ended.
+    (
+        &[
+            Step::Queue(4),
+            Step::Put("19700101.cqi", b""),
+            Step::Put("19700102.cqi", b""),
+            Step::Put("19700103.cqi", ENDED),
+            Step::Read(false, None),
+            Step::Write(0, b"a\n"),
+        ],
+        "cq: 19700101.cqi: wrong endcq: 19700101.cqi: wrong end",
+    ),
+    // Two cycles are more than the settings allow.
+    (
+        &[
+            Step::Queue(1),
+            Step::Put("19700101.cqi", ENDED),
+            Step::Put("19700102.cqi", ENDED),
+            Step::Read(false, None),
+            Step::Write(0, b"a\n"),
+        ],
+        "cq: 19700102.cqi: wrong endcq: 19700102.cqi: wrong end",
+    ),
+    (
+        &[
+            Step::Queue(1),
+            Step::Put("19700101.cqi", ENDED),
+            Step::Put("19700102.cqi", b""),
+            Step::Read(false, None),
+            Step::Write(0, b"a\n"),
+        ],
+        "cq: BadContentscq: BadContents",
+    ),
+];
+
+#[test]
+fn tells_the_same_fault_in_any_order(rt: HostRuntime) -> Result<(), Fail> {
+    expect_in_any_order(&rt, &TWO)
+}

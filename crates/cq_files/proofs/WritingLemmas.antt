@@ -1,0 +1,39 @@
+-- What is left of a folder's files after several calls, of which the last may write.
+use Rattle.std.proofs.Common.{◌≡◌, List, [], ◌∷◌, ℕ, ap, inl, inr, refl, ◌∙◌}
+use Rattle.std.specs.Prelude.{◌⊎◌, Option, None, Some, IfErr, OnErr, Result, Ok, Err, if◌then◌else◌}
+use Rattle.std.specs.Str.{bytes_eq}
+use Rattle.cq_folder.specs.Folder.{Files, KeepsFiles, KeepsOrWrites, WritesFile, WritesFiles}
+use Rattle.cq_text.specs.declared.fault.ToolFault.{ToolFault}
+use Rattle.cq_text.specs.declared.fault.ToolFault.TheVariants.{OutOfMemory}
+use Rattle.cq_files.proofs.QueueLemmas.{keeps-trans}
+
+-- what holds anyway holds after a fault
+pub on_err : {T E P : Type 0} (result : Result T E) → P → OnErr result P
+on_err (Ok value) p = tt
+on_err (Err fault) p = p
+
+-- a file that was written behind calls that keep all files
+pub kept_then_wrote : (a b c : Option Files) (file bytes : List ℕ) → KeepsFiles a b → WritesFile b c file bytes → WritesFile a c file bytes
+kept_then_wrote None b c file bytes kept done = tt
+kept_then_wrote (Some a) None c file bytes kept done = absurd kept
+kept_then_wrote (Some a) (Some b) None file bytes kept done = absurd done
+kept_then_wrote (Some a) (Some b) (Some c) file bytes kept done = λ name.
+    done name ∙ ap (λ (held : Option (List ℕ)). if bytes_eq file name then Some bytes else held) (kept name)
+
+-- writing no file changes none
+pub nothing_written : (a : Option Files) → WritesFiles a a []
+nothing_written None = tt
+nothing_written (Some a) = λ name. refl
+
+-- a file that was written or not, behind such calls
+pub kept_or_wrote : (a b c : Option Files) (file bytes : List ℕ) (IsText : List ℕ → Type 0) → IsText bytes → KeepsFiles a b
+    → KeepsOrWrites b c ((file, bytes) ∷ [])
+    → KeepsFiles a c ⊎ ((text : List ℕ) × IsText text × WritesFile a c file text)
+kept_or_wrote a b c file bytes IsText is kept (inl same) = inl (keeps-trans a b c kept same)
+kept_or_wrote a b c file bytes IsText is kept (inr done) = inr (bytes, is, kept_then_wrote a b c file bytes kept done)
+
+-- a call that for want of memory keeps all files, behind calls that keep them
+pub scarce_behind : {T : Type 0} (a b c : Option Files) (result : Result T ToolFault) → KeepsFiles a b
+    → IfErr result (λ fault. fault ≡ OutOfMemory → KeepsFiles b c) → IfErr result (λ fault. fault ≡ OutOfMemory → KeepsFiles a c)
+scarce_behind a b c (Ok value) kept scarce = tt
+scarce_behind a b c (Err fault) kept scarce = λ memory. keeps-trans a b c kept (scarce memory)

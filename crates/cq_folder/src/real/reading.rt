@@ -1,0 +1,79 @@
+//! What a folder lists, and what its files hold, through the record of a save that was cut short.
+
+use super::RealFolder;
+use std::alloc::{AllocError, Global};
+use std::fs::{self, File};
+use std::io::{self, BufRead, BufReader, ErrorKind, Read};
+use std::rt::Files;
+
+impl<'a, R: Files<File = File> + AllocGlobal + Clone + Drop> RealFolder<'a, R> {
+    /// The names in the folder, with those of the record that stands.
+    pub(super) fn list_through(&self, alloc: Global) -> io::Result<Vec<String>> {
+        let mut names = self.list(alloc)?;
+        if let Some(record) = &self.record {
+            for name in &record.names {
+                if !names.iter().any(|listed| listed.as_str() == name.as_str()) {
+                    names.push(String::from_str(alloc, name.as_str())?)?;
+                }
+            }
+        }
+        Ok(names)
+    }
+
+    /// The names in the folder. In one that is not UTF-8, U+FFFD stands for what is no text: no file can be read by it.
+    pub(super) fn list(&self, alloc: Global) -> io::Result<Vec<String>> {
+        let mut names = Vec::new(alloc);
+        let folder = self.rt.open_dir(self.path_of("")?.as_str())?;
+        // Each name ends with a zero byte, and no read ends inside a name: a small buffer would be refused.
+        for name in BufReader::new(alloc, folder)?.split(alloc, 0) {
+            push_name(alloc, &mut names, name?.as_slice())?;
+        }
+        Ok(names)
+    }
+
+    /// The bytes of a file, of which no more than `limit + 1` are read. Where the record that stands names it, they are
+    /// those of its part, unless that has taken its place.
+    pub(super) fn read_through(
+        &self,
+        alloc: Global,
+        name: &str,
+        limit: usize,
+    ) -> io::Result<Vec<u8>> {
+        if let Some(record) = &self.record
+            && record.has(name)
+        {
+            let part = self.part_of(name, record.process)?;
+            match self.read_plain(alloc, part.as_str(), limit) {
+                Err(error) if error.kind() == ErrorKind::NotFound => {}
+                read => return read,
+            }
+        }
+        self.read_plain(alloc, self.path_of(name)?.as_str(), limit)
+    }
+
+    /// The same of the file at a path. A link is not followed, and nothing but a plain file is opened.
+    pub(super) fn read_plain(
+        &self,
+        alloc: Global,
+        path: &str,
+        limit: usize,
+    ) -> io::Result<Vec<u8>> {
+        if !fs::symlink_metadata(self.rt, path)?.is_file() {
+            return Err(io::Error::from(ErrorKind::InvalidInput));
+        }
+        let file = File::open(self.rt, path)?;
+        let mut bytes = Vec::new(alloc);
+        file.take((limit as u64).saturating_add(1))
+            .read_to_end(&mut bytes)?;
+        Ok(bytes)
+    }
+}
+
+/// Adds a name that a folder lists, unless it is that of the folder itself or of the one above.
+fn push_name(alloc: Global, names: &mut Vec<String>, name: &[u8]) -> Result<(), AllocError> {
+    if matches!(name, b"." | b"..") {
+        return Ok(());
+    }
+    names.push(String::from_utf8_lossy(alloc, name)?)?;
+    Ok(())
+}

@@ -1,0 +1,350 @@
+//! Folders of the system, and what is left in them by commands that were cut short.
+use crate::wanted::{expect, expect_text};
+use cq_folder::{Access, Folder, NewFile, RealFolder};
+use std::alloc::{AllocError, Global};
+use std::fs::{self, File};
+use std::rt::Files;
+use std::test::Fail;
+use std::{env, process};
+
+/// What is done to a folder at a path.
+#[derive(Clone, Copy)]
+enum Step {
+    /// Puts a file with this text, by the system's own call.
+    Put(&'static str, &'static str),
+    /// Makes a link to a file.
+    Link(&'static str, &'static str),
+    /// Makes a folder.
+    Make(&'static str),
+    /// Puts so many empty files with long names.
+    Many(usize),
+    /// Says how many names there are.
+    Count,
+    /// Comes in, beside others or alone.
+    Begin(Access),
+    /// Goes out.
+    End,
+    /// Saves files with these texts together.
+    Save(&'static [(&'static str, &'static str)]),
+    /// Writes a file with this text.
+    Write(&'static str, &'static str),
+    /// Says the names, in their order.
+    Names,
+    /// Says the text of a file, up to 100 bytes.
+    Read(&'static str),
+    /// Says which files the system lists, in their order.
+    Listed,
+}
+
+/// Takes the steps in a new folder of the system in turn, and fails where one says something else than stands beside it.
+fn expect_steps(
+    rt: &HostRuntime,
+    name: &str,
+    steps: &'static [(Step, &'static str)],
+) -> Result<(), Fail> {
+    let path = temporary_path(rt, name)?;
+    fs::create_dir(rt, path.as_str())?;
+    let missed = missed(rt, path.as_str(), steps)?;
+    fs::remove_dir_all(rt, path.as_str())?;
+    expect_text(missed, "")
+}
+
+/// A path within the folder for temporary files.
+fn temporary_path(rt: &HostRuntime, name: &str) -> Result<String, Fail> {
+    let within = env::temp_dir(rt)?;
+    let id = process::id(rt.process());
+    Ok(format!(in rt.alloc(); "{}/cq_{name}_{id}", within.display())?)
+}
+
+/// What is said by steps in the folder at a path where something else stands beside them, with their places.
+fn missed<R>(rt: &R, path: &str, steps: &'static [(Step, &'static str)]) -> Result<String, Fail>
+where
+    R: Files<File = File> + AllocGlobal + Clone + Drop,
+{
+    let alloc = rt.alloc();
+    let mut folder = RealFolder::new(rt, String::from_str(alloc, path)?, 7);
+    let mut text = String::new(alloc);
+    for (place, (step, want)) in steps.iter().enumerate() {
+        let said = said_at(rt, path, &mut folder, step)?;
+        push_missed(alloc, &mut text, place, said.as_str(), want)?;
+    }
+    Ok(text)
+}
+
+/// Adds what was said at a place to the text, where it is not what is wanted.
+fn push_missed(
+    alloc: Global,
+    text: &mut String,
+    place: usize,
+    said: &str,
+    want: &str,
+) -> Result<(), AllocError> {
+    if said == want {
+        return Ok(());
+    }
+    text.push_str(format!(in alloc; "step {place}: {said}; ")?.as_str())
+}
+
+/// Takes a step in the folder at a path, and gives what is said.
+fn said_at<R>(
+    rt: &R,
+    path: &str,
+    folder: &mut RealFolder<'_, R>,
+    step: &Step,
+) -> Result<String, Fail>
+where
+    R: Files<File = File> + AllocGlobal + Clone + Drop,
+{
+    let alloc = rt.alloc();
+    match *step {
+        Step::Put(name, text) => put(rt, path, name, text),
+        Step::Link(name, to) => link(rt, path, name, to),
+        Step::Make(name) => make(rt, path, name),
+        Step::Many(count) => put_many(rt, path, count),
+        Step::Count => Ok(format!(in alloc; "{}", folder.names(alloc)?.len())?),
+        Step::Begin(access) => Ok(answer(alloc, folder.begin(alloc, access).is_ok())?),
+        Step::End => {
+            folder.end();
+            Ok(String::new(alloc))
+        }
+        Step::Save(files) => saved(alloc, folder, files),
+        Step::Write(name, text) => Ok(answer(alloc, folder.write(name, text.as_bytes()).is_ok())?),
+        Step::Names => Ok(in_order(alloc, folder.names(alloc)?)?),
+        Step::Read(name) => Ok(text_of(alloc, folder, name)?),
+        Step::Listed => listed(rt, path),
+    }
+}
+
+/// Nothing where a call was done.
+fn answer(alloc: Global, is_done: bool) -> Result<String, AllocError> {
+    String::from_str(alloc, if is_done { "" } else { "fault" })
+}
+
+fn put<R: Files + AllocGlobal>(
+    rt: &R,
+    path: &str,
+    name: &str,
+    text: &str,
+) -> Result<String, Fail> {
+    fs::write(rt, format!(in rt.alloc(); "{path}/{name}")?.as_str(), text)?;
+    Ok(String::new(rt.alloc()))
+}
+
+fn link<R: Files + AllocGlobal>(rt: &R, path: &str, name: &str, to: &str) -> Result<String, Fail> {
+    rt.symlink(to, format!(in rt.alloc(); "{path}/{name}")?.as_str())?;
+    Ok(String::new(rt.alloc()))
+}
+
+fn make<R: Files + AllocGlobal>(rt: &R, path: &str, name: &str) -> Result<String, Fail> {
+    fs::create_dir(rt, format!(in rt.alloc(); "{path}/{name}")?.as_str())?;
+    Ok(String::new(rt.alloc()))
+}
+
+fn put_many<R: Files + AllocGlobal>(rt: &R, path: &str, count: usize) -> Result<String, Fail> {
+    for number in 0..count {
+        put(rt, path, format!(in rt.alloc(); "{number:0>100}")?.as_str(), "")?;
+    }
+    Ok(String::new(rt.alloc()))
+}
+
+fn saved<F: Folder>(
+    alloc: Global,
+    folder: &mut F,
+    files: &[(&str, &str)],
+) -> Result<String, Fail> {
+    let mut changes = Vec::new(alloc);
+    for &(name, text) in files {
+        changes.push(NewFile {
+            name: String::from_str(alloc, name)?,
+            bytes: Vec::from_slice(alloc, text.as_bytes())?,
+        })?;
+    }
+    Ok(answer(alloc, folder.save(changes.as_slice()).is_ok())?)
+}
+
+/// The text of a file, or the fault of its read.
+fn text_of<F: Folder>(alloc: Global, folder: &mut F, name: &str) -> Result<String, AllocError> {
+    match folder.read(alloc, name, 100) {
+        Ok(bytes) => String::from_utf8_lossy(alloc, bytes.as_slice()),
+        Err(fault) => format!(in alloc; "{fault:?}"),
+    }
+}
+
+/// Names in their order, with a space behind each.
+fn in_order(alloc: Global, names: Vec<String>) -> Result<String, AllocError> {
+    let mut names = names;
+    names.sort()?;
+    let mut text = String::new(alloc);
+    for name in &names {
+        text.push_str(name.as_str())?;
+        text.push(' ')?;
+    }
+    Ok(text)
+}
+
+/// The names that the system lists.
+fn listed<R: Files + AllocGlobal + Clone + Drop>(rt: &R, path: &str) -> Result<String, Fail> {
+    let mut names = Vec::new(rt.alloc());
+    for entry in fs::read_dir(rt, path)? {
+        names.push(String::from_str(rt.alloc(), entry?.file_name())?)?;
+    }
+    Ok(in_order(rt.alloc(), names)?)
+}
+
+/// A write replaces a file, and what an older write of this process left.
+static WRITTEN: [(Step, &str); 9] = [
+    (Step::Names, ""),
+    (Step::Put("a.7.part", "much longer than the new bytes"), ""),
+    (Step::Write("a", "old"), ""),
+    (Step::Write("b", ""), ""),
+    (Step::Write("a", "abc"), ""),
+    (Step::Read("a"), "abc"),
+    (Step::Read("b"), ""),
+    (Step::Read("c"), "Device"),
+    (Step::Listed, "a b "),
+];
+
+#[test]
+fn a_real_folder_keeps_its_files(rt: HostRuntime) -> Result<(), Fail> {
+    expect_steps(&rt, "kept", &WRITTEN)
+}
+
+/// All names of a folder are listed, however many there are.
+static MANY: [(Step, &str); 4] = [
+    (Step::Many(300), ""),
+    (Step::Count, "300"),
+    (Step::Begin(Access::Alone), ""),
+    (Step::Count, "300"),
+];
+
+#[test]
+fn all_names_are_listed(rt: HostRuntime) -> Result<(), Fail> {
+    expect_steps(&rt, "many", &MANY)
+}
+
+/// Two files are saved together; a file that no record can name is refused, and nothing of its save is left.
+static SAVED: [(Step, &str); 9] = [
+    (Step::Begin(Access::Alone), ""),
+    (Step::Save(&[("1.cqi", "one"), ("queue.cqc", "two")]), ""),
+    (Step::Save(&[("1.cqi", "three"), ("2.txt", "")]), "fault"),
+    (
+        Step::Save(&[("1.cqi", "three"), ("../2.cqi", "")]),
+        "fault",
+    ),
+    (Step::Save(&[]), ""),
+    (Step::End, ""),
+    (Step::Read("1.cqi"), "one"),
+    (Step::Read("queue.cqc"), "two"),
+    (Step::Listed, "1.cqi queue.cqc "),
+];
+
+#[test]
+fn files_are_saved_together(rt: HostRuntime) -> Result<(), Fail> {
+    expect_steps(&rt, "saved", &SAVED)
+}
+
+/// A save was stopped between its renames: a reader sees all of it, and whoever is alone finishes it. A part that no record
+/// names is of a save that was stopped before, and goes; a file of the user's stays.
+static STOPPED: [(Step, &str); 20] = [
+    (Step::Put("1.cqi", "new one"), ""),
+    (Step::Put("2.cqi", "old two"), ""),
+    (Step::Put("2.cqi.9.part", "new two"), ""),
+    (Step::Put("3.cqi.9.part", "new three"), ""),
+    (Step::Put("4.cqi.8.part", "never saved"), ""),
+    (Step::Put("movie.part", "the user's"), ""),
+    (
+        Step::Put("queue.save", "cq save 1\n9\n1.cqi\n2.cqi\n3.cqi\nend\n"),
+        "",
+    ),
+    (Step::Begin(Access::Shared), ""),
+    (Step::Read("1.cqi"), "new one"),
+    (Step::Read("2.cqi"), "new two"),
+    (Step::Read("3.cqi"), "new three"),
+    (
+        Step::Names,
+        "1.cqi 2.cqi 2.cqi.9.part 3.cqi 3.cqi.9.part 4.cqi.8.part movie.part queue.save ",
+    ),
+    (Step::End, ""),
+    (Step::Begin(Access::Alone), ""),
+    (Step::Names, "1.cqi 2.cqi 3.cqi movie.part "),
+    (Step::Read("1.cqi"), "new one"),
+    (Step::Read("2.cqi"), "new two"),
+    (Step::Read("3.cqi"), "new three"),
+    (Step::Read("4.cqi"), "Device"),
+    (Step::End, ""),
+];
+
+#[test]
+fn a_save_that_was_stopped_is_finished(rt: HostRuntime) -> Result<(), Fail> {
+    expect_steps(&rt, "stopped", &STOPPED)
+}
+
+/// A record that is none keeps everybody out, and changes nothing.
+static FAULTY: [(Step, &str); 11] = [
+    (Step::Put("1.cqi.9.part", "new"), ""),
+    (Step::Put("queue.save", "cq save 1\n9\n../1.cqi\nend\n"), ""),
+    (Step::Begin(Access::Shared), "fault"),
+    (Step::Begin(Access::Alone), "fault"),
+    (Step::Put("queue.save", "cq save 1\n9\n1.cqi\n"), ""),
+    (Step::Begin(Access::Alone), "fault"),
+    (Step::Put("queue.save", "cq save 2\n9\n1.cqi\nend\n"), ""),
+    (Step::Begin(Access::Alone), "fault"),
+    (Step::Put("queue.save", "cq save 1\nx\n1.cqi\nend\n"), ""),
+    (Step::Begin(Access::Alone), "fault"),
+    (Step::Listed, "1.cqi.9.part queue.save "),
+];
+
+#[test]
+fn a_faulty_record_is_a_fault(rt: HostRuntime) -> Result<(), Fail> {
+    expect_steps(&rt, "faulty", &FAULTY)
+}
+
+/// A link or a folder in the place of a file is neither read nor replaced, and a link in the place of a part is not
+/// followed.
+static LINKS: [(Step, &str); 15] = [
+    (Step::Put("target", "kept"), ""),
+    (Step::Link("1.cqi", "target"), ""),
+    (Step::Make("2.cqi"), ""),
+    (Step::Link("3.cqi.7.part", "target"), ""),
+    (Step::Begin(Access::Alone), ""),
+    (Step::Listed, "1.cqi 2.cqi target "),
+    (Step::Read("1.cqi"), "Device"),
+    (Step::Read("2.cqi"), "Device"),
+    (Step::Write("1.cqi", "new"), "fault"),
+    (Step::Write("2.cqi", "new"), "fault"),
+    (Step::Save(&[("3.cqi", "new"), ("1.cqi", "new")]), "fault"),
+    (Step::Link("3.cqi.7.part", "target"), ""),
+    (Step::Save(&[("3.cqi", "new"), ("4.cqi", "new")]), ""),
+    (Step::Read("target"), "kept"),
+    (Step::Listed, "1.cqi 2.cqi 3.cqi 4.cqi target "),
+];
+
+#[test]
+fn links_are_not_followed(rt: HostRuntime) -> Result<(), Fail> {
+    expect_steps(&rt, "links", &LINKS)
+}
+
+/// What a queue's files may be read and written by stays.
+#[test]
+fn a_file_keeps_its_mode(rt: HostRuntime) -> Result<(), Fail> {
+    let path = temporary_path(&rt, "mode")?;
+    fs::create_dir(&rt, path.as_str())?;
+    let kept = keeps_mode(&rt, path.as_str())?;
+    fs::remove_dir_all(&rt, path.as_str())?;
+    expect(kept, "the mode is the same")
+}
+
+/// Whether a file in the folder at a path that may only be read keeps its mode where it is replaced.
+fn keeps_mode<R>(rt: &R, path: &str) -> Result<bool, Fail>
+where
+    R: Files<File = File> + AllocGlobal + Clone + Drop,
+{
+    let file = format!(in rt.alloc(); "{path}/1.cqi")?;
+    fs::write(rt, file.as_str(), "old")?;
+    let mut permissions = fs::metadata(rt, file.as_str())?.permissions();
+    permissions.set_readonly(true);
+    rt.set_permissions(file.as_str(), permissions)?;
+    let mut folder = RealFolder::new(rt, String::from_str(rt.alloc(), path)?, 7);
+    folder.write("1.cqi", b"new".as_slice())?;
+    Ok(fs::metadata(rt, file.as_str())?.permissions().readonly())
+}
