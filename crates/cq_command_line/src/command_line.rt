@@ -60,9 +60,12 @@ fn with_subcommand<'a>(
 fn echo_command<'a>(alloc: Global) -> Command<'a>
     ensures { Makes result echo_command }
 {
-    Command::new(alloc, "echo").about(
-        "Stores each line of the input, and prints it with its number",
-    )
+    Command::new(alloc, "echo")
+        .about("Stores each line of the input, and prints it with its number")
+        .after_help(
+            "Input: at most 129,000 bytes, in at most 1,000 lines of 1 to 128 bytes\n\n\
+             Example:\n  printf 'hello\\nworld\\n' | cq echo",
+        )
 }
 
 fn cycle_command<'a>(alloc: Global) -> Result<Command<'a>, AllocError>
@@ -70,15 +73,26 @@ fn cycle_command<'a>(alloc: Global) -> Result<Command<'a>, AllocError>
 {
     Command::new(alloc, "cycle")
         .about("Prints the cycle of a moment, its name and its first index")
+        .after_help("Example:\n  cq cycle daily 0 $(date +%s%3N)")
         .arg(roll(alloc))?
         .arg(epoch(alloc))?
-        .arg(number(alloc, "MOMENT", "The moment, in milliseconds of Unix time"))
+        .arg(number(
+            alloc,
+            "MOMENT",
+            "The moment, in milliseconds of Unix time: from EPOCH to 253,402,300,799,999,\n\
+             and in a cycle up to 2,147,483,646",
+        ))
 }
 
 fn init_command<'a>(alloc: Global) -> Result<Command<'a>, AllocError>
     ensures { IfOk result (λ command. Makes command init_command) }
 {
-    with_sizes(alloc, init_place(alloc)?)?.arg(words(alloc, "NAMES", "The names of the tailers"))
+    with_sizes(alloc, init_place(alloc)?)?.arg(words(
+        alloc,
+        "NAMES",
+        "The names of the tailers: at most 16, no two the same,\n\
+         each of 1 to 32 bytes of A-Z, a-z, 0-9, '_', '-' and '.'",
+    ))
 }
 
 /// The command `init` with the arguments that say where a queue is made and how its cycles follow one another.
@@ -87,6 +101,7 @@ fn init_place<'a>(alloc: Global) -> Result<Command<'a>, AllocError>
 {
     Command::new(alloc, "init")
         .about("Makes a queue in a folder")
+        .after_help("Example:\n  mkdir journal && cq init journal daily 0 65536 32 1 8 reader")
         .arg(folder(alloc))?
         .arg(roll(alloc))?
         .arg(epoch(alloc))
@@ -97,14 +112,26 @@ fn with_sizes<'a>(alloc: Global, command: Command<'a>) -> Result<Command<'a>, Al
     ensures { (app : App) → Makes command.entry app → IfOk result (λ made. Makes made (with_sizes app)) }
 {
     command
-        .arg(number(alloc, "CELLS", "The cells of a cycle, of four bytes each"))?
-        .arg(number(alloc, "COUNT", "The entries of a table of the index"))?
+        .arg(number(
+            alloc,
+            "CELLS",
+            "The cells of a cycle, of four bytes each: from 13 + 2 * (1 + COUNT) to 1,048,576",
+        ))?
+        .arg(number(
+            alloc,
+            "COUNT",
+            "The entries of a table of the index: a power of two from 8 to 1,024",
+        ))?
         .arg(number(
             alloc,
             "SPACING",
-            "One message in so many has an entry in the index",
+            "One message in so many has an entry in the index: a power of two from 1 to 256",
         ))?
-        .arg(number(alloc, "CYCLES", "How many cycles may begin"))
+        .arg(number(
+            alloc,
+            "CYCLES",
+            "How many cycles may begin: from 1 to 64, and CYCLES * CELLS is at most 4,194,304",
+        ))
 }
 
 fn write_command<'a>(alloc: Global) -> Result<Command<'a>, AllocError>
@@ -112,11 +139,16 @@ fn write_command<'a>(alloc: Global) -> Result<Command<'a>, AllocError>
 {
     Command::new(alloc, "write")
         .about("Appends each line of the input")
+        .after_help(
+            "Input: at most 8,388,608 bytes, of which no line is empty, and all fit into one cycle\n\n\
+             Example:\n  printf 'hello\\nworld\\n' | cq write journal $(date +%s%3N)",
+        )
         .arg(folder(alloc))?
         .arg(number(
             alloc,
             "MOMENT",
-            "The moment of the lines, in milliseconds of Unix time",
+            "The moment of the lines, in milliseconds of Unix time: from the queue's EPOCH\n\
+             to 253,402,300,799,999, and in a cycle up to 2,147,483,646",
         ))
 }
 
@@ -125,9 +157,15 @@ fn read_command<'a>(alloc: Global) -> Result<Command<'a>, AllocError>
 {
     Command::new(alloc, "read")
         .about("Prints the messages in order")
+        .after_help("Example:\n  cq read journal --from 00004e2000000000")
         .arg(folder(alloc))?
         .arg(flag(alloc, "back", "From the end on, towards the first message"))?
-        .arg(option(alloc, "from", "INDEX", "The index to begin at"))
+        .arg(option(
+            alloc,
+            "from",
+            "INDEX",
+            "The index to begin at: 16 lower-case hexadecimal digits",
+        ))
 }
 
 fn take_command<'a>(alloc: Global) -> Result<Command<'a>, AllocError>
@@ -135,8 +173,13 @@ fn take_command<'a>(alloc: Global) -> Result<Command<'a>, AllocError>
 {
     Command::new(alloc, "take")
         .about("Prints the next message of a tailer, and moves the tailer behind it")
+        .after_help("Example:\n  cq take journal reader")
         .arg(folder(alloc))?
-        .arg(word(alloc, "NAME", "The name of the tailer"))
+        .arg(word(
+            alloc,
+            "NAME",
+            "The name of the tailer: one of the NAMES that the queue was made with",
+        ))
 }
 
 fn check_command<'a>(alloc: Global) -> Result<Command<'a>, AllocError>
@@ -144,6 +187,7 @@ fn check_command<'a>(alloc: Global) -> Result<Command<'a>, AllocError>
 {
     Command::new(alloc, "check")
         .about("Says of each image what it holds, or what is wrong with it")
+        .after_help("Example:\n  cq check journal")
         .arg(folder(alloc))
 }
 
@@ -152,20 +196,33 @@ fn dump_command<'a>(alloc: Global) -> Result<Command<'a>, AllocError>
 {
     Command::new(alloc, "dump")
         .about("Prints the records of an image")
+        .after_help("Example:\n  cq dump journal $(date -u +%Y%m%d).cqi")
         .arg(folder(alloc))?
-        .arg(word(alloc, "FILE", "The name of the image's file"))
+        .arg(word(
+            alloc,
+            "FILE",
+            "The image's file in DIR: yyyyMMdd.cqi, yyyyMMdd-HH.cqi or yyyyMMdd-HHmm.cqi, by the roll",
+        ))
 }
 
 fn folder<'a>(alloc: Global) -> Arg<'a>
     ensures { Follows result (word_rule (codes "DIR")) }
 {
-    word(alloc, "DIR", "The folder of the queue")
+    word(
+        alloc,
+        "DIR",
+        "The folder of the queue, which is there already",
+    )
 }
 
 fn roll<'a>(alloc: Global) -> Arg<'a>
     ensures { Follows result (word_rule (codes "ROLL")) }
 {
-    word(alloc, "ROLL", "daily, hourly or minutely")
+    word(
+        alloc,
+        "ROLL",
+        "How long a cycle is: daily, hourly or minutely",
+    )
 }
 
 fn epoch<'a>(alloc: Global) -> Arg<'a>
@@ -174,7 +231,7 @@ fn epoch<'a>(alloc: Global) -> Arg<'a>
     number(
         alloc,
         "EPOCH",
-        "When cycle 0 begins, in milliseconds of Unix time",
+        "When cycle 0 begins, in milliseconds of Unix time: at most 253,402,300,799,999",
     )
 }
 

@@ -26,6 +26,15 @@ fn expect<R: AllocGlobal + Abort>(rt: &R, table: &[(&[&str], &str)]) -> Result<(
     Ok(())
 }
 
+/// The help of each command says what stands beside it.
+fn expect_help<R: AllocGlobal + Abort>(rt: &R, table: &[(&str, &str)]) -> Result<(), Fail> {
+    for (command, want) in table {
+        let said = parsed(rt.alloc(), &["cq", *command, "--help"])?;
+        assert!(rt; said.as_str().contains(*want), "{said}");
+    }
+    Ok(())
+}
+
 #[test]
 fn parses_words(rt: HostRuntime) -> Result<(), Fail> {
     let table: [(&[&str], &str); 13] = [
@@ -231,4 +240,126 @@ fn parses_the_words_of_other_commands(rt: HostRuntime) -> Result<(), Fail> {
         (&["cq", "dump", "--help"], "Usage: cq dump <DIR> <FILE>"),
     ];
     expect(&rt, table.as_slice())
+}
+
+#[test]
+fn help_names_the_limits_of_a_new_queue(rt: HostRuntime) -> Result<(), Fail> {
+    let table = [
+        (
+            "init",
+            " <DIR>       The folder of the queue, which is there already\n",
+        ),
+        (
+            "init",
+            " <ROLL>      How long a cycle is: daily, hourly or minutely\n",
+        ),
+        (
+            "init",
+            " <EPOCH>     When cycle 0 begins, in milliseconds of Unix time: at most 253,402,300,799,999\n",
+        ),
+        (
+            "init",
+            " <CELLS>     The cells of a cycle, of four bytes each: from 13 + 2 * (1 + COUNT) to 1,048,576\n",
+        ),
+        (
+            "init",
+            " <COUNT>     The entries of a table of the index: a power of two from 8 to 1,024\n",
+        ),
+        (
+            "init",
+            " <SPACING>   One message in so many has an entry in the index: a power of two from 1 to 256\n",
+        ),
+        (
+            "init",
+            " <CYCLES>    How many cycles may begin: from 1 to 64, and CYCLES * CELLS is at most 4,194,304\n",
+        ),
+        (
+            "init",
+            " [NAMES]...  The names of the tailers: at most 16, no two the same,\n",
+        ),
+        (
+            "init",
+            " each of 1 to 32 bytes of A-Z, a-z, 0-9, '_', '-' and '.'\n",
+        ),
+    ];
+    expect_help(&rt, table.as_slice())
+}
+
+#[test]
+fn help_names_the_limits_of_other_words(rt: HostRuntime) -> Result<(), Fail> {
+    let table = [
+        (
+            "echo",
+            "Input: at most 129,000 bytes, in at most 1,000 lines of 1 to 128 bytes\n",
+        ),
+        (
+            "cycle",
+            " <ROLL>    How long a cycle is: daily, hourly or minutely\n",
+        ),
+        (
+            "cycle",
+            " <EPOCH>   When cycle 0 begins, in milliseconds of Unix time: at most 253,402,300,799,999\n",
+        ),
+        (
+            "cycle",
+            " <MOMENT>  The moment, in milliseconds of Unix time: from EPOCH to 253,402,300,799,999,\n",
+        ),
+        ("cycle", " and in a cycle up to 2,147,483,646\n"),
+        (
+            "write",
+            " <MOMENT>  The moment of the lines, in milliseconds of Unix time: from the queue's EPOCH\n",
+        ),
+        (
+            "write",
+            " to 253,402,300,799,999, and in a cycle up to 2,147,483,646\n",
+        ),
+        (
+            "write",
+            "Input: at most 8,388,608 bytes, of which no line is empty, and all fit into one cycle\n",
+        ),
+        (
+            "read",
+            " --from <INDEX>  The index to begin at: 16 lower-case hexadecimal digits\n",
+        ),
+        (
+            "take",
+            " <NAME>  The name of the tailer: one of the NAMES that the queue was made with\n",
+        ),
+        (
+            "check",
+            " <DIR>  The folder of the queue, which is there already\n",
+        ),
+        (
+            "dump",
+            " <FILE>  The image's file in DIR: yyyyMMdd.cqi, yyyyMMdd-HH.cqi or yyyyMMdd-HHmm.cqi, by the roll\n",
+        ),
+    ];
+    expect_help(&rt, table.as_slice())
+}
+
+#[test]
+fn help_gives_an_example(rt: HostRuntime) -> Result<(), Fail> {
+    let table = [
+        ("echo", "Example:\n  printf 'hello\\nworld\\n' | cq echo\n"),
+        ("cycle", "Example:\n  cq cycle daily 0 $(date +%s%3N)\n"),
+        (
+            "init",
+            "Example:\n  mkdir journal && cq init journal daily 0 65536 32 1 8 reader\n",
+        ),
+        (
+            "write",
+            "Example:\n  printf 'hello\\nworld\\n' | cq write journal $(date +%s%3N)\n",
+        ),
+        (
+            "read",
+            "Example:\n  cq read journal --from 00004e2000000000\n",
+        ),
+        ("take", "Example:\n  cq take journal reader\n"),
+        ("check", "Example:\n  cq check journal\n"),
+        (
+            "dump",
+            "Example:\n  cq dump journal $(date -u +%Y%m%d).cqi\n",
+        ),
+    ];
+    expect_help(&rt, table.as_slice())
 }

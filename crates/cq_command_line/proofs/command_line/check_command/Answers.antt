@@ -7,5 +7,5 @@ use Rattle.cq_command_line.proofs.command_line.check_command.Goals as goal
 
 pub returns : goal.returns
 returns c =
-    let plain : Makes c.about.result (new_app (codes "check")) = search rules in
+    let plain : Makes c.after_help.result (new_app (codes "check")) = search rules in
     IfOk-weaker c.arg.result _ _ (λ command adds. made-with_rule _ _ _ _ _ adds plain c.folder.ensures) c.arg.ensures

@@ -7,7 +7,7 @@ use Rattle.cq_command_line.proofs.command_line.cycle_command.Goals as goal
 
 pub returns : goal.returns
 returns c =
-    let plain : Makes c.about.result (new_app (codes "cycle")) = search rules in
+    let plain : Makes c.after_help.result (new_app (codes "cycle")) = search rules in
     let roll = made-with_rule _ _ _ _ _ c.in_ok-arg.ensures plain c.roll.ensures in
     let epoch = made-with_rule _ _ _ _ _ c.in_ok-arg-2.ensures roll c.epoch.ensures in
     IfOk-weaker c.arg-3.result _ _ (λ command adds. made-with_rule _ _ _ _ _ adds epoch c.number.ensures) c.arg-3.ensures

@@ -7,7 +7,7 @@ use Rattle.cq_command_line.proofs.command_line.read_command.Goals as goal
 
 pub returns : goal.returns
 returns c =
-    let plain : Makes c.about.result (new_app (codes "read")) = search rules in
+    let plain : Makes c.after_help.result (new_app (codes "read")) = search rules in
     let folder = made-with_rule _ _ _ _ _ c.in_ok-arg.ensures plain c.folder.ensures in
     let back = made-with_rule _ _ _ _ _ c.in_ok-arg-2.ensures folder c.flag.ensures in
     IfOk-weaker c.arg-3.result _ _ (λ command adds. made-with_rule _ _ _ _ _ adds back c.option.ensures) c.arg-3.ensures
