@@ -35,11 +35,7 @@ impl<F: Folder> FailingFolder<F> {
     {
         FailingFolder {
             folder,
-            failing: FailingCall {
-                calls_left: number,
-                writes: false,
-                failures: 0,
-            },
+            failing: FailingCall::new(number, false),
         }
     }
 
@@ -52,11 +48,7 @@ impl<F: Folder> FailingFolder<F> {
     {
         FailingFolder {
             folder,
-            failing: FailingCall {
-                calls_left: number,
-                writes: true,
-                failures: 0,
-            },
+            failing: FailingCall::new(number, true),
         }
     }
 
@@ -70,6 +62,17 @@ impl<F: Folder> FailingFolder<F> {
 }
 
 impl FailingCall {
+    /// The call with this number, before any call was made.
+    fn new(number: u64, writes: bool) -> Self
+        ensures { result ≡ record { calls_left = number; writes = writes; failures = 0 } }
+    {
+        FailingCall {
+            calls_left: number,
+            writes,
+            failures: 0,
+        }
+    }
+
     /// Counts a call, and tells whether it fails.
     fn is_next(&mut self) -> bool
         ensures due { IsTrue result ↔ (self.old.calls_left ≡ 1) }

@@ -1,4 +1,4 @@
-use Rattle.std.proofs.Common.{ℕ, List, Vec, Global, String, Bool, ◌≡◌, ap, string_bytes}
+use Rattle.std.proofs.Common.{ℕ, List, Vec, Global, String, ◌≡◌, ap, string_bytes}
 use Rattle.std.proofs.lemmas.List.Elements.{same_from_all_zip}
 use Rattle.std.specs.BTreeMap.{is_at}
 use Rattle.std.specs.Cmp.Lexicographic.{slice_cmp}

@@ -16,9 +16,11 @@ loop-file-preserved c =
     let middle = Some (files_in c.loop-file.copy) in
     let new = Some (files_in c.put.new.self) in
     let wrote = subst (λ (bytes : List ℕ). WritesFile middle new (named_file file).0 bytes) c.as_slice.ensures.value
-    (subst (λ (name : List ℕ). WritesFile middle new name c.as_slice.result.now) c.as_str.ensures.value c.in_ok-put.ensures.written) in
-    (subst (λ (some : List NewFile). WritesFiles old new (map named_file some))
-    (sym (take_more files i file c.loop-file-test.true))
-    (subst (λ (one : NewFile). WritesFiles old new (map named_file (take i files ++ one ∷ []))) c.file-item.is
-    (subst (WritesFiles old new) (sym (map-append named_file (take i files) (file ∷ [])))
-    (one_file_more old middle new (map named_file (take i files)) (named_file file) c.loop-file.invariant.0 wrote))), c.put.ensures.failures ∙ c.loop-file.invariant.1)
+    (subst (λ (name : List ℕ). WritesFile middle new name c.as_slice.result.now) c.as_str.ensures.value c.in_ok-put.ensures.written) in (
+      subst (λ (some : List NewFile). WritesFiles old new (map named_file some))
+          (sym (take_more files i file c.loop-file-test.true))
+          (subst (λ (one : NewFile). WritesFiles old new (map named_file (take i files ++ one ∷ []))) c.file-item.is
+          (subst (WritesFiles old new) (sym (map-append named_file (take i files) (file ∷ [])))
+          (one_file_more old middle new (map named_file (take i files)) (named_file file) c.loop-file.invariant.0 wrote))),
+      c.put.ensures.failures ∙ c.loop-file.invariant.1,
+    )
