@@ -12,6 +12,7 @@ use Rattle.cq_folder.specs.declared.config_fault.ConfigFault.{ConfigFault}
 use Rattle.cq_folder.specs.declared.config_fault.ConfigFault.TheVariants as config
 use Rattle.cq_files.specs.declared.opening.CycleImage.{CycleImage}
 use Rattle.cq_files.specs.declared.opening.SavedQueue.{SavedQueue}
+use Rattle.cq_files.specs.Dumped.{IsDumped}
 use Rattle.cq_files.specs.Queue.{HoldQueue, IsImageFile, IsImageName, IsLawfulImage, file_of, name_cmp}
 use Rattle.cq_files.specs.declared.files.TheConstants.{MOST_FILE_BYTES}
 use Rattle.cq_text.specs.declared.fault.ToolFault.{ToolFault}
@@ -167,12 +168,41 @@ IsMissing file files (NoSuchFile name) =
     (string_bytes name ≡ file) × ¬ IsImageFile files file
 IsMissing file files _ = ⊥
 
--- why a file is not dumped: there is none, the folder is at fault, or the lines are not written
-abbrev pub IsDumpFault : List ℕ → Files → ToolFault → Type 0
-IsDumpFault file files fault = IsMissing file files fault ⊎ ((fault ≡ WriteFault) ⊎ HasCause files fault)
+-- the name of this file is said to be no cycle's
+abbrev pub IsNameFault : List ℕ → ToolFault → Type 0
+IsNameFault file (BadCycleName name) = string_bytes name ≡ file
+IsNameFault file _ = ⊥
 
--- why images are not checked: one of them is at fault, the folder is, of which this is the first fault, or the lines are
--- not written
+-- why the records of a file that is there are not printed: its name is no cycle's; else it is not read, or holds no image;
+-- else the lines are not written
+abbrev pub IsRecordsFault : Settings → List ℕ → Files → ToolFault → Type 0
+IsRecordsFault settings file files fault = (IsNameFault file fault × HasCause files fault)
+    ⊎ (NamesCycle settings file × ((IsImageFault file fault × HasCause files fault)
+    ⊎ ((fault ≡ WriteFault) × ((text : List ℕ) × IsDumped settings file text files))))
+
+-- why a file is not dumped of a folder that was opened: it has no such image file; else that one is at fault, or its lines
+-- are not written
+pub record RefusesFile (file : List ℕ) (files : Files) (fault : ToolFault) : Type 0 where
+  pub settings : Settings
+  pub configured : HasSettings files settings
+  pub lawful : IsLawfulSettings settings
+  pub cause : IsMissing file files fault ⊎ (IsImageFile files file × IsRecordsFault settings file files fault)
+
+-- why a file is not dumped: the folder is not opened, or it is and the file is refused
+abbrev pub IsDumpFault : List ℕ → Files → ToolFault → Type 0
+IsDumpFault file files fault = (IsFolderFault fault × HasCause files fault) ⊎ RefusesFile file files fault
+
+-- a fault of a folder, or of the names and files of its images; none of what these hold
+abbrev pub IsLookingFault : ToolFault → Type 0
+IsLookingFault (BadCycleName file) = ⊤
+IsLookingFault (FileFault file) = ⊤
+IsLookingFault (FileTooLarge file) = ⊤
+IsLookingFault fault = IsFolderFault fault
+
+-- why images are not looked at: the first fault of their folder, their names and their files
+abbrev pub IsChecksFault : Files → ToolFault → Type 0
+IsChecksFault files fault = HasCause files fault × IsFirstFault IsSmall files fault × IsLookingFault fault
+
+-- why images are not checked: one of them is at fault, they are not looked at, or the lines are not written
 abbrev pub IsCheckFault : Files → ToolFault → Type 0
-IsCheckFault files fault =
-    (fault ≡ ImagesAtFault) ⊎ ((fault ≡ WriteFault) ⊎ (HasCause files fault × IsFirstFault IsSmall files fault))
+IsCheckFault files fault = (fault ≡ ImagesAtFault) ⊎ ((fault ≡ WriteFault) ⊎ IsChecksFault files fault)
