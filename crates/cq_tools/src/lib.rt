@@ -1,9 +1,17 @@
-//! The program `cq` as a library: what its words ask for, and the commands that do it.
+//! The program `cq` as a library: what its words ask for, the commands that do it, and the folders that they work on, with the
+//! text of a queue's configuration.
 //!
 //! The program itself only hands in its words and streams.
 #![tactic(auto)]
 
+mod status;
+
 pub use cq_command_line::{ParseFault, parse};
 pub use cq_commands::run;
+pub use cq_folder::{
+    ConfigFault, Folder, FolderFault, MemoryFolder, RealFolder, SavedConfig, read_config,
+    write_config,
+};
 pub use cq_orders::{InitSettings, Order};
 pub use cq_text::{ToolFault, dump_text, echo};
+pub use status::{DONE, FAULT, NOT_UNDERSTOOD, status};

@@ -1,0 +1,80 @@
+//! Starts of the program `cq` one after another, over a folder of the system with a queue: what each prints, what it says is
+//! wrong, and the status that it ends with, all on standard output.
+#![tactic(auto)]
+
+use std::alloc::AllocError;
+use std::fmt::Display;
+use std::fs::File;
+use std::io::{self, Stdout};
+use std::process::{self, ExitCode};
+use std::rt::Files;
+
+/// The words of each start, behind the program's name.
+const STARTS: [&[&str]; 11] = [
+    &["check", "."],
+    &["write", ".", "1728086400000"],
+    &["write", ".", "253402300800000"],
+    &["read", "."],
+    &["take", ".", "reader"],
+    &["read", ".", "--back", "--from", "00004e2100000000"],
+    &["take", ".", "writer"],
+    &["init", ".", "daily", "0", "64", "8", "1", "4"],
+    &["read", "nowhere"],
+    &["dump", ".", "20241006.cqi"],
+    &["take", "."],
+];
+
+/// Standard output, which takes what is wrong.
+#[derive(Drop)]
+struct OnOutput {
+    output: Stdout,
+}
+
+impl Eprint for OnOutput {
+    fn eprint<D: Display + Drop>(&self, value: D) -> io::Result<()> {
+        self.output.print(value)
+    }
+
+    fn eprintln<D: Display + Drop>(&self, value: D) -> io::Result<()> {
+        self.output.println(value)
+    }
+}
+
+fn main(rt: HostRuntime) -> ExitCode {
+    let process = process::id(rt.process());
+    let errors = OnOutput {
+        output: rt.stdout(),
+    };
+    let mut status = cq_tools::DONE;
+    for words in STARTS {
+        status = start(&rt, &errors, words, process);
+    }
+    ExitCode::from(status)
+}
+
+/// Starts the program with these words, and tells them and its status.
+fn start<R>(rt: &R, errors: &OnOutput, words: &[&str], process: u32) -> u8
+where
+    R: AllocGlobal + Files<File = File> + Input + Print + Clone + Drop,
+{
+    let _ = print!(rt; "cq");
+    for word in words {
+        let _ = print!(rt; " {word}");
+    }
+    let _ = println!(rt; "");
+    let words = command_line(rt, words).map_err(io::Error::from);
+    let status = cq_tools::status(rt, errors, words, process);
+    let _ = println!(rt; "status {status}");
+    status
+}
+
+/// The words of a command line: the program's name, and these.
+fn command_line<R: AllocGlobal>(rt: &R, words: &[&str]) -> Result<Vec<String>, AllocError> {
+    let alloc = rt.alloc();
+    let mut line = Vec::new(alloc);
+    line.push(String::from_str(alloc, "cq")?)?;
+    for word in words {
+        line.push(String::from_str(alloc, word)?)?;
+    }
+    Ok(line)
+}

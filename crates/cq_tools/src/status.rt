@@ -1,0 +1,75 @@
+//! A start of the program: from its words to its exit status.
+
+ghost use Rattle.std.specs.Prelude.{◌≡◌};
+
+use cq_command_line::{ParseFault, parse};
+use cq_folder::RealFolder;
+use cq_orders::Order;
+use cq_text::ToolFault;
+use std::fs::File;
+use std::io::{self, ErrorKind};
+use std::rt::Files;
+
+/// The command was done.
+pub const DONE: u8 = 0;
+
+/// The command met a fault.
+pub const FAULT: u8 = 1;
+
+/// The words are not understood.
+pub const NOT_UNDERSTOOD: u8 = 2;
+
+/// Does what the words of a command line ask for, as the process with this number, over the folder that they name and the
+/// standard streams. Says in `errors` what is wrong, and gives the exit status.
+pub fn status<R, E>(rt: &R, errors: &E, words: io::Result<Vec<String>>, process: u32) -> u8
+where
+    R: AllocGlobal + Files<File = File> + Input + Print + Clone + Drop,
+    E: Eprint,
+{
+    let words = match words {
+        Ok(words) => words,
+        Err(error) if error.kind() == ErrorKind::InvalidData => {
+            let _ = eprintln!(errors; "error: an argument is not UTF-8 text");
+            return NOT_UNDERSTOOD;
+        }
+        Err(_) => return fault(errors, ToolFault::OutOfMemory),
+    };
+    let order = match parse(rt.alloc(), words.as_slice()) {
+        Ok(order) => order,
+        Err(ParseFault::NotUnderstood(error)) => {
+            let _ = eprint!(errors; "{error}");
+            return NOT_UNDERSTOOD;
+        }
+        Err(ParseFault::OutOfMemory) => return fault(errors, ToolFault::OutOfMemory),
+    };
+    match run(rt, process, &order) {
+        Ok(()) => DONE,
+        Err(error) => fault(errors, error),
+    }
+}
+
+/// Says what is wrong, and gives the exit status.
+fn fault<E: Eprint>(errors: &E, fault: ToolFault) -> u8
+    ensures { result ≡ FAULT }
+{
+    let _ = eprintln!(errors; "cq: {fault}");
+    FAULT
+}
+
+/// Does what is asked for, over the folder that is named and the standard streams.
+fn run<R: AllocGlobal + Files<File = File> + Input + Print + Clone + Drop>(
+    rt: &R,
+    process: u32,
+    order: &Order,
+) -> Result<(), ToolFault> {
+    let alloc = rt.alloc();
+    let path = String::from_str(alloc, order.folder().unwrap_or(""))?;
+    let mut folder = RealFolder::new(rt, path, process);
+    cq_commands::run(
+        alloc,
+        order,
+        &mut folder,
+        &mut rt.reader(),
+        &mut io::writer(rt),
+    )
+}
