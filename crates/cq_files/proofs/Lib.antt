@@ -5,3 +5,4 @@ pub mod OrderLemmas
 pub mod SavingLemmas
 pub mod WritingLemmas
 pub mod CheckLemmas
+pub mod CountLemmas
