@@ -6,3 +6,4 @@ pub mod SavingLemmas
 pub mod WritingLemmas
 pub mod CheckLemmas
 pub mod DumpLemmas
+pub mod CountLemmas

@@ -4,3 +4,4 @@ pub mod FolderFaults
 pub mod Saved
 pub mod CheckText
 pub mod Dumped
+pub mod Counted

@@ -1,11 +1,12 @@
 //! The files of a queue's folder.
 
-ghost use Rattle.std.specs.Prelude.{◌≡◌, ◌≤◌, ◌∷◌, [], length, map, string_bytes, IfOk, IfErr, IfSome, OnOk, OnErr, Some};
+ghost use Rattle.std.specs.Prelude.{◌≡◌, ◌≢◌, ◌≤◌, ◌∷◌, [], length, map, string_bytes, IfOk, IfErr, IfSome, OnOk, OnErr, Some};
 ghost use Rattle.std.specs.List.{list_any};
 ghost use Rattle.std.specs.Str.{bytes_eq};
 ghost use Rattle.cq_model.specs.Settings.{texts};
 ghost use Rattle.cq_folder.specs.Folder.{KeepsFiles, KeepsOrWrites, ListsFiles, WritesFile, WritesFiles, named_file};
 ghost use Rattle.cq_files.specs.FolderFaults.{HasCause, IsFileFault, IsListFault, IsSaveFault};
+ghost use Rattle.cq_files.specs.Counted.{CountsFaults, IsDeviceFault};
 
 use cq_folder::{Access, Folder, FolderFault, NewFile};
 use cq_text::ToolFault;
@@ -30,6 +31,7 @@ pub(crate) fn listed<F: Folder>(
     ensures fault { IfErr result IsListFault }
     ensures cause { IfErr result (λ fault. IfSome (F.files folder.old) (λ files. HasCause files fault)) }
     ensures kept { KeepsFiles (F.files folder.old) (F.files folder.new) }
+    ensures counted { CountsFaults (F.failed folder.old) (F.failed folder.new) result }
 {
     if let Err(fault) = folder.begin(alloc, access) {
         return Err(list_fault(fault));
@@ -42,7 +44,8 @@ pub(crate) fn listed<F: Folder>(
 
 /// The fault of a folder that is not listed.
 fn list_fault(fault: FolderFault) -> ToolFault
-    ensures { IsListFault result }
+    ensures fault { IsListFault result }
+    ensures device { IsDeviceFault result → fault ≢ FolderFault.OutOfMemory }
 {
     match fault {
         FolderFault::OutOfMemory => ToolFault::OutOfMemory,
@@ -68,6 +71,7 @@ pub(crate) fn read_file<F: Folder>(
     ensures fault { IfErr result (IsFileFault name.now) }
     ensures cause { IfErr result (λ fault. IfSome (F.files folder.old) (λ files. HasCause files fault)) }
     ensures kept { KeepsFiles (F.files folder.old) (F.files folder.new) }
+    ensures counted { CountsFaults (F.failed folder.old) (F.failed folder.new) result }
 {
     match folder.read(alloc, name, MOST_FILE_BYTES) {
         Ok(bytes) => Ok(bytes),
@@ -92,6 +96,7 @@ pub fn write_file<F: Folder>(
     ensures whole { OnErr result (KeepsOrWrites (F.files folder.old) (F.files folder.new) ((name.now, bytes.now) ∷ [])) }
     ensures scarce { IfErr result (λ fault. fault ≡ ToolFault.OutOfMemory
         → KeepsFiles (F.files folder.old) (F.files folder.new)) }
+    ensures counted { CountsFaults (F.failed folder.old) (F.failed folder.new) result }
 {
     // Made before the file is written: want of memory then leaves it as it was.
     let file = String::from_str(alloc, name)?;
@@ -112,6 +117,7 @@ pub(crate) fn save_files<F: Folder>(
     ensures whole { OnErr result (KeepsOrWrites (F.files folder.old) (F.files folder.new) (map named_file changes.now)) }
     ensures scarce { IfErr result (λ fault. fault ≡ ToolFault.OutOfMemory
         → KeepsFiles (F.files folder.old) (F.files folder.new)) }
+    ensures counted { CountsFaults (F.failed folder.old) (F.failed folder.new) result }
 {
     let first = first_name(alloc, changes)?;
     match folder.save(changes) {
@@ -133,6 +139,7 @@ fn save_fault(fault: FolderFault, file: String) -> ToolFault
     ensures fault { IsFileFault (string_bytes file) result }
     ensures save { IsSaveFault result }
     ensures scarce { result ≡ ToolFault.OutOfMemory → fault ≡ FolderFault.OutOfMemory }
+    ensures device { IsDeviceFault result → fault ≢ FolderFault.OutOfMemory }
 {
     match fault {
         FolderFault::OutOfMemory => ToolFault::OutOfMemory,

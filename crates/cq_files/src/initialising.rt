@@ -3,6 +3,7 @@ ghost use Rattle.cq_model.specs.Settings.{IsLawfulSettings};
 ghost use Rattle.cq_folder.specs.Folder.{KeepsFiles, WritesFile};
 ghost use Rattle.cq_files.specs.FolderFaults.{IsSaveFault};
 ghost use Rattle.cq_files.specs.Initialised.{HasQueue, IsInitFault, IsInitialText, IsLimitFault, IsListingFault, IsNew, IsTextFor, wanted_settings};
+ghost use Rattle.cq_files.specs.Counted.{CountsFaults};
 
 use crate::files::{CONFIG_FILE, has_name, listed, write_file};
 use crate::names::copied_names;
@@ -36,6 +37,7 @@ pub fn init<F: Folder>(
         → KeepsFiles (F.files folder.old) (F.files folder.new)) }
     ensures safe { IfErr result (λ _. IfSome (F.files folder.old) (λ files. HasQueue files
         → KeepsFiles (F.files folder.old) (F.files folder.new))) }
+    ensures counted { CountsFaults (F.failed folder.old) (F.failed folder.new) result }
 {
     let roll = roll_named(settings.roll.as_str()).ok_or(ToolFault::BadConfig)?;
     check_new(alloc, folder)?;
@@ -48,6 +50,7 @@ fn check_new<F: Folder>(alloc: Global, folder: &mut F) -> Result<(), ToolFault>
     ensures new { OnOk result (IsNew (F.files folder.old)) }
     ensures fault { IfErr result (IsListingFault (F.files folder.old)) }
     ensures kept { KeepsFiles (F.files folder.old) (F.files folder.new) }
+    ensures counted { CountsFaults (F.failed folder.old) (F.failed folder.new) result }
 {
     let files = listed(alloc, folder, Access::Alone)?;
     if has_name(files.as_slice(), CONFIG_FILE) {
