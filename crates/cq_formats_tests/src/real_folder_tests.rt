@@ -120,12 +120,7 @@ fn answer(alloc: Global, is_done: bool) -> Result<String, AllocError> {
     String::from_str(alloc, if is_done { "" } else { "fault" })
 }
 
-fn put<R: Files + AllocGlobal>(
-    rt: &R,
-    path: &str,
-    name: &str,
-    text: &str,
-) -> Result<String, Fail> {
+fn put<R: Files + AllocGlobal>(rt: &R, path: &str, name: &str, text: &str) -> Result<String, Fail> {
     fs::write(rt, format!(in rt.alloc(); "{path}/{name}")?.as_str(), text)?;
     Ok(String::new(rt.alloc()))
 }
@@ -142,16 +137,17 @@ fn make<R: Files + AllocGlobal>(rt: &R, path: &str, name: &str) -> Result<String
 
 fn put_many<R: Files + AllocGlobal>(rt: &R, path: &str, count: usize) -> Result<String, Fail> {
     for number in 0..count {
-        put(rt, path, format!(in rt.alloc(); "{number:0>100}")?.as_str(), "")?;
+        put(
+            rt,
+            path,
+            format!(in rt.alloc(); "{number:0>100}")?.as_str(),
+            "",
+        )?;
     }
     Ok(String::new(rt.alloc()))
 }
 
-fn saved<F: Folder>(
-    alloc: Global,
-    folder: &mut F,
-    files: &[(&str, &str)],
-) -> Result<String, Fail> {
+fn saved<F: Folder>(alloc: Global, folder: &mut F, files: &[(&str, &str)]) -> Result<String, Fail> {
     let mut changes = Vec::new(alloc);
     for &(name, text) in files {
         changes.push(NewFile {
@@ -227,10 +223,7 @@ static SAVED: [(Step, &str); 9] = [
     (Step::Begin(Access::Alone), ""),
     (Step::Save(&[("1.cqi", "one"), ("queue.cqc", "two")]), ""),
     (Step::Save(&[("1.cqi", "three"), ("2.txt", "")]), "fault"),
-    (
-        Step::Save(&[("1.cqi", "three"), ("../2.cqi", "")]),
-        "fault",
-    ),
+    (Step::Save(&[("1.cqi", "three"), ("../2.cqi", "")]), "fault"),
     (Step::Save(&[]), ""),
     (Step::End, ""),
     (Step::Read("1.cqi"), "one"),
