@@ -37,7 +37,7 @@ keeps_or_saves : {T : Type 0} (s : Streams) (Saved : Type 0) (result : Result T 
     → IfErr result (λ fault. fault ≡ OutOfMemory → KeepsFiles s.files s.files_after)
     → OnErr result (KeepsFiles s.files s.files_after ⊎ Saved) → IfErr result (KeepsOrSaves s Saved)
 keeps_or_saves s Saved (Ok value) unsaved scarce whole = tt
-keeps_or_saves s Saved (Err fault) unsaved scarce whole = record { unsaved = unsaved; scarce = scarce; whole = whole; }
+keeps_or_saves s Saved (Err fault) unsaved scarce whole = record { unsaved = unsaved; scarce = scarce; whole = whole }
 
 pub returns-in-Init-clause-left : goal.returns-in-Init-clause-left
 returns-in-Init-clause-left g c = failed LeavesFiles _ c.init.result c.args.order.now _ c.in-Init.is
