@@ -1,13 +1,11 @@
 -- Which failures of a folder were counted, over several calls.
-use Rattle.std.proofs.Common.{◌≡◌, ◌≢◌, ◌⊎◌, ℕ, ◌<◌, ◌≤◌, arith, inl, inr, refl, subst}
+use Rattle.std.proofs.Common.{◌≡◌, ◌⊎◌, ℕ, ◌<◌, ◌≤◌, arith, inl, inr, subst}
 use Rattle.std.proofs.lemmas.Bool.{cases_lt}
-use Rattle.std.specs.Prelude.{Err, IfErr, IsErrAnd, Ok, Result}
-use Rattle.cq_folder.specs.Folder.{IsCounted}
-use Rattle.cq_folder.specs.declared.storage.FolderFault.{FolderFault}
-use Rattle.cq_folder.specs.declared.storage.FolderFault.TheVariants as folder
+use Rattle.std.specs.Prelude.{Err, IsErrAnd, Ok, Result}
 use Rattle.cq_text.specs.declared.fault.ToolFault.{ToolFault}
 use Rattle.cq_text.specs.declared.fault.ToolFault.TheVariants.{OutOfMemory}
-use Rattle.cq_files.specs.Counted.{CountsFaults, HasCounted, IsDeviceFault}
+use Rattle.cq_text.specs.Faults.{IsDeviceFault}
+use Rattle.cq_files.specs.Counted.{CountsFaults, HasCounted}
 
 -- what was counted behind a call was counted from before it on
 pub counted_from : (before middle now : ℕ) → before ≤ middle → middle ≤ now → HasCounted middle now → HasCounted before now
@@ -36,25 +34,8 @@ counts_passed before now fault (Err passed) counts is = record {
   device = λ device. counts.device (subst IsDeviceFault is device);
 }
 
--- a result that is no fault of the device
-pub counts_other : {T : Type 0} (before now : ℕ) (result : Result T ToolFault) → before ≤ now
-    → IfErr result (λ fault. ¬ IsDeviceFault fault) → CountsFaults before now result
-counts_other before now (Ok value) later other = record { later = later; device = tt }
-counts_other before now (Err fault) later other = record { later = later; device = λ device. absurd (other device) }
-
 -- want of memory that is passed on
 pub counts_scarce : {T : Type 0} (before now : ℕ) (result : Result T ToolFault) → before ≤ now
     → IsErrAnd result (λ passed. passed ≡ OutOfMemory) → CountsFaults before now result
 counts_scarce before now (Ok value) later is = record { later = later; device = tt }
 counts_scarce before now (Err fault) later is = record { later = later; device = λ device. absurd (subst IsDeviceFault is device) }
-
--- the fault of a call on the folder that may not answer `TooLarge`
-pub counts_call : {T U : Type 0} (before now : ℕ) (cause : FolderFault) (fault : ToolFault)
-    → IsCounted {T = T} before now (Err cause) → cause ≢ folder.TooLarge → (IsDeviceFault fault → cause ≢ folder.OutOfMemory)
-    → CountsFaults {T = U} before now (Err fault)
-counts_call before now folder.Device fault counted fits device = record { later = counted.later; device = λ is. counted.device refl }
-counts_call before now folder.TooLarge fault counted fits device = absurd (fits refl)
-counts_call before now folder.OutOfMemory fault counted fits device = record {
-  later = counted.later;
-  device = λ is. absurd (device is refl);
-}

@@ -1,13 +1,7 @@
 -- Which faults come only where the folder counted a failure.
-use Rattle.std.specs.Prelude.{◌≡◌, ◌⊎◌, ⊤, ℕ, ◌<◌, ◌≤◌, ◌^◌, ◌-◌, IfErr, Result}
+use Rattle.std.specs.Prelude.{◌≡◌, ◌⊎◌, ℕ, ◌<◌, ◌≤◌, ◌^◌, ◌-◌, IfErr, Result}
 use Rattle.cq_text.specs.declared.fault.ToolFault.{ToolFault}
-use Rattle.cq_text.specs.declared.fault.ToolFault.TheVariants.{FolderFault, FileFault}
-
--- a fault of the device
-abbrev pub IsDeviceFault : ToolFault → Type 0
-IsDeviceFault FolderFault = ⊤
-IsDeviceFault (FileFault file) = ⊤
-IsDeviceFault _ = ⊥
+use Rattle.cq_text.specs.Faults.{IsDeviceFault}
 
 -- a failure was counted, unless the count stands at its end
 abbrev pub HasCounted : ℕ → ℕ → Type 0

@@ -6,7 +6,8 @@ ghost use Rattle.std.specs.Str.{bytes_eq};
 ghost use Rattle.cq_model.specs.Settings.{texts};
 ghost use Rattle.cq_folder.specs.Folder.{KeepsFiles, KeepsOrWrites, ListsFiles, WritesFile, WritesFiles, named_file};
 ghost use Rattle.cq_files.specs.FolderFaults.{HasCause, IsFileFault, IsListFault, IsSaveFault};
-ghost use Rattle.cq_files.specs.Counted.{CountsFaults, IsDeviceFault};
+ghost use Rattle.cq_text.specs.Faults.{IsDeviceFault};
+ghost use Rattle.cq_files.specs.Counted.{CountsFaults};
 
 use cq_folder::{Access, Folder, FolderFault, NewFile};
 use cq_text::ToolFault;

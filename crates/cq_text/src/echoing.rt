@@ -1,6 +1,7 @@
 ghost use Rattle.std.specs.Prelude.{◌≡◌, ◌≢◌, length, IfOk, IfErr, IfSome, OnOk, None};
 ghost use Rattle.std.specs.Io.KnownBytes.{Appends, Keeps};
 ghost use Rattle.cq_text.specs.Echo.{IsEchoFault, echo_fault, echo_text};
+ghost use Rattle.cq_text.specs.Faults.{IsDeviceFault};
 ghost use Rattle.cq_text.specs.Lines.{input_lines};
 
 use crate::fault::ToolFault;
@@ -40,6 +41,7 @@ pub fn echo<R: Read, W: Write>(
     ensures fault { IfErr result (λ fault. IfSome (R.remaining input.old) (λ bytes. IsEchoFault bytes fault)) }
     ensures silent { IfErr result (λ fault. fault ≢ ToolFault.WriteFault
         → Keeps (W.contents output.old) (W.contents output.new)) }
+    ensures device { IfErr result (λ fault. ¬ IsDeviceFault fault) }
 {
     let bytes = read_input(alloc, input, MOST_BYTES)?;
     let (count, text) = echo_lines(alloc, bytes.as_slice())?;
