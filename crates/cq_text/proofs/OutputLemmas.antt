@@ -2,10 +2,12 @@
 use Rattle.std.proofs.Common.{◌≡◌, ℕ, ◌+◌, ◌-◌, ◌++◌, List, length, drop, take, ap, subst, sym, ◌∙◌, Result, Ok, Err, take_all, arith}
 use Rattle.std.proofs.lemmas.List.{drop-drop, take_rest}
 use Rattle.std.proofs.Math.Seq.{take-add}
-use Rattle.std.specs.Prelude.{OnErr, Option}
+use Rattle.std.specs.Prelude.{IfErr, OnErr, Option}
 use Rattle.std.specs.Io.KnownBytes.{Appends, Keeps}
 use Rattle.std.proofs.KnownBytes.{Appends-kept, Appends-trans}
 use Rattle.cq_text.specs.Output.{AppendsBeginning}
+use Rattle.cq_text.specs.declared.fault.ToolFault.{ToolFault}
+use Rattle.cq_text.specs.declared.fault.ToolFault.TheVariants.{WriteFault}
 
 -- n bytes more of the text were written
 pub one_written : (a b c : Option (List ℕ)) (text rest left : List ℕ) (count n : ℕ) → rest ≡ drop count text
@@ -25,3 +27,10 @@ pub whole_written : {T E : Type 0} (result : Result T E) (a b c : Option (List �
 whole_written (Ok value) a b c text written kept = tt
 whole_written (Err fault) a b c text written kept =
     (length text, subst (Appends a c) (sym (take_all (length text) text (omega arith))) (Appends-kept a b c text written kept))
+
+-- where a text that is such a one was not written to its end, a beginning of such a text was
+pub begun_of : {T : Type 0} (result : Result T ToolFault) (a b : Option (List ℕ)) (IsText : List ℕ → Type 0) (text : List ℕ)
+    → IsText text → OnErr result (AppendsBeginning a b text)
+    → IfErr result (λ fault. fault ≡ WriteFault → (text : List ℕ) × IsText text × AppendsBeginning a b text)
+begun_of (Ok value) a b IsText text is begun = tt
+begun_of (Err fault) a b IsText text is begun = λ unwritten. (text, is, begun)
