@@ -28,9 +28,8 @@ whole_written (Ok value) a b c text written kept = tt
 whole_written (Err fault) a b c text written kept =
     (length text, subst (Appends a c) (sym (take_all (length text) text (omega arith))) (Appends-kept a b c text written kept))
 
--- where a text that is such a one was not written to its end, a beginning of such a text was
-pub begun_of : {T : Type 0} (result : Result T ToolFault) (a b : Option (List ℕ)) (IsText : List ℕ → Type 0) (text : List ℕ)
-    → IsText text → OnErr result (AppendsBeginning a b text)
-    → IfErr result (λ fault. fault ≡ WriteFault → (text : List ℕ) × IsText text × AppendsBeginning a b text)
-begun_of (Ok value) a b IsText text is begun = tt
-begun_of (Err fault) a b IsText text is begun = λ unwritten. (text, is, begun)
+-- what a text that was not written to its end left says this of the command that wrote it
+pub cut_short : {T P Q : Type 0} (result : Result T ToolFault) → (P → Q) → OnErr result P
+    → IfErr result (λ fault. fault ≡ WriteFault → Q)
+cut_short (Ok value) so begun = tt
+cut_short (Err fault) so begun = λ unwritten. so begun
