@@ -115,6 +115,7 @@ pub(crate) fn save_files<F: Folder>(
 ) -> Result<(), ToolFault>
     ensures written { OnOk result (WritesFiles (F.files folder.old) (F.files folder.new) (map named_file changes.now)) }
     ensures save { IfErr result IsSaveFault }
+    ensures unprinted { IfErr result (λ fault. fault ≢ ToolFault.WriteFault) }
     ensures whole { OnErr result (KeepsOrWrites (F.files folder.old) (F.files folder.new) (map named_file changes.now)) }
     ensures scarce { IfErr result (λ fault. fault ≡ ToolFault.OutOfMemory
         → KeepsFiles (F.files folder.old) (F.files folder.new)) }

@@ -1,3 +1,4 @@
 pub mod LinesLemmas
 pub mod EchoLemmas
 pub mod DumpLemmas
+pub mod OutputLemmas

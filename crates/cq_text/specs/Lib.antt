@@ -4,3 +4,4 @@ pub mod Echo
 pub mod CycleLine
 pub mod DumpText
 pub mod Faults
+pub mod Output

@@ -4,6 +4,7 @@ ghost use Rattle.std.specs.Io.KnownBytes.{Appends, Keeps};
 ghost use Rattle.cq_cycle.specs.Cycle.{IsMoment};
 ghost use Rattle.cq_cycle.specs.Index.{index_text};
 ghost use Rattle.cq_text.specs.CycleLine.{HasCause, IsCycleLine, IsLineOf};
+ghost use Rattle.cq_text.specs.Output.{AppendsBeginning};
 
 use crate::fault::ToolFault;
 use crate::output::print;
@@ -16,7 +17,7 @@ use std::io::Write;
 ///
 /// The first of these faults is answered: `BadConfig` where the word names no roll, `BadMoment` where the moment lies in no
 /// cycle, `WriteFault` where the writer fails. `OutOfMemory` can come at any growth. Nothing is written before a fault other
-/// than `WriteFault`.
+/// than `WriteFault`, and before that one a beginning of the line.
 pub fn cycle<W: Write>(
     alloc: Global,
     roll: &str,
@@ -29,6 +30,8 @@ pub fn cycle<W: Write>(
     ensures fault { IfErr result (HasCause roll.now epoch moment) }
     ensures silent { IfErr result (λ fault. fault ≢ ToolFault.WriteFault
         → Keeps (W.contents output.old) (W.contents output.new)) }
+    ensures broken { IfErr result (λ fault. fault ≡ ToolFault.WriteFault → (text : List ℕ)
+        × IsCycleLine roll.now epoch moment text × AppendsBeginning (W.contents output.old) (W.contents output.new) text) }
 {
     let roll = roll_named(roll).ok_or(ToolFault::BadConfig)?;
     let line = line_of(alloc, roll, epoch, moment)?;

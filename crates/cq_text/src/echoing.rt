@@ -3,6 +3,7 @@ ghost use Rattle.std.specs.Io.KnownBytes.{Appends, Keeps};
 ghost use Rattle.cq_text.specs.Echo.{IsEchoFault, echo_fault, echo_text};
 ghost use Rattle.cq_text.specs.Faults.{IsDeviceFault};
 ghost use Rattle.cq_text.specs.Lines.{input_lines};
+ghost use Rattle.cq_text.specs.Output.{AppendsBeginning};
 
 use crate::fault::ToolFault;
 use crate::input::read_input;
@@ -26,7 +27,8 @@ const MOST_BYTES: usize = 129_000;
 ///   `TooLong` above 128 bytes;
 /// - `WriteFault` where the writer fails.
 ///
-/// `OutOfMemory` can come at any growth. Nothing is written before a fault other than `WriteFault`.
+/// `OutOfMemory` can come at any growth. Nothing is written before a fault other than `WriteFault`, and before that one a
+/// beginning of the text.
 pub fn echo<R: Read, W: Write>(
     alloc: Global,
     input: &mut R,
@@ -41,6 +43,8 @@ pub fn echo<R: Read, W: Write>(
     ensures fault { IfErr result (λ fault. IfSome (R.remaining input.old) (λ bytes. IsEchoFault bytes fault)) }
     ensures silent { IfErr result (λ fault. fault ≢ ToolFault.WriteFault
         → Keeps (W.contents output.old) (W.contents output.new)) }
+    ensures broken { IfErr result (λ fault. fault ≡ ToolFault.WriteFault → IfSome (R.remaining input.old) (λ bytes.
+        AppendsBeginning (W.contents output.old) (W.contents output.new) (echo_text (input_lines bytes)))) }
     ensures device { IfErr result (λ fault. ¬ IsDeviceFault fault) }
 {
     let bytes = read_input(alloc, input, MOST_BYTES)?;

@@ -6,9 +6,11 @@ use Rattle.cq_folder.specs.Folder.{KeepsFiles}
 use Rattle.cq_files.specs.FolderFaults.{IsSaveFault}
 use Rattle.cq_orders.specs.declared.order.Order.{Order}
 use Rattle.cq_text.specs.declared.fault.ToolFault.{ToolFault}
-use Rattle.cq_text.specs.declared.fault.ToolFault.TheVariants.{OutOfMemory}
+use Rattle.cq_text.specs.declared.fault.ToolFault.TheVariants.{OutOfMemory, WriteFault}
+use Rattle.cq_text.specs.CycleLine.{IsCycleLine}
+use Rattle.cq_text.specs.Output.{AppendsBeginning}
 use Rattle.cq_commands.specs.Messages.{IsReadOut}
-use Rattle.cq_commands.specs.Orders.{IsDone, KeepsOrSaves, LeavesFiles, MayFail, Streams}
+use Rattle.cq_commands.specs.Orders.{IsCutShort, IsDone, KeepsOrSaves, LeavesFiles, MayFail, Streams}
 use Rattle.cq_commands.specs.QueueFaults.{IsReadFault}
 use Rattle.cq_commands.specs.Taken.{IsTaken}
 use Rattle.cq_commands.proofs.running.run.Goals as goal
@@ -54,6 +56,14 @@ returns-in-Take-clause-left g c = failed LeavesFiles _ c.take.result c.args.orde
     (subst (λ (name : List ℕ). OnErr c.take.result (KeepsFiles (g.F.Folder.files c.args.folder.now) (g.F.Folder.files c.take.new.folder)
     ⊎ ((text : List ℕ) × IsTaken name (g.F.Folder.files c.args.folder.now) (g.F.Folder.files c.take.new.folder) text)))
     c.as_str-in-Take.ensures.value c.take.ensures.whole))
+
+pub returns-in-Cycle-clause-broken : goal.returns-in-Cycle-clause-broken
+returns-in-Cycle-clause-broken g c =
+    failed (λ (order : Order) s fault. fault ≡ WriteFault → IsCutShort order s) _ c.cycle.result c.args.order.now _ c.in-Cycle.is
+    (subst (λ (word : List ℕ). IfErr c.cycle.result (λ fault. fault ≡ WriteFault → (text : List ℕ)
+    × IsCycleLine word c.in-Cycle.epoch c.in-Cycle.moment text
+    × AppendsBeginning (g.W.Write.contents c.args.output.now) (g.W.Write.contents c.cycle.new.output) text))
+    c.as_str.ensures.value c.cycle.ensures.broken)
 
 pub returns-in-Write-clause-cause : goal.returns-in-Write-clause-cause
 returns-in-Write-clause-cause g c = failed MayFail _ c.write.result c.args.order.now _ c.in-Write.is c.write.ensures.cause
