@@ -15,5 +15,5 @@ pub use dumping::dump;
 pub use files::{CONFIG_FILE, MOST_FILE_BYTES, has_name, write_file};
 pub use initialising::init;
 pub use names::copied_names;
-pub use opening::{CycleImage, ImageFile, SavedQueue, open_queue};
+pub use opening::{CycleImage, ImageFile, Kept, ReadQueue, SavedQueue, SeenMessages, open_queue};
 pub use saving::save;
