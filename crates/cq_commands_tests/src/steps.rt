@@ -1,6 +1,7 @@
 //! Steps over a folder in memory, and what is said at each.
 use crate::streams::{Broken, said};
 use cq_commands::{InitSettings, check, dump, init, read, take, write};
+use cq_fixtures::push_missed;
 use cq_folder::{FailingFolder, Folder, FolderFault, MemoryFolder};
 use std::alloc::{AllocError, Global};
 use std::process::Abort;
@@ -251,20 +252,6 @@ fn missed(alloc: Global, steps: &'static [(Step, &'static str)]) -> Result<Strin
         push_missed(alloc, &mut text, place, said.as_str(), want)?;
     }
     Ok(text)
-}
-
-/// Adds what was said at a place to the text, where it is not what is wanted.
-fn push_missed(
-    alloc: Global,
-    text: &mut String,
-    place: usize,
-    said: &str,
-    want: &str,
-) -> Result<(), AllocError> {
-    if said == want {
-        return Ok(());
-    }
-    text.push_str(format!(in alloc; "step {place}: {said}; ")?.as_str())
 }
 
 /// Each step over a new folder says what stands beside it.

@@ -1,4 +1,4 @@
-ghost use Rattle.std.specs.Prelude.{◌≡◌, ◌≢◌, ◌<◌, ◌≤◌, ◌-◌, ◌^◌, ◌⊎◌};
+ghost use Rattle.std.specs.Prelude.{◌≡◌, ◌≢◌, ◌<◌, ◌≤◌, ◌-◌, ◌^◌, ◌⊎◌, None};
 
 mod entering;
 mod reading;
@@ -37,7 +37,10 @@ pub struct RealFolder<'a, R: Files<File = File> + AllocGlobal + Clone + Drop> {
 impl<'a, R: Files<File = File> + AllocGlobal + Clone + Drop> RealFolder<'a, R> {
     /// The folder at this path, for the process with this number. It is not looked at yet.
     pub fn new(rt: &'a R, path: String, process: u32) -> Self
-        ensures { result.failures ≡ 0 }
+        ensures path { result.path ≡ path }
+        ensures process { result.process ≡ process }
+        ensures outside { (result.lock ≡ None) × (result.record ≡ None) }
+        ensures none { result.failures ≡ 0 }
     {
         RealFolder {
             rt,

@@ -1,5 +1,6 @@
 //! Folders of the system, and what is left in them by commands that were cut short.
 use crate::wanted::{expect, expect_text};
+use cq_fixtures::push_missed;
 use cq_folder::{Access, Folder, NewFile, RealFolder};
 use std::alloc::{AllocError, Global};
 use std::fs::{self, File};
@@ -69,20 +70,6 @@ where
         push_missed(alloc, &mut text, place, said.as_str(), want)?;
     }
     Ok(text)
-}
-
-/// Adds what was said at a place to the text, where it is not what is wanted.
-fn push_missed(
-    alloc: Global,
-    text: &mut String,
-    place: usize,
-    said: &str,
-    want: &str,
-) -> Result<(), AllocError> {
-    if said == want {
-        return Ok(());
-    }
-    text.push_str(format!(in alloc; "step {place}: {said}; ")?.as_str())
 }
 
 /// Takes a step in the folder at a path, and gives what is said.

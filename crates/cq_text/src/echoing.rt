@@ -1,5 +1,5 @@
-ghost use Rattle.std.specs.Prelude.{◌≡◌, ◌≢◌, length, IfOk, IfErr, IfSome, OnOk, None};
-ghost use Rattle.std.specs.Io.KnownBytes.{Appends, Keeps};
+ghost use Rattle.std.specs.Prelude.{◌≡◌, ◌≢◌, ℕ, List, length, IfOk, IfErr, IfSome, OnOk, None};
+ghost use Rattle.std.specs.Io.KnownBytes.{Appends, Consumes, IsAtEnd, Keeps};
 ghost use Rattle.cq_text.specs.Echo.{IsEchoFault, echo_fault, echo_text};
 ghost use Rattle.cq_text.specs.Faults.{IsDeviceFault};
 ghost use Rattle.cq_text.specs.Lines.{input_lines};
@@ -34,6 +34,8 @@ pub fn echo<R: Read, W: Write>(
     input: &mut R,
     output: &mut W,
 ) -> Result<u64, ToolFault>
+    ensures consumed { OnOk result ((bytes : List ℕ) × Consumes (R.remaining input.old) (R.remaining input.new) bytes) }
+    ensures ended { OnOk result (IsAtEnd (R.remaining input.new)) }
     ensures count { IfOk result (λ count. IfSome (R.remaining input.old) (λ bytes. count ≡ length (input_lines bytes))) }
     ensures accepted { OnOk result (IfSome (R.remaining input.old) (λ bytes. echo_fault bytes ≡ None)) }
     ensures written { OnOk result (IfSome (R.remaining input.old) (λ bytes.
