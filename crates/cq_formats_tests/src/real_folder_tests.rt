@@ -37,7 +37,8 @@ enum Step {
     Listed,
 }
 
-/// Takes the steps in a new folder of the system in turn, and fails where one says something else than stands beside it.
+/// Takes the steps in a new folder of the system in turn, and fails where one says something else than stands beside
+/// it.
 fn expect_steps(
     rt: &HostRuntime,
     name: &str,
@@ -223,8 +224,8 @@ fn files_are_saved_together(rt: HostRuntime) -> Result<(), Fail> {
     expect_steps(&rt, "saved", &SAVED)
 }
 
-/// A save was stopped between its renames: a reader sees all of it, and whoever is alone finishes it. A part that no record
-/// names is of a save that was stopped before, and goes; a file of the user's stays.
+/// A save was stopped between its renames: a reader sees all of it, and whoever is alone finishes it. A part that no
+/// record names is of a save that was stopped before, and goes; a file of the user's stays.
 static STOPPED: [(Step, &str); 20] = [
     (Step::Put("1.cqi", "new one"), ""),
     (Step::Put("2.cqi", "old two"), ""),

@@ -23,12 +23,12 @@ const MOST_BYTES: usize = 129_000;
 ///
 /// - `ReadFault` where the reader fails, or was read 16,777,216 times without an end;
 /// - `InputTooLong` above 129,000 bytes;
-/// - for the lines in order, counted from 1: `TooMany` from the 1,001st on, `Refused` as `BadRoom` where a line is empty,
-///   `TooLong` above 128 bytes;
+/// - for the lines in order, counted from 1: `TooMany` from the 1,001st on, `Refused` as `BadRoom` where a line is
+///   empty, `TooLong` above 128 bytes;
 /// - `WriteFault` where the writer fails.
 ///
-/// `OutOfMemory` can come at any growth. Nothing is written before a fault other than `WriteFault`, and before that one a
-/// beginning of the text.
+/// `OutOfMemory` can come at any growth. Nothing is written before a fault other than `WriteFault`, and before that one
+/// a beginning of the text.
 pub fn echo<R: Read, W: Write>(
     alloc: Global,
     input: &mut R,
