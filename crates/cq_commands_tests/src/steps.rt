@@ -264,7 +264,8 @@ pub fn expect<R: AllocGlobal + Abort>(
     Ok(())
 }
 
-/// What is said by lists of steps, each over a folder of its own, where it is something else than stands beside the list.
+/// What is said by lists of steps, each over a folder of its own, where it is something else than stands beside the
+/// list.
 fn missed_lists(
     alloc: Global,
     table: &'static [(&'static [Step], &'static str)],
