@@ -1,6 +1,7 @@
 //! Steps over a folder in memory, and what is said at each.
 use crate::streams::{Broken, said};
 use cq_commands::{InitSettings, check, dump, init, read, take, write};
+use cq_fixtures::push_missed;
 use cq_folder::{FailingFolder, Folder, FolderFault, MemoryFolder};
 use std::alloc::{AllocError, Global};
 use std::process::Abort;
@@ -253,20 +254,6 @@ fn missed(alloc: Global, steps: &'static [(Step, &'static str)]) -> Result<Strin
     Ok(text)
 }
 
-/// Adds what was said at a place to the text, where it is not what is wanted.
-fn push_missed(
-    alloc: Global,
-    text: &mut String,
-    place: usize,
-    said: &str,
-    want: &str,
-) -> Result<(), AllocError> {
-    if said == want {
-        return Ok(());
-    }
-    text.push_str(format!(in alloc; "step {place}: {said}; ")?.as_str())
-}
-
 /// Each step over a new folder says what stands beside it.
 pub fn expect<R: AllocGlobal + Abort>(
     rt: &R,
@@ -277,7 +264,8 @@ pub fn expect<R: AllocGlobal + Abort>(
     Ok(())
 }
 
-/// What is said by lists of steps, each over a folder of its own, where it is something else than stands beside the list.
+/// What is said by lists of steps, each over a folder of its own, where it is something else than stands beside the
+/// list.
 fn missed_lists(
     alloc: Global,
     table: &'static [(&'static [Step], &'static str)],

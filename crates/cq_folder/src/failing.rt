@@ -1,11 +1,12 @@
-ghost use Rattle.std.specs.Prelude.{◌≡◌, ◌+◌, ◌-◌, ◌^◌, ◌↔◌, IsTrue, false, min, true};
+ghost use Rattle.std.specs.Prelude.{◌≡◌, ◌≢◌, ◌+◌, ◌-◌, ◌^◌, ◌↔◌, Err, IsTrue, false, min, true};
+ghost use Rattle.cq_folder.specs.Folder.{IsCounted, KeepsFiles};
 
 use crate::storage::{Access, Folder, FolderFault, NewFile};
 use std::alloc::Global;
 
-/// A folder of which one call answers `Device`, for tests of what stands on a folder. The calls of `begin`, `names`, `read`,
-/// `write` and `save` are counted together, from 1; all others are those of the folder within. A `write` or a `save` may be
-/// done all the same.
+/// A folder of which one call answers `Device`, for tests of what stands on a folder. The calls of `begin`, `names`,
+/// `read`, `write` and `save` are counted together, from 1; all others are those of the folder within. A `write` or a
+/// `save` may be done all the same.
 #[derive(Drop)]
 pub struct FailingFolder<F: Folder> {
     /// The folder within.
@@ -95,7 +96,15 @@ impl<F: Folder> Folder for FailingFolder<F> {
 
     ghost failed = { λ failing. min (F.failed failing.folder + failing.failing.failures) (2 ^ 64 - 1) };
 
-    fn begin(&mut self, alloc: Global, access: Access) -> Result<(), FolderFault> {
+    // The trait's clauses, and that the call is counted.
+    fn begin(&mut self, alloc: Global, access: Access) -> Result<(), FolderFault>
+        ensures kept { KeepsFiles (F.files self.old.folder) (F.files self.new.folder) }
+        ensures fits { result ≢ Err FolderFault.TooLarge }
+        ensures counted { IsCounted (min (F.failed self.old.folder + self.old.failing.failures) (2 ^ 64 - 1))
+            (min (F.failed self.new.folder + self.new.failing.failures) (2 ^ 64 - 1)) result }
+        ensures due { self.old.failing.calls_left ≡ 1 → result ≡ Err FolderFault.Device }
+        ensures next { self.new.failing.calls_left ≡ self.old.failing.calls_left - 1 }
+    {
         if self.failing.is_next() {
             return Err(FolderFault::Device);
         }

@@ -1,4 +1,4 @@
-ghost use Rattle.std.specs.Prelude.{◌≡◌, ◌≢◌, ◌<◌, ◌≤◌, ◌-◌, ◌^◌, ◌⊎◌};
+ghost use Rattle.std.specs.Prelude.{◌≡◌, ◌≢◌, ◌<◌, ◌≤◌, ◌-◌, ◌^◌, ◌⊎◌, None};
 
 mod entering;
 mod reading;
@@ -13,13 +13,13 @@ use std::rt::Files;
 
 /// A folder of the system. What its files hold is not known to any contract.
 ///
-/// It is locked as a whole, where the system has locks: whoever is alone waits for all others, and the system frees the lock
-/// of a process that ends.
+/// It is locked as a whole, where the system has locks: whoever is alone waits for all others, and the system frees the
+/// lock of a process that ends.
 ///
-/// The new bytes of a file are written and synced beside its place, to a part that is made anew: its name is that of the
-/// file, with a dot, the number of the process and `.part` behind it. Then it takes the file's place. Where several files
-/// are saved, the record `queue.save` stands while their parts take their places: from the moment that it stands they are
-/// saved.
+/// The new bytes of a file are written and synced beside its place, to a part that is made anew: its name is that of
+/// the file, with a dot, the number of the process and `.part` behind it. Then it takes the file's place. Where several
+/// files are saved, the record `queue.save` stands while their parts take their places: from the moment that it stands
+/// they are saved.
 #[derive(Drop)]
 pub struct RealFolder<'a, R: Files<File = File> + AllocGlobal + Clone + Drop> {
     rt: &'a R,
@@ -37,7 +37,10 @@ pub struct RealFolder<'a, R: Files<File = File> + AllocGlobal + Clone + Drop> {
 impl<'a, R: Files<File = File> + AllocGlobal + Clone + Drop> RealFolder<'a, R> {
     /// The folder at this path, for the process with this number. It is not looked at yet.
     pub fn new(rt: &'a R, path: String, process: u32) -> Self
-        ensures { result.failures ≡ 0 }
+        ensures path { result.path ≡ path }
+        ensures process { result.process ≡ process }
+        ensures outside { (result.lock ≡ None) × (result.record ≡ None) }
+        ensures none { result.failures ≡ 0 }
     {
         RealFolder {
             rt,

@@ -1,5 +1,6 @@
 //! Folders of the system, and what is left in them by commands that were cut short.
 use crate::wanted::{expect, expect_text};
+use cq_fixtures::push_missed;
 use cq_folder::{Access, Folder, NewFile, RealFolder};
 use std::alloc::{AllocError, Global};
 use std::fs::{self, File};
@@ -36,7 +37,8 @@ enum Step {
     Listed,
 }
 
-/// Takes the steps in a new folder of the system in turn, and fails where one says something else than stands beside it.
+/// Takes the steps in a new folder of the system in turn, and fails where one says something else than stands beside
+/// it.
 fn expect_steps(
     rt: &HostRuntime,
     name: &str,
@@ -69,20 +71,6 @@ where
         push_missed(alloc, &mut text, place, said.as_str(), want)?;
     }
     Ok(text)
-}
-
-/// Adds what was said at a place to the text, where it is not what is wanted.
-fn push_missed(
-    alloc: Global,
-    text: &mut String,
-    place: usize,
-    said: &str,
-    want: &str,
-) -> Result<(), AllocError> {
-    if said == want {
-        return Ok(());
-    }
-    text.push_str(format!(in alloc; "step {place}: {said}; ")?.as_str())
 }
 
 /// Takes a step in the folder at a path, and gives what is said.
@@ -236,8 +224,8 @@ fn files_are_saved_together(rt: HostRuntime) -> Result<(), Fail> {
     expect_steps(&rt, "saved", &SAVED)
 }
 
-/// A save was stopped between its renames: a reader sees all of it, and whoever is alone finishes it. A part that no record
-/// names is of a save that was stopped before, and goes; a file of the user's stays.
+/// A save was stopped between its renames: a reader sees all of it, and whoever is alone finishes it. A part that no
+/// record names is of a save that was stopped before, and goes; a file of the user's stays.
 static STOPPED: [(Step, &str); 20] = [
     (Step::Put("1.cqi", "new one"), ""),
     (Step::Put("2.cqi", "old two"), ""),

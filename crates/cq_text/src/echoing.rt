@@ -1,5 +1,5 @@
-ghost use Rattle.std.specs.Prelude.{◌≡◌, ◌≢◌, length, IfOk, IfErr, IfSome, OnOk, None};
-ghost use Rattle.std.specs.Io.KnownBytes.{Appends, Keeps};
+ghost use Rattle.std.specs.Prelude.{◌≡◌, ◌≢◌, ℕ, List, length, IfOk, IfErr, IfSome, OnOk, None};
+ghost use Rattle.std.specs.Io.KnownBytes.{Appends, Consumes, IsAtEnd, Keeps};
 ghost use Rattle.cq_text.specs.Echo.{IsEchoFault, echo_fault, echo_text};
 ghost use Rattle.cq_text.specs.Faults.{IsDeviceFault};
 ghost use Rattle.cq_text.specs.Lines.{input_lines};
@@ -23,17 +23,19 @@ const MOST_BYTES: usize = 129_000;
 ///
 /// - `ReadFault` where the reader fails, or was read 16,777,216 times without an end;
 /// - `InputTooLong` above 129,000 bytes;
-/// - for the lines in order, counted from 1: `TooMany` from the 1,001st on, `Refused` as `BadRoom` where a line is empty,
-///   `TooLong` above 128 bytes;
+/// - for the lines in order, counted from 1: `TooMany` from the 1,001st on, `Refused` as `BadRoom` where a line is
+///   empty, `TooLong` above 128 bytes;
 /// - `WriteFault` where the writer fails.
 ///
-/// `OutOfMemory` can come at any growth. Nothing is written before a fault other than `WriteFault`, and before that one a
-/// beginning of the text.
+/// `OutOfMemory` can come at any growth. Nothing is written before a fault other than `WriteFault`, and before that one
+/// a beginning of the text.
 pub fn echo<R: Read, W: Write>(
     alloc: Global,
     input: &mut R,
     output: &mut W,
 ) -> Result<u64, ToolFault>
+    ensures consumed { OnOk result ((bytes : List ℕ) × Consumes (R.remaining input.old) (R.remaining input.new) bytes) }
+    ensures ended { OnOk result (IsAtEnd (R.remaining input.new)) }
     ensures count { IfOk result (λ count. IfSome (R.remaining input.old) (λ bytes. count ≡ length (input_lines bytes))) }
     ensures accepted { OnOk result (IfSome (R.remaining input.old) (λ bytes. echo_fault bytes ≡ None)) }
     ensures written { OnOk result (IfSome (R.remaining input.old) (λ bytes.
