@@ -39,7 +39,7 @@ impl<'a, R: Files<File = File> + AllocGlobal + Clone + Drop> RealFolder<'a, R> {
     pub fn new(rt: &'a R, path: String, process: u32) -> Self
         ensures path { result.path ≡ path }
         ensures process { result.process ≡ process }
-        ensures outside { (result.lock ≡ None) × (result.record ≡ None) }
+        ensures unlocked { result.lock ≡ None }
         ensures none { result.failures ≡ 0 }
     {
         RealFolder {
