@@ -12,6 +12,8 @@ mod claim_tests;
 #[cfg(test)]
 mod cycle_tests;
 #[cfg(test)]
+mod hint_tests;
+#[cfg(test)]
 mod journal_tests;
 #[cfg(test)]
 mod lives;

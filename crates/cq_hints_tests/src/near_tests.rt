@@ -1,0 +1,93 @@
+//! Where walks to messages begin, each from before the first record of the first slot.
+
+ghost use Rattle.std.specs.Prelude.{◌≡◌, IfOk, None};
+ghost use Rattle.cq_words.specs.Values.{IsOf};
+
+use cq_append::Appender;
+use cq_fixtures::{config_of, contents_of};
+use cq_hints::near;
+use cq_layout::Shape;
+use cq_walks::enter_slot;
+use cq_words::{Caller, Queue};
+use std::alloc::Global;
+use std::test::Fail;
+
+/// The sequence at which the walk to a message begins.
+fn start(queue: &Queue, caller: &mut Caller, wanted: u32) -> u32
+    requires { IsOf queue.now caller.old }
+    ensures { IsOf queue.now caller.new }
+{
+    let first = enter_slot(queue, caller, 0);
+    near(queue, caller, first, wanted).walker.sequence()
+}
+
+/// The same of several messages.
+fn starts(
+    alloc: Global,
+    queue: &Queue,
+    caller: &mut Caller,
+    wanted: &[u32],
+) -> Result<Vec<u32>, Fail>
+    requires { IsOf queue.now caller.old }
+{
+    let mut starts = Vec::new(alloc);
+    for sequence in wanted {
+        starts.push(start(queue, caller, *sequence))?;
+    }
+    Ok(starts)
+}
+
+/// Appends so many messages at moment 0.
+fn append_all(queue: &Queue, caller: Caller, count: u32) -> Result<Caller, Fail>
+    requires of { IsOf queue.now caller }
+    requires idle { caller.view.claim ≡ None }
+    ensures { IfOk result (λ caller. IsOf queue.now caller) }
+{
+    let mut appender = Appender::new(caller);
+    for _ in 0..count {
+        appender.append(queue, 0, b"a")?;
+    }
+    Ok(appender.into_caller())
+}
+
+/// Where walks begin in a cycle of 30,000 messages, of which one in 16 has an entry.
+fn starts_among_many(alloc: Global, wanted: &[u32]) -> Result<Vec<u32>, Fail> {
+    let config = config_of(alloc, Shape::new(1_048_576, 256, 16)?, 1)?;
+    let (queue, caller) = Queue::create(alloc, config, 0)?;
+    let mut caller = append_all(&queue, caller, 30_000)?;
+    starts(alloc, &queue, &mut caller, wanted)
+}
+
+#[test]
+fn walks_begin_at_the_last_entry(rt: HostRuntime) -> Result<(), Fail> {
+    let wanted = [0, 15, 16, 17, 31, 4_095, 4_096, 12_345, 29_983, 29_998];
+    let starts = starts_among_many(rt.alloc(), &wanted)?;
+    assert_eq!(rt;
+        starts.as_slice(),
+        [0, 0, 16, 16, 16, 4_080, 4_096, 12_336, 29_968, 29_984].as_slice()
+    );
+    Ok(())
+}
+
+#[test]
+fn walks_begin_at_the_last_message(rt: HostRuntime) -> Result<(), Fail> {
+    let starts = starts_among_many(rt.alloc(), &[29_999, 30_000, u32::MAX])?;
+    assert_eq!(rt; starts.as_slice(), [29_999, 29_999, 29_999].as_slice());
+    Ok(())
+}
+
+/// Where walks begin in a cycle that was opened again with three messages, behind which one was appended.
+fn starts_behind_others(alloc: Global, wanted: &[u32]) -> Result<Vec<u32>, Fail> {
+    let config = config_of(alloc, Shape::new(64, 8, 1)?, 1)?;
+    let contents = contents_of(alloc, &[(0, &["a", "b", "c"])], &[0])?;
+    let (queue, caller) = Queue::reopen(alloc, config, &contents)?;
+    let mut caller = append_all(&queue, caller, 1)?;
+    starts(alloc, &queue, &mut caller, wanted)
+}
+
+#[test]
+fn walks_to_messages_without_entries_begin_before_the_first(rt: HostRuntime) -> Result<(), Fail> {
+    let starts = starts_behind_others(rt.alloc(), &[0, 1, 2, 3, 4])?;
+    assert_eq!(rt; starts.as_slice(), [0, 0, 0, 3, 3].as_slice());
+    Ok(())
+}
