@@ -8,6 +8,8 @@ mod lives;
 #[cfg(test)]
 mod place_tests;
 #[cfg(test)]
+mod publishing_tests;
+#[cfg(test)]
 mod queues;
 #[cfg(test)]
 mod thread_tests;

@@ -6,7 +6,7 @@ ghost use Rattle.cq_words.specs.Values.{IsOf};
 use cq_append::{Appender, NoRoom, Writing};
 use cq_cycle::Index;
 use cq_model::{Contents, Refusal};
-use cq_shown::recover;
+use cq_shown::{Stopped, recover};
 use cq_words::{Caller, Queue};
 use std::alloc::{AllocError, Global};
 use std::marker::Model;
@@ -189,14 +189,19 @@ impl Fixture {
         Ok(())
     }
 
-    /// What the queue holds once another caller stops it. The appender, or the message that it has begun, is dropped.
-    pub fn into_contents(self, alloc: Global) -> Result<Contents, Fail> {
+    /// The queue once another caller stops it. The appender, or the message that it has begun, is dropped.
+    pub fn into_stopped(self) -> Stopped {
         let Fixture {
             queue,
             appender: _,
             writing: _,
             other,
         } = self;
-        Ok(recover(alloc, &queue.stop(other))?)
+        queue.stop(other)
+    }
+
+    /// What it holds then.
+    pub fn into_contents(self, alloc: Global) -> Result<Contents, Fail> {
+        Ok(recover(alloc, &self.into_stopped())?)
     }
 }
