@@ -1,0 +1,59 @@
+//! Messages are appended to a queue that others may write to.
+ghost use Rattle.std.specs.Prelude.{◌≡◌, ◌+◌, ◌≤◌, OnOk};
+ghost use Rattle.cq_bench.specs.Counts.{messages_appended};
+ghost use Rattle.cq_words.specs.Values.{IsOf};
+
+use crate::fault::BenchFault;
+use cq_append::Appender;
+use cq_layout::Refusal;
+use cq_words::Queue;
+use std::hint::spin_loop;
+
+/// The moment of each append, in milliseconds of Unix time: all messages stand in one cycle.
+pub const MOMENT: u64 = 0;
+
+/// The most tries of one call that is held back by another caller.
+pub const MOST_TRIES: u32 = 1 << 30;
+
+/// How many times a caller pauses before it tries again.
+const PAUSES: u32 = 32;
+
+/// A short spin.
+fn pause() {
+    for _ in 0..PAUSES {
+        spin_loop();
+    }
+}
+
+/// Appends a message, and tries again where another caller writes.
+pub fn append_one(queue: &Queue, appender: &mut Appender, bytes: &[u8]) -> Result<(), BenchFault>
+    requires { IsOf queue.now appender.old }
+    ensures of { IsOf queue.now appender.new }
+    ensures appended { OnOk result (messages_appended appender.old + 1 ≤ messages_appended appender.new) }
+{
+    for _ in 0..MOST_TRIES {
+        match appender.append(queue, MOMENT, bytes) {
+            Ok(_index) => return Ok(()),
+            Err(Refusal::Busy) => pause(),
+            Err(refusal) => return Err(BenchFault::Refused(refusal)),
+        }
+    }
+    Err(BenchFault::Refused(Refusal::Busy))
+}
+
+/// Appends a message so many times.
+pub fn append_all(
+    queue: &Queue,
+    appender: &mut Appender,
+    bytes: &[u8],
+    count: u32,
+) -> Result<(), BenchFault>
+    requires { IsOf queue.now appender.old }
+    ensures of { IsOf queue.now appender.new }
+    ensures appended { OnOk result (messages_appended appender.old + count ≤ messages_appended appender.new) }
+{
+    for _ in 0..count {
+        append_one(queue, appender, bytes)?;
+    }
+    Ok(())
+}

@@ -1,0 +1,137 @@
+//! Appenders and tailers on threads of one queue.
+use crate::appending::MOST_TRIES;
+use crate::fault::BenchFault;
+use crate::figures::{Figure, Label, print_line};
+use crate::queues::{SharedQueue, message_count};
+use crate::running::{Job, time_of};
+use crate::settings::Settings;
+use cq_layout::Shape;
+use std::alloc::{AllocError, Global};
+use std::rt::Clock;
+use std::thread::Threads;
+use std::time::Duration;
+
+/// How many of each share a queue. Where there is no appender the queue is full before.
+#[derive(Clone, Copy)]
+pub struct Crew {
+    pub appenders: u32,
+    pub tailers: u32,
+}
+
+/// How many messages each appender appends, and how many each tailer reads.
+#[derive(Clone, Copy)]
+struct Share {
+    each: u32,
+    all: u32,
+}
+
+impl Crew {
+    /// What each does where so many messages fit.
+    fn share(self, count: u32) -> Result<Share, BenchFault> {
+        let each = match self.appenders {
+            0 => count,
+            appenders => count / appenders,
+        };
+        if each == 0 {
+            return Err(BenchFault::NoRoom);
+        }
+        Ok(Share {
+            each,
+            all: each.saturating_mul(self.appenders.max(1)),
+        })
+    }
+
+    /// How many messages count: those that were appended, or where nobody appends, those that each has read.
+    fn messages(self, share: Share) -> u64 {
+        match self.appenders {
+            0 => u64::from(share.all).saturating_mul(u64::from(self.tailers)),
+            _ => u64::from(share.all),
+        }
+    }
+
+    /// How it is called in a line.
+    fn name(self, alloc: Global) -> Result<String, AllocError> {
+        let Crew { appenders, tailers } = self;
+        if appenders == 0 {
+            return format!(in alloc; "{tailers}");
+        }
+        if tailers == 0 {
+            return format!(in alloc; "{appenders}");
+        }
+        format!(in alloc; "{appenders}to{tailers}")
+    }
+
+    /// What the threads do on a new queue.
+    fn jobs(
+        self,
+        alloc: Global,
+        shared: &mut SharedQueue,
+        share: Share,
+    ) -> Result<Vec<Job>, AllocError> {
+        let mut jobs = Vec::new(alloc);
+        for _ in 0..self.appenders {
+            jobs.push(Job::Append(shared.appender()?, share.each))?;
+        }
+        // Where nobody appends, a message that is not there will not come.
+        let looks = if self.appenders == 0 { 1 } else { MOST_TRIES };
+        for _ in 0..self.tailers {
+            jobs.push(Job::Read(shared.tailer()?, share.all, looks))?;
+        }
+        Ok(jobs)
+    }
+}
+
+/// The time of a crew on a new queue.
+fn crew_time<R: AllocGlobal + Clock + Threads + Sync>(
+    rt: &R,
+    shape: Shape,
+    crew: Crew,
+    share: Share,
+    bytes: &[u8],
+) -> Result<Duration, BenchFault> {
+    let mut shared = SharedQueue::new(rt.alloc(), shape)?;
+    if crew.appenders == 0 {
+        shared.appender()?.append_all(bytes, share.all)?;
+    }
+    let jobs = crew.jobs(rt.alloc(), &mut shared, share)?;
+    time_of(rt, jobs, bytes)
+}
+
+/// Messages in a second, in the best of all repetitions.
+fn crew_figure<R: AllocGlobal + Clock + Threads + Sync>(
+    rt: &R,
+    settings: &Settings,
+    crew: Crew,
+    length: u32,
+) -> Result<Figure, BenchFault> {
+    let bytes = Vec::from_elem(rt.alloc(), b'x', length as usize)?;
+    let share = crew.share(message_count(settings.shape, length))?;
+    let mut best = Duration::MAX;
+    for _ in 0..settings.repetitions {
+        best = best.min(crew_time(rt, settings.shape, crew, share, bytes.as_slice())?);
+    }
+    Ok(Figure::rate(crew.messages(share), best))
+}
+
+/// Measures each crew with each length of messages.
+pub fn print_crews<R: AllocGlobal + Clock + Print + Threads + Sync>(
+    rt: &R,
+    settings: &Settings,
+    case: &str,
+    lengths: &[u32],
+    crews: &[Crew],
+) -> Result<(), BenchFault> {
+    for length in lengths {
+        for crew in crews {
+            let figure = crew_figure(rt, settings, *crew, *length)?;
+            let threads = crew.name(rt.alloc())?;
+            let label = Label {
+                case,
+                payload: *length,
+                threads: threads.as_str(),
+            };
+            print_line(rt, settings, label, figure, "msg/s")?;
+        }
+    }
+    Ok(())
+}

@@ -1,0 +1,49 @@
+use cq_layout::Refusal;
+use cq_shown::CreateError;
+use std::alloc::AllocError;
+
+/// Why a case has no figure.
+#[derive(Debug, Drop, thiserror::Error)]
+pub enum BenchFault {
+    /// There is no queue of this shape.
+    #[error("there is no queue of this shape")]
+    NoQueue,
+    /// A cycle has no room for the messages of the case.
+    #[error("a cycle has no room for the messages")]
+    NoRoom,
+    /// An append was refused.
+    #[error("an append was refused: {0}")]
+    Refused(Refusal),
+    /// A message that was appended was not read.
+    #[error("a message is missing")]
+    Missing,
+    /// The clock was not read.
+    #[error("the clock was not read")]
+    NoClock,
+    /// The figure was not printed.
+    #[error("the figure was not printed")]
+    NotPrinted,
+    /// There was no memory.
+    #[error("OutOfMemory")]
+    OutOfMemory,
+}
+
+impl From<AllocError> for BenchFault {
+    ghost use Rattle.std.specs.Prelude.{◌≡◌};
+    ghost use Rattle.cq_bench.specs.declared.fault.BenchFault.TheVariants.{OutOfMemory};
+
+    ghost from_gives = { λ _ fault. fault ≡ OutOfMemory };
+
+    fn from(_error: AllocError) -> BenchFault {
+        BenchFault::OutOfMemory
+    }
+}
+
+impl From<CreateError> for BenchFault {
+    fn from(error: CreateError) -> BenchFault {
+        match error {
+            CreateError::OutOfMemory => BenchFault::OutOfMemory,
+            CreateError::BadMoment | CreateError::BadContents => BenchFault::NoQueue,
+        }
+    }
+}

@@ -1,0 +1,85 @@
+//! What is measured, as it is printed.
+use crate::fault::BenchFault;
+use crate::settings::Settings;
+use std::fmt;
+use std::time::Duration;
+
+/// A figure, in hundredths.
+#[derive(Clone, Copy, PartialEq, Eq, PartialOrd, Ord)]
+pub struct Figure {
+    hundredths: u64,
+}
+
+impl Figure {
+    /// None at all.
+    pub const ZERO: Figure = Figure { hundredths: 0 };
+
+    /// Messages in a second, where so many took this time.
+    pub fn rate(count: u64, time: Duration) -> Figure {
+        Figure::of(u128::from(count) * 100_000_000_000, time.as_nanos())
+    }
+
+    /// Nanoseconds for each, where so many took this time.
+    pub fn nanos_each(count: u64, time: Duration) -> Figure {
+        Figure::of(time.as_nanos().saturating_mul(100), u128::from(count))
+    }
+
+    /// How many times the other figure this one is.
+    pub fn times(self, other: Figure) -> Figure {
+        Figure::of(
+            u128::from(self.hundredths) * 100,
+            u128::from(other.hundredths),
+        )
+    }
+
+    /// So many hundredths for each. Of none there is one.
+    fn of(hundredths: u128, each: u128) -> Figure {
+        Figure {
+            hundredths: (hundredths / each.max(1)).min(u128::from(u64::MAX)) as u64,
+        }
+    }
+}
+
+impl fmt::Display for Figure {
+    fn fmt<W: fmt::Write>(&self, f: &mut fmt::Formatter<W>) -> fmt::Result {
+        let whole = self.hundredths / 100;
+        let part = self.hundredths % 100;
+        write!(f, "{whole}.{part:02}")
+    }
+}
+
+/// What is measured: its case, the bytes of a message, and the threads.
+#[derive(Clone, Copy)]
+pub struct Label<'a> {
+    pub case: &'a str,
+    pub payload: u32,
+    pub threads: &'a str,
+}
+
+/// Prints the line of a figure, or without the figure where it is only tried whether the case runs.
+pub fn print_line<R: Print>(
+    rt: &R,
+    settings: &Settings,
+    label: Label,
+    value: Figure,
+    unit: &str,
+) -> Result<(), BenchFault> {
+    let Label {
+        case,
+        payload,
+        threads,
+    } = label;
+    let printed = if settings.is_trial {
+        println!(rt;
+            "{{\"impl\":\"cq\",\"case\":\"{case}\",\"payload\":{payload},\"threads\":\"{threads}\",\"unit\":\"{unit}\"}}"
+        )
+    } else {
+        println!(rt;
+            "{{\"impl\":\"cq\",\"case\":\"{case}\",\"payload\":{payload},\"threads\":\"{threads}\",\"value\":{value},\"unit\":\"{unit}\"}}"
+        )
+    };
+    match printed {
+        Ok(()) => Ok(()),
+        Err(_) => Err(BenchFault::NotPrinted),
+    }
+}

@@ -1,0 +1,165 @@
+//! What an append takes early and late in a cycle, by an appender that goes on and by ones that know no place.
+use crate::fault::BenchFault;
+use crate::figures::{Figure, Label, print_line};
+use crate::queues::{SharedAppender, SharedQueue, message_count};
+use crate::running::now;
+use crate::settings::Settings;
+use cq_layout::Shape;
+use std::alloc::{AllocError, Global};
+use std::rt::Clock;
+use std::time::Duration;
+
+/// The bytes of a message.
+const LENGTH: u32 = 8;
+
+/// A message.
+const MESSAGE: [u8; 8] = [b'x'; 8];
+
+/// How many new appenders append in each eighth, so many one behind the other each time.
+const BATCHES: u32 = 8;
+
+/// How many new appenders append one behind the other.
+const BATCH: u32 = 16;
+
+/// The time of the measured appends in the first and in the last eighth of a cycle.
+#[derive(Clone, Copy)]
+pub struct Eighths {
+    first: Duration,
+    last: Duration,
+}
+
+/// Which appends are measured.
+#[derive(Clone, Copy)]
+pub enum Growth {
+    /// Each of an eighth, by one appender.
+    Warm,
+    /// Some of an eighth, each by an appender that was just split off.
+    Cold,
+}
+
+impl Growth {
+    /// How many appends of an eighth are measured, where it has so many.
+    fn measured(self, eighth: u32) -> u64 {
+        match self {
+            Growth::Warm => u64::from(eighth),
+            Growth::Cold => u64::from(BATCHES * BATCH),
+        }
+    }
+
+    /// Appends an eighth, and answers the time of those that are measured.
+    fn eighth_time<R: AllocGlobal + Clock>(
+        self,
+        rt: &R,
+        shared: &mut SharedQueue,
+        warm: &mut SharedAppender,
+        eighth: u32,
+    ) -> Result<Duration, BenchFault> {
+        match self {
+            Growth::Warm => {
+                let start = now(rt)?;
+                warm.append_all(&MESSAGE, eighth)?;
+                Ok(now(rt)?.duration_since(start))
+            }
+            Growth::Cold => cold_time(rt, shared, warm, eighth),
+        }
+    }
+}
+
+/// So many appenders that were just split off.
+fn new_appenders(
+    alloc: Global,
+    shared: &mut SharedQueue,
+) -> Result<Vec<SharedAppender>, AllocError> {
+    let mut appenders = Vec::new(alloc);
+    for _ in 0..BATCH {
+        appenders.push(shared.appender()?)?;
+    }
+    Ok(appenders)
+}
+
+/// Appends an eighth, and answers the time of appends by appenders that were just split off.
+fn cold_time<R: AllocGlobal + Clock>(
+    rt: &R,
+    shared: &mut SharedQueue,
+    warm: &mut SharedAppender,
+    eighth: u32,
+) -> Result<Duration, BenchFault> {
+    let mut total = Duration::ZERO;
+    for _ in 0..BATCHES {
+        warm.append_all(&MESSAGE, (eighth / BATCHES).saturating_sub(BATCH))?;
+        let mut appenders = new_appenders(rt.alloc(), shared)?;
+        let start = now(rt)?;
+        for appender in appenders.iter_mut() {
+            appender.append_all(&MESSAGE, 1)?;
+        }
+        total = total.saturating_add(now(rt)?.duration_since(start));
+    }
+    Ok(total)
+}
+
+/// The times over a new queue.
+fn eighths_of<R: AllocGlobal + Clock>(
+    rt: &R,
+    shape: Shape,
+    growth: Growth,
+    eighth: u32,
+) -> Result<Eighths, BenchFault> {
+    let mut shared = SharedQueue::new(rt.alloc(), shape)?;
+    let mut warm = shared.appender()?;
+    let first = growth.eighth_time(rt, &mut shared, &mut warm, eighth)?;
+    warm.append_all(&MESSAGE, eighth.saturating_mul(6))?;
+    let last = growth.eighth_time(rt, &mut shared, &mut warm, eighth)?;
+    Ok(Eighths { first, last })
+}
+
+/// Measures appends early and late in a cycle.
+pub fn print_growth<R: AllocGlobal + Clock + Print>(
+    rt: &R,
+    settings: &Settings,
+    growth: Growth,
+) -> Result<(), BenchFault> {
+    let eighth = message_count(settings.shape, LENGTH) / 8;
+    if eighth < BATCHES * BATCH {
+        return Err(BenchFault::NoRoom);
+    }
+    let mut best = Eighths {
+        first: Duration::MAX,
+        last: Duration::MAX,
+    };
+    for _ in 0..settings.repetitions {
+        let Eighths { first, last } = eighths_of(rt, settings.shape, growth, eighth)?;
+        best = Eighths {
+            first: best.first.min(first),
+            last: best.last.min(last),
+        };
+    }
+    let count = growth.measured(eighth);
+    let first = Figure::nanos_each(count, best.first);
+    let last = Figure::nanos_each(count, best.last);
+    let [first_name, last_name, ratio_name] = match growth {
+        Growth::Warm => ["growth_first8th", "growth_last8th", "growth_ratio"],
+        Growth::Cold => [
+            "cold_append_first8th",
+            "cold_append_last8th",
+            "cold_append_ratio",
+        ],
+    };
+    print_eighth(rt, settings, first_name, first, "ns")?;
+    print_eighth(rt, settings, last_name, last, "ns")?;
+    print_eighth(rt, settings, ratio_name, last.times(first), "ratio")
+}
+
+fn print_eighth<R: Print>(
+    rt: &R,
+    settings: &Settings,
+    case: &str,
+    figure: Figure,
+    unit: &str,
+) -> Result<(), BenchFault> {
+    let label = Label {
+        case,
+        payload: LENGTH,
+        threads: "1",
+    };
+    print_line(rt, settings, label, figure, unit)
+}

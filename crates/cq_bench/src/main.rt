@@ -1,0 +1,133 @@
+//! Measures a queue: prints a line of JSON for each figure on standard output.
+//!
+//! The words of the command line say which cases, or `all`. Without a word it prints what words there are. It ends with
+//! status 0 where all was measured, 1 after a fault and 2 where a word or a variable is not understood. What is wrong goes
+//! to standard error.
+#![tactic(auto)]
+
+mod appending;
+mod cases;
+mod crews;
+mod fault;
+mod figures;
+mod growing;
+mod pings;
+mod queues;
+mod random;
+mod reading;
+mod running;
+mod saving;
+mod settings;
+
+use crate::cases::{CASES, case_of, print_all, print_case};
+use crate::fault::BenchFault;
+use crate::settings::Settings;
+use std::process::ExitCode;
+use std::rt::{Clock, Env};
+use std::thread::Threads;
+use std::{env, io};
+
+/// All was measured.
+const DONE: u8 = 0;
+
+/// A case met a fault.
+const FAULT: u8 = 1;
+
+/// A word or a variable is not understood.
+const NOT_UNDERSTOOD: u8 = 2;
+
+/// The word for all cases.
+const ALL: &str = "all";
+
+/// The word for a short run of all cases over small queues, without figures.
+const TRIAL: &str = "trial";
+
+fn main(rt: HostRuntime) -> ExitCode {
+    ExitCode::from(status(&rt))
+}
+
+/// Does what the words ask for, and gives the exit status.
+fn status<R>(rt: &R) -> u8
+where
+    R: AllocGlobal + Clock + Env + Print + Eprint + Threads + Sync,
+{
+    let Ok(words) = words(rt) else {
+        let _ = eprintln!(rt; "cq_bench: the words are not text");
+        return NOT_UNDERSTOOD;
+    };
+    for word in words.as_slice() {
+        if !is_known(word.as_str()) {
+            let _ = eprintln!(rt; "cq_bench: there is no case {word}");
+            return NOT_UNDERSTOOD;
+        }
+    }
+    match Settings::of_environment(rt) {
+        Ok(settings) => ended(rt, print_words(rt, &settings, words.as_slice())),
+        Err(fault) => {
+            let _ = eprintln!(rt; "cq_bench: {fault}");
+            NOT_UNDERSTOOD
+        }
+    }
+}
+
+/// Says what is wrong, if anything is, and gives the exit status.
+fn ended<R: Eprint>(rt: &R, outcome: Result<(), BenchFault>) -> u8 {
+    match outcome {
+        Ok(()) => DONE,
+        Err(fault) => {
+            let _ = eprintln!(rt; "cq_bench: {fault}");
+            FAULT
+        }
+    }
+}
+
+/// The words of the command line behind the program's name.
+fn words<R: AllocGlobal + Env>(rt: &R) -> io::Result<Vec<String>> {
+    Ok(env::args(rt)?.skip(1).collect(rt.alloc())?)
+}
+
+/// Whether there is something for a word.
+fn is_known(word: &str) -> bool {
+    word == ALL || word == TRIAL || case_of(word).is_some()
+}
+
+/// Measures what each word says. Where there is none, prints the words.
+fn print_words<R>(rt: &R, settings: &Settings, words: &[String]) -> Result<(), BenchFault>
+where
+    R: AllocGlobal + Clock + Print + Threads + Sync,
+{
+    if words.is_empty() {
+        return print_help(rt);
+    }
+    for word in words {
+        print_word(rt, settings, word.as_str())?;
+    }
+    Ok(())
+}
+
+/// Measures what a word says.
+fn print_word<R>(rt: &R, settings: &Settings, word: &str) -> Result<(), BenchFault>
+where
+    R: AllocGlobal + Clock + Print + Threads + Sync,
+{
+    if word == ALL {
+        return print_all(rt, settings);
+    }
+    match case_of(word) {
+        Some(case) => print_case(rt, settings, case),
+        None => print_all(rt, &Settings::of_trial()?),
+    }
+}
+
+/// Prints the words that there are.
+fn print_help<R: Print>(rt: &R) -> Result<(), BenchFault> {
+    for (word, _, what) in CASES {
+        if println!(rt; "{word:11} {what}").is_err() {
+            return Err(BenchFault::NotPrinted);
+        }
+    }
+    let last = println!(rt;
+        "all         all of these\ntrial       all of these over small queues, without figures"
+    );
+    last.map_err(|_| BenchFault::NotPrinted)
+}

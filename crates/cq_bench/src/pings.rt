@@ -1,0 +1,142 @@
+//! How long a message is on its way from an append to another's read of it.
+use crate::appending::{MOST_TRIES, append_one};
+use crate::fault::BenchFault;
+use crate::figures::{Figure, Label, print_line};
+use crate::queues::{SharedAppender, SharedQueue, SharedTailer, message_count};
+use crate::reading::read_one;
+use crate::running::{Gate, now};
+use crate::settings::Settings;
+use cq_layout::Shape;
+use std::rt::Clock;
+use std::thread::{Threads, join};
+use std::time::{Duration, Instant};
+
+/// The bytes of a message.
+const LENGTH: u32 = 64;
+
+/// How many messages are sent, if so many fit.
+const MOST_PINGS: u32 = 10_000;
+
+/// The times that half of the messages and 99 of 100 take at most.
+#[derive(Clone, Copy)]
+struct Times {
+    half: Duration,
+    most: Duration,
+}
+
+/// Appends messages, each when the one before it was read, and answers when each append began.
+fn send<R: AllocGlobal + Clock>(
+    rt: &R,
+    read: &Gate,
+    shared: SharedAppender,
+    count: u32,
+) -> Result<Vec<Instant>, BenchFault> {
+    let SharedAppender {
+        queue,
+        mut appender,
+    } = shared;
+    let mut sent = Vec::with_capacity(rt.alloc(), count as usize)?;
+    for number in 0..count {
+        // The first is sent when the tailer has come.
+        if !read.wait(u64::from(number) + 1) {
+            return Err(BenchFault::Missing);
+        }
+        let start = now(rt)?;
+        append_one(&queue, &mut appender, &[b'x'; LENGTH as usize])?;
+        if sent.push(start).is_err() {
+            return Err(BenchFault::OutOfMemory);
+        }
+    }
+    Ok(sent)
+}
+
+/// Reads messages as they come, and answers when each was read.
+fn receive<R: AllocGlobal + Clock>(
+    rt: &R,
+    read: &Gate,
+    shared: SharedTailer,
+    count: u32,
+) -> Result<Vec<Instant>, BenchFault> {
+    let SharedTailer { queue, mut tailer } = shared;
+    let mut received = Vec::with_capacity(rt.alloc(), count as usize)?;
+    read.come();
+    for _ in 0..count {
+        read_one(rt.alloc(), &queue, &mut tailer, MOST_TRIES)?;
+        let end = now(rt)?;
+        read.come();
+        if received.push(end).is_err() {
+            return Err(BenchFault::OutOfMemory);
+        }
+    }
+    Ok(received)
+}
+
+/// The times of so many messages, one at a time.
+fn ping_times<R: AllocGlobal + Clock + Threads + Sync>(
+    rt: &R,
+    shape: Shape,
+    count: u32,
+) -> Result<Times, BenchFault> {
+    let mut shared = SharedQueue::new(rt.alloc(), shape)?;
+    let appender = shared.appender()?;
+    let tailer = shared.tailer()?;
+    let read = Gate::new();
+    let (sent, received) = join(
+        rt,
+        || -> Result<Vec<Instant>, BenchFault> { send(rt, &read, appender, count) },
+        || -> Result<Vec<Instant>, BenchFault> { receive(rt, &read, tailer, count) },
+    );
+    let (sent, received) = (sent?, received?);
+    let mut times = Vec::with_capacity(rt.alloc(), sent.len())?;
+    for (start, end) in sent.iter().zip(received.iter()) {
+        if times.push(end.duration_since(*start)).is_err() {
+            return Err(BenchFault::OutOfMemory);
+        }
+    }
+    times.sort_unstable();
+    match (
+        times.get(times.len() / 2),
+        times.get(times.len().saturating_sub(1) / 100 * 99),
+    ) {
+        (Some(half), Some(most)) => Ok(Times {
+            half: *half,
+            most: *most,
+        }),
+        (_, _) => Err(BenchFault::NoRoom),
+    }
+}
+
+/// Measures messages that are sent one at a time.
+pub fn print_pings<R: AllocGlobal + Clock + Print + Threads + Sync>(
+    rt: &R,
+    settings: &Settings,
+) -> Result<(), BenchFault> {
+    let count = message_count(settings.shape, LENGTH).min(MOST_PINGS);
+    let mut best = Times {
+        half: Duration::MAX,
+        most: Duration::MAX,
+    };
+    for _ in 0..settings.repetitions {
+        let Times { half, most } = ping_times(rt, settings.shape, count)?;
+        best = Times {
+            half: best.half.min(half),
+            most: best.most.min(most),
+        };
+    }
+    print_ping(rt, settings, "ping_p50", best.half)?;
+    print_ping(rt, settings, "ping_p99", best.most)
+}
+
+fn print_ping<R: Print>(
+    rt: &R,
+    settings: &Settings,
+    case: &str,
+    time: Duration,
+) -> Result<(), BenchFault> {
+    let label = Label {
+        case,
+        payload: LENGTH,
+        threads: "1to1",
+    };
+    print_line(rt, settings, label, Figure::nanos_each(1, time), "ns")
+}

@@ -1,0 +1,100 @@
+//! The queues that are measured: one cycle each, and no names.
+ghost use Rattle.std.specs.Prelude.{◌≡◌, ◌+◌, ◌≤◌, IfOk, None, OnOk};
+ghost use Rattle.std.specs.Arc.{arc_value};
+ghost use Rattle.cq_bench.specs.Counts.{messages_appended};
+ghost use Rattle.cq_words.specs.Values.{IsOf};
+
+use crate::appending::{MOMENT, append_all};
+use crate::fault::BenchFault;
+use cq_append::Appender;
+use cq_cycle::Roll;
+use cq_layout::{STORE_CELLS, Shape, record_cells};
+use cq_model::Config;
+use cq_tail::Tailer;
+use cq_words::{Caller, Queue};
+use std::alloc::{AllocError, Global};
+use std::sync::Arc;
+
+/// The settings of a queue with one cycle of this shape, which is a day.
+pub fn config_of(alloc: Global, shape: Shape) -> Result<Config, BenchFault> {
+    match Config::new(shape, 1, Roll::Daily, 0, Vec::new(alloc)) {
+        Ok(config) => Ok(config),
+        Err(_) => Err(BenchFault::NoQueue),
+    }
+}
+
+/// A new queue with one cycle of this shape, and its first caller.
+pub fn new_queue(alloc: Global, shape: Shape) -> Result<(Queue, Caller), BenchFault>
+    ensures of { IfOk result (λ made. IsOf made.0 made.1) }
+    ensures idle { IfOk result (λ made. made.1.view.claim ≡ None) }
+{
+    Ok(Queue::create(alloc, config_of(alloc, shape)?, MOMENT)?)
+}
+
+/// How many messages of so many bytes fit in a cycle of this shape for certain, with all tables that they need.
+pub fn message_count(shape: Shape, length: u32) -> u32 {
+    let table = 1 + u64::from(shape.index_count());
+    let served = u64::from(shape.messages_per_table());
+    let record = u64::from(record_cells(length));
+    // Behind the store record, the top table, one index table and the end of data.
+    let room = u64::from(shape.cells()) - u64::from(STORE_CELLS) - 2 * table - 1;
+    let fitting = room * served / (served * record + table);
+    fitting.min(u64::from(shape.message_limit())) as u32
+}
+
+/// A queue that threads share, and the caller from which theirs are split off.
+#[derive(Drop)]
+pub struct SharedQueue {
+    queue: Arc<Queue>,
+    caller: Caller,
+    ghost of: { IsOf (arc_value queue) caller },
+    ghost idle: { caller.view.claim ≡ None },
+}
+
+impl SharedQueue {
+    /// A new queue with one cycle of this shape.
+    pub fn new(alloc: Global, shape: Shape) -> Result<SharedQueue, BenchFault> {
+        let (queue, caller) = new_queue(alloc, shape)?;
+        let queue = Arc::new(alloc, queue).map_err(|_| AllocError)?;
+        Ok(SharedQueue { queue, caller })
+    }
+
+    /// An appender that knows no place in the queue.
+    pub fn appender(&mut self) -> Result<SharedAppender, AllocError> {
+        let queue = Arc::try_clone(&self.queue)?;
+        let appender = Appender::new(queue.split(&mut self.caller));
+        Ok(SharedAppender { queue, appender })
+    }
+
+    /// A tailer at the start.
+    pub fn tailer(&mut self) -> Result<SharedTailer, AllocError> {
+        let queue = Arc::try_clone(&self.queue)?;
+        let tailer = Tailer::new(queue.split(&mut self.caller));
+        Ok(SharedTailer { queue, tailer })
+    }
+}
+
+/// An appender and its queue. It may go to a thread.
+#[derive(Drop)]
+pub struct SharedAppender {
+    pub queue: Arc<Queue>,
+    pub appender: Appender,
+    ghost of: { IsOf (arc_value queue) appender },
+}
+
+impl SharedAppender {
+    /// Appends so many messages of these bytes.
+    pub fn append_all(&mut self, bytes: &[u8], count: u32) -> Result<(), BenchFault>
+        ensures { OnOk result (messages_appended self.old.appender + count ≤ messages_appended self.new.appender) }
+    {
+        append_all(&self.queue, &mut self.appender, bytes, count)
+    }
+}
+
+/// A tailer and its queue. It may go to a thread.
+#[derive(Drop)]
+pub struct SharedTailer {
+    pub queue: Arc<Queue>,
+    pub tailer: Tailer,
+    ghost of: { IsOf (arc_value queue) tailer.caller },
+}

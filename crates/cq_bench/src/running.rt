@@ -1,0 +1,133 @@
+//! Callers on threads that share a queue, and the time that they take together.
+use crate::appending::append_all;
+use crate::fault::BenchFault;
+use crate::queues::{SharedAppender, SharedTailer};
+use crate::reading::read_all;
+use std::hint::spin_loop;
+use std::rt::Clock;
+use std::sync::atomic::{AtomicU64, Ordering};
+use std::thread::{Threads, map_vec};
+use std::time::{Duration, Instant};
+
+/// The most looks of a thread at whether another has come.
+const MOST_LOOKS: u32 = 1 << 30;
+
+/// How far threads have come together.
+#[derive(Drop)]
+pub struct Gate {
+    come: AtomicU64,
+}
+
+impl Gate {
+    /// A gate at which nobody is.
+    pub fn new() -> Gate {
+        Gate {
+            come: AtomicU64::new(0),
+        }
+    }
+
+    /// One more has come.
+    pub fn come(&self) {
+        self.come.fetch_add(1, Ordering::SeqCst);
+    }
+
+    /// Waits until so many have come, and answers whether they have: it does not wait forever.
+    pub fn wait(&self, all: u64) -> bool {
+        for _ in 0..MOST_LOOKS {
+            if self.come.load(Ordering::SeqCst) >= all {
+                return true;
+            }
+            spin_loop();
+        }
+        false
+    }
+}
+
+/// What one thread does.
+#[derive(Drop)]
+pub enum Job {
+    /// Appends so many messages.
+    Append(SharedAppender, u32),
+    /// Reads so many messages, with so many looks for each.
+    Read(SharedTailer, u32, u32),
+}
+
+/// From when to when a thread was at work.
+#[derive(Clone, Copy)]
+struct Span {
+    start: Instant,
+    end: Instant,
+}
+
+/// What the clock shows.
+pub fn now(clock: &impl Clock) -> Result<Instant, BenchFault> {
+    match Instant::now(clock) {
+        Ok(instant) => Ok(instant),
+        Err(_) => Err(BenchFault::NoClock),
+    }
+}
+
+/// Does a job, once all threads have come.
+fn span_of<R: AllocGlobal + Clock>(
+    rt: &R,
+    gate: &Gate,
+    all: u64,
+    job: Job,
+    bytes: &[u8],
+) -> Result<Span, BenchFault> {
+    gate.come();
+    let _ = gate.wait(all);
+    let start = now(rt)?;
+    match job {
+        Job::Append(
+            SharedAppender {
+                queue,
+                mut appender,
+            },
+            count,
+        ) => {
+            append_all(&queue, &mut appender, bytes, count)?;
+        }
+        Job::Read(SharedTailer { queue, mut tailer }, count, looks) => {
+            read_all(rt.alloc(), &queue, &mut tailer, count, looks)?;
+        }
+    }
+    let end = now(rt)?;
+    Ok(Span { start, end })
+}
+
+/// Does each job on a thread of its own, with messages of these bytes, and answers the time from the first start to the last
+/// end. Where one of them met a fault, that is the answer.
+pub fn time_of<R: AllocGlobal + Clock + Threads + Sync>(
+    rt: &R,
+    jobs: Vec<Job>,
+    bytes: &[u8],
+) -> Result<Duration, BenchFault> {
+    let gate = Gate::new();
+    let all = jobs.len() as u64;
+    let spans = map_vec(
+        rt,
+        jobs,
+        &|job: Job| -> Result<Span, BenchFault> { span_of(rt, &gate, all, job, bytes) },
+    )?;
+    whole(spans)
+}
+
+/// From the first start to the last end.
+fn whole(spans: Vec<Result<Span, BenchFault>>) -> Result<Duration, BenchFault> {
+    let mut together: Option<Span> = None;
+    for span in spans {
+        let span = span?;
+        together = Some(match together {
+            None => span,
+            Some(Span { start, end }) => Span {
+                start: start.min(span.start),
+                end: end.max(span.end),
+            },
+        });
+    }
+    match together {
+        Some(Span { start, end }) => Ok(end.duration_since(start)),
+        None => Err(BenchFault::Missing),
+    }
+}

@@ -1,0 +1,133 @@
+//! A queue is saved as an image, and opened again from it.
+ghost use Rattle.std.specs.Prelude.{◌≡◌, None};
+ghost use Rattle.cq_words.specs.Values.{IsOf};
+
+use crate::appending::append_all;
+use crate::fault::BenchFault;
+use crate::figures::{Figure, Label, print_line};
+use crate::queues::{config_of, message_count, new_queue};
+use crate::reading::read_all;
+use crate::running::now;
+use crate::settings::Settings;
+use cq_append::Appender;
+use cq_image::{ImageRead, ReadFault, image};
+use cq_journal::laws::what_a_stopped_queue_holds_has_images;
+use cq_layout::Shape;
+use cq_model::{Contents, CycleList, Items, Message};
+use cq_shown::recover;
+use cq_tail::Tailer;
+use cq_words::{Caller, Queue};
+use std::alloc::{AllocError, Global};
+use std::rt::Clock;
+use std::time::Duration;
+
+/// The bytes of a message.
+const LENGTH: u32 = 64;
+
+/// A queue as an image, and the time that it took.
+#[derive(Drop)]
+struct Saved {
+    image: Vec<u8>,
+    time: Duration,
+}
+
+/// The image of the first cycle of a queue, which has not ended.
+fn stopped_image(alloc: Global, queue: Queue, caller: Caller) -> Result<Vec<u8>, BenchFault>
+    requires { IsOf queue caller }
+{
+    let stopped = queue.stop(caller);
+    let contents = recover(alloc, &stopped)?;
+    let shape = stopped.config().shape();
+    let Some(list) = contents.lists.as_slice().first() else {
+        return Err(BenchFault::Missing);
+    };
+    what_a_stopped_queue_holds_has_images();
+    Ok(image(alloc, list.cycle, shape, list.messages.as_slice(), false)?)
+}
+
+/// Appends so many messages to a new queue, stops it, and makes its image.
+fn save<R: AllocGlobal + Clock>(rt: &R, shape: Shape, count: u32) -> Result<Saved, BenchFault> {
+    let (queue, caller) = new_queue(rt.alloc(), shape)?;
+    let mut appender = Appender::new(caller);
+    let start = now(rt)?;
+    append_all(&queue, &mut appender, &[b'x'; LENGTH as usize], count)?;
+    let image = stopped_image(rt.alloc(), queue, appender.into_caller())?;
+    let time = now(rt)?.duration_since(start);
+    Ok(Saved { image, time })
+}
+
+/// The messages of the cycle of which this is the image.
+fn messages_of(alloc: Global, shape: Shape, image: &[u8]) -> Result<Items<Message>, BenchFault> {
+    match cq_image::read(alloc, 0, shape, image) {
+        Ok(ImageRead { messages, ended: _ }) => Ok(messages),
+        Err(ReadFault::Fault(_)) => Err(BenchFault::Missing),
+        Err(ReadFault::OutOfMemory) => Err(BenchFault::OutOfMemory),
+    }
+}
+
+/// What a queue holds whose first cycle has these messages.
+fn contents_of(alloc: Global, messages: Items<Message>) -> Result<Contents, AllocError> {
+    let lists = vec![in alloc; CycleList { cycle: 0, messages }]?;
+    Ok(Contents {
+        lists: Items::new(lists),
+        positions: Items::new(Vec::new(alloc)),
+    })
+}
+
+/// Reads an image, opens a queue with what it holds, and reads so many messages. Answers the time that it took.
+fn reopen_time<R: AllocGlobal + Clock>(
+    rt: &R,
+    shape: Shape,
+    image: &[u8],
+    count: u32,
+) -> Result<Duration, BenchFault> {
+    let start = now(rt)?;
+    let contents = contents_of(rt.alloc(), messages_of(rt.alloc(), shape, image)?)?;
+    let (queue, caller) = Queue::reopen(rt.alloc(), config_of(rt.alloc(), shape)?, &contents)?;
+    let mut tailer = Tailer::new(caller);
+    read_all(rt.alloc(), &queue, &mut tailer, count, 1)?;
+    Ok(now(rt)?.duration_since(start))
+}
+
+/// Measures how a queue is saved.
+pub fn print_save<R: AllocGlobal + Clock + Print>(
+    rt: &R,
+    settings: &Settings,
+) -> Result<(), BenchFault> {
+    let count = message_count(settings.shape, LENGTH);
+    let mut best = Duration::MAX;
+    for _ in 0..settings.repetitions {
+        best = best.min(save(rt, settings.shape, count)?.time);
+    }
+    print_messages(rt, settings, "save", count, best)
+}
+
+/// Measures how a queue is opened again.
+pub fn print_reopen<R: AllocGlobal + Clock + Print>(
+    rt: &R,
+    settings: &Settings,
+) -> Result<(), BenchFault> {
+    let count = message_count(settings.shape, LENGTH);
+    let image = save(rt, settings.shape, count)?.image;
+    let mut best = Duration::MAX;
+    for _ in 0..settings.repetitions {
+        best = best.min(reopen_time(rt, settings.shape, image.as_slice(), count)?);
+    }
+    print_messages(rt, settings, "reopen", count, best)
+}
+
+fn print_messages<R: Print>(
+    rt: &R,
+    settings: &Settings,
+    case: &str,
+    count: u32,
+    time: Duration,
+) -> Result<(), BenchFault> {
+    let label = Label {
+        case,
+        payload: LENGTH,
+        threads: "1",
+    };
+    let figure = Figure::rate(u64::from(count), time);
+    print_line(rt, settings, label, figure, "msg/s")
+}

@@ -1,0 +1,97 @@
+//! What a run is given: the shape of the queues, and how often and how long is measured.
+use crate::fault::BenchFault;
+use cq_layout::Shape;
+use std::env::{self, VarError};
+use std::rt::Env;
+use std::time::Duration;
+
+/// The shape where none is given.
+const SHAPE: &str = "1048576,256,16";
+
+/// What every case is given.
+#[derive(Clone, Copy)]
+pub struct Settings {
+    /// The shape of each queue's one cycle.
+    pub shape: Shape,
+    /// How often each case is measured. The best figure counts.
+    pub repetitions: u32,
+    /// How long random reads go on at least.
+    pub reading_time: Duration,
+    /// Whether it is only tried that each case runs: no figure is printed.
+    pub is_trial: bool,
+}
+
+/// A variable of the environment is not understood.
+#[derive(Debug, Drop, thiserror::Error)]
+pub enum SettingFault {
+    /// The shape is not three numbers within the limits of a shape.
+    #[error("CQ_SHAPE is no shape: CELLS,COUNT,SPACING")]
+    BadShape,
+    /// The repetitions are no number from 1 to 1,000.
+    #[error("REPS is no number from 1 to 1000")]
+    BadRepetitions,
+}
+
+impl Settings {
+    /// What the environment says: in `CQ_SHAPE` the cells of a cycle, the entries of a table and the spacing, and in `REPS`
+    /// how often each case is measured.
+    pub fn of_environment<R: AllocGlobal + Env>(rt: &R) -> Result<Settings, SettingFault> {
+        let Some(shape) = variable(rt, "CQ_SHAPE", SHAPE).and_then(|text| shape_of(text.as_str()))
+        else {
+            return Err(SettingFault::BadShape);
+        };
+        let Some(repetitions) = variable(rt, "REPS", "3").and_then(|text| repetitions_of(
+            text.as_str(),
+        )) else {
+            return Err(SettingFault::BadRepetitions);
+        };
+        Ok(Settings {
+            shape,
+            repetitions,
+            reading_time: Duration::from_millis(300),
+            is_trial: false,
+        })
+    }
+
+    /// A short run over small queues, without figures.
+    pub fn of_trial() -> Result<Settings, BenchFault> {
+        let Ok(shape) = Shape::new(8192, 32, 4) else {
+            return Err(BenchFault::NoQueue);
+        };
+        Ok(Settings {
+            shape,
+            repetitions: 1,
+            reading_time: Duration::ZERO,
+            is_trial: true,
+        })
+    }
+}
+
+/// A variable of the environment, or what it is where it is not there. Answers none where it is no text.
+fn variable<R: AllocGlobal + Env>(rt: &R, name: &str, otherwise: &str) -> Option<String> {
+    match env::var(rt, name) {
+        Ok(text) => Some(text),
+        Err(VarError::NotPresent) => String::from_str(rt.alloc(), otherwise).ok(),
+        Err(VarError::NotUnicode | VarError::OutOfMemory) => None,
+    }
+}
+
+/// The shape of three numbers.
+fn shape_of(text: &str) -> Option<Shape> {
+    let mut parts = text.split(',');
+    let cells = number_of(parts.next())?;
+    let count = number_of(parts.next())?;
+    let spacing = number_of(parts.next())?;
+    if parts.next().is_some() {
+        return None;
+    }
+    Shape::new(cells, count, spacing).ok()
+}
+
+fn number_of(text: Option<&str>) -> Option<u32> {
+    text?.parse::<u32>().ok()
+}
+
+fn repetitions_of(text: &str) -> Option<u32> {
+    number_of(Some(text)).filter(|count| 1 <= *count && *count <= 1000)
+}
