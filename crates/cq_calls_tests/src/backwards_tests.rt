@@ -19,7 +19,7 @@ const BETWEEN: u32 = 50;
 
 /// A message that was read: its index, and its number.
 #[derive(Clone, Copy, PartialEq, Eq)]
-struct Read {
+struct ReadMessage {
     index: u64,
     number: u32,
 }
@@ -65,7 +65,7 @@ fn append_all(queue: &Queue, appender: &mut Appender) -> bool
 }
 
 /// The next message that is read.
-fn read(alloc: Global, queue: &Queue, tailer: &mut Tailer) -> Option<Read>
+fn read(alloc: Global, queue: &Queue, tailer: &mut Tailer) -> Option<ReadMessage>
     requires { IsOf queue.now tailer.old.caller }
     ensures { IsOf queue.now tailer.new.caller }
 {
@@ -73,7 +73,7 @@ fn read(alloc: Global, queue: &Queue, tailer: &mut Tailer) -> Option<Read>
         return None;
     };
     match message.as_slice() {
-        [a, b, c, d, ..] => Some(Read {
+        [a, b, c, d, ..] => Some(ReadMessage {
             index: index.value(),
             number: u32::from_be_bytes([*a, *b, *c, *d]),
         }),
@@ -82,7 +82,11 @@ fn read(alloc: Global, queue: &Queue, tailer: &mut Tailer) -> Option<Read>
 }
 
 /// All messages from the start on.
-fn read_all(alloc: Global, queue: &Queue, tailer: &mut Tailer) -> Result<Vec<Read>, AllocError>
+fn read_all(
+    alloc: Global,
+    queue: &Queue,
+    tailer: &mut Tailer,
+) -> Result<Vec<ReadMessage>, AllocError>
     requires { IsOf queue.now tailer.old.caller }
     ensures { IsOf queue.now tailer.new.caller }
 {
@@ -97,7 +101,7 @@ fn read_all(alloc: Global, queue: &Queue, tailer: &mut Tailer) -> Result<Vec<Rea
 }
 
 /// Whether the tailer, which has read this message backwards, reads it again forwards and then backwards.
-fn turns(alloc: Global, queue: &Queue, tailer: &mut Tailer, last: Read) -> bool
+fn turns(alloc: Global, queue: &Queue, tailer: &mut Tailer, last: ReadMessage) -> bool
     requires { IsOf queue.now tailer.old.caller }
     ensures { IsOf queue.now tailer.new.caller }
 {
@@ -114,7 +118,7 @@ fn count_back(
     queue: &Queue,
     appender: &mut Appender,
     tailer: &mut Tailer,
-    mut all: Vec<Read>,
+    mut all: Vec<ReadMessage>,
 ) -> u32
     requires writer { IsOf queue.now appender.old }
     requires reader { IsOf queue.now tailer.old.caller }
