@@ -33,43 +33,40 @@ fn message_of(number: u32) -> ([u8; 12], usize) {
     )
 }
 
-/// Appends a message of this number on a day. Answers whether it was not refused.
-fn append(queue: &Queue, appender: &mut Appender, day: u64, number: u32) -> bool
+/// Appends a message of this number at a moment. Answers whether it was not refused.
+fn append(queue: &Queue, appender: &mut Appender, moment: u64, number: u32) -> bool
     requires { IsOf queue.now appender.old }
     ensures { IsOf queue.now appender.new }
 {
     let (bytes, len) = message_of(number);
     match bytes.get(..len) {
-        Some(message) => appender.append(queue, day * DAY, message).is_ok(),
+        Some(message) => appender.append(queue, moment, message).is_ok(),
         None => false,
     }
 }
 
-/// Appends the messages of days 0, 1 and 5, which begin cycles of their own, and begins the cycle of day 6. Answers whether
+/// Appends the messages of days 0, 1 and 5, each of which begins a cycle, and begins the cycle of day 6. Answers whether
 /// none was refused.
 fn append_all(queue: &Queue, appender: &mut Appender) -> bool
     requires { IsOf queue.now appender.old }
     ensures { IsOf queue.now appender.new }
 {
     for number in 0..3 * EACH {
-        let day = match number / EACH {
+        let moment = match number / EACH {
             0 => 0,
-            1 => 1,
-            _ => 5,
+            1 => DAY,
+            _ => 5 * DAY,
         };
-        if !append(queue, appender, day, number) {
+        if !append(queue, appender, moment, number) {
             return false;
         }
     }
     appender.advance(queue, 6 * DAY).is_ok()
 }
 
-/// The next message that is read.
-fn read(alloc: Global, queue: &Queue, tailer: &mut Tailer) -> Option<ReadMessage>
-    requires { IsOf queue.now tailer.old.caller }
-    ensures { IsOf queue.now tailer.new.caller }
-{
-    let Ok(Found::Message(index, message)) = tailer.next(alloc, queue) else {
+/// The message that was found, if one was.
+fn message_in(found: &Result<Found, AllocError>) -> Option<ReadMessage> {
+    let Ok(Found::Message(index, message)) = found else {
         return None;
     };
     match message.as_slice() {
@@ -79,6 +76,14 @@ fn read(alloc: Global, queue: &Queue, tailer: &mut Tailer) -> Option<ReadMessage
         }),
         _ => None,
     }
+}
+
+/// The next message that is read.
+fn read(alloc: Global, queue: &Queue, tailer: &mut Tailer) -> Option<ReadMessage>
+    requires { IsOf queue.now tailer.old.caller }
+    ensures { IsOf queue.now tailer.new.caller }
+{
+    message_in(&tailer.next(alloc, queue))
 }
 
 /// All messages from the start on.
@@ -112,6 +117,29 @@ fn turns(alloc: Global, queue: &Queue, tailer: &mut Tailer, last: ReadMessage) -
     forwards == Some(last) && backwards == Some(last)
 }
 
+/// Behind each 50th message that was read backwards, reads it again and appends another. Answers whether all is well.
+fn is_well_between(
+    alloc: Global,
+    queue: &Queue,
+    appender: &mut Appender,
+    tailer: &mut Tailer,
+    count: u32,
+    last: ReadMessage,
+) -> bool
+    requires writer { IsOf queue.now appender.old }
+    requires reader { IsOf queue.now tailer.old.caller }
+    ensures writer { IsOf queue.now appender.new }
+    ensures reader { IsOf queue.now tailer.new.caller }
+{
+    if count % BETWEEN != 0 {
+        return true;
+    }
+    if !turns(alloc, queue, tailer, last) {
+        return false;
+    }
+    append(queue, appender, 6 * DAY, count)
+}
+
 /// How many messages the tailer reads backwards that are those that were read, from the last one down.
 fn count_back(
     alloc: Global,
@@ -122,21 +150,18 @@ fn count_back(
 ) -> u32
     requires writer { IsOf queue.now appender.old }
     requires reader { IsOf queue.now tailer.old.caller }
+    ensures { IsOf queue.now tailer.new.caller }
 {
     tailer.direction(Direction::Backwards);
     for count in 0..4 * EACH {
-        let last = all.pop();
-        if last.is_none() || read(alloc, queue, tailer) != last {
+        let Some(last) = all.pop() else {
+            return count;
+        };
+        if read(alloc, queue, tailer) != Some(last) {
             return count;
         }
-        if count % BETWEEN == 0 {
-            let well = match last {
-                Some(last) => turns(alloc, queue, tailer, last),
-                None => false,
-            };
-            if !well || !append(queue, appender, 6, count) {
-                return count;
-            }
+        if !is_well_between(alloc, queue, appender, tailer, count, last) {
+            return count;
         }
     }
     0
