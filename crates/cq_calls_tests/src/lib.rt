@@ -8,6 +8,8 @@ mod numbering;
 pub use numbering::is_numbered;
 
 #[cfg(test)]
+mod backwards_tests;
+#[cfg(test)]
 mod claim_tests;
 #[cfg(test)]
 mod cycle_tests;
