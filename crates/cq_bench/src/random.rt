@@ -63,7 +63,7 @@ fn read_batch(
         let index = Index::new(0, numbers.below(count));
         match tailer.read_at(alloc, queue, index)? {
             At::Message(_message) => {}
-            At::NotYet | At::Never => return Err(BenchFault::Missing),
+            At::NotYet | At::Never | At::Gone => return Err(BenchFault::Missing),
         }
     }
     Ok(())

@@ -71,6 +71,7 @@ fn contents_of(alloc: Global, messages: Items<Message>) -> Result<Contents, Allo
     Ok(Contents {
         lists: Items::new(lists),
         positions: Items::new(Vec::new(alloc)),
+        floor: 0,
     })
 }
 

@@ -1,11 +1,15 @@
 //! Runs each caller once.
 
+ghost use Rattle.std.specs.Prelude.{◌≡◌, None};
 ghost use Rattle.cq_words.specs.Values.{IsOf};
 
-use crate::{append_beside, append_then_read, append_written, next_message, reopened, take_next};
+use crate::{
+    append_beside, append_then_read, append_written, copied, drop_old, next_message, reopened,
+    take_next,
+};
 use cq_append::Appender;
 use cq_cycle::Index;
-use cq_fixtures::{message_text, small_config};
+use cq_fixtures::{DAY, message_text, small_config};
 use cq_model::Message;
 use cq_tail::Tailer;
 use cq_words::{Caller, Queue};
@@ -82,5 +86,51 @@ fn a_queue_is_opened_again(rt: HostRuntime) -> Result<(), Fail> {
     let appender = Appender::new(queue.split(&mut caller));
     let (_appender, _index) = append_written(&queue, appender, 0, 20, b"hello");
     assert_eq!(rt; read_again(alloc, queue, caller)?.as_str(), "0 hello");
+    Ok(())
+}
+
+/// What is read first of a copy of a queue.
+fn read_copy(alloc: Global, queue: &Queue, caller: Caller) -> Result<String, Fail>
+    requires of { IsOf queue.now caller }
+    requires claim { caller.view.claim ≡ None }
+{
+    let mut tailer = Tailer::new(caller);
+    let (copy, caller) = copied(alloc, small_config(alloc, 4)?, queue, &mut tailer)?;
+    let mut reader = Tailer::new(caller);
+    let read = next_message(alloc, &copy, &mut reader)?;
+    answer_text(alloc, read)
+}
+
+#[test]
+fn a_queue_is_copied(rt: HostRuntime) -> Result<(), Fail> {
+    let alloc = rt.alloc();
+    let (queue, mut caller) = Queue::create(alloc, small_config(alloc, 4)?, 0)?;
+    let appender = Appender::new(queue.split(&mut caller));
+    let (_appender, _index) = append_written(&queue, appender, 0, 20, b"hello");
+    assert_eq!(rt; read_copy(alloc, &queue, caller)?.as_str(), "0 hello");
+    Ok(())
+}
+
+/// Drops all cycles but the last of a queue, and reads what comes first then.
+fn read_behind(alloc: Global, queue: &Queue, caller: Caller) -> Result<(u32, String), Fail>
+    requires of { IsOf queue.now caller }
+    requires claim { caller.view.claim ≡ None }
+{
+    let mut tailer = Tailer::new(caller);
+    let floor = drop_old(queue, &mut tailer, 0);
+    tailer.to_start();
+    let read = next_message(alloc, queue, &mut tailer)?;
+    Ok((floor, answer_text(alloc, read)?))
+}
+
+#[test]
+fn old_cycles_are_dropped(rt: HostRuntime) -> Result<(), Fail> {
+    let alloc = rt.alloc();
+    let (queue, mut caller) = Queue::create(alloc, small_config(alloc, 4)?, 0)?;
+    let mut appender = Appender::new(queue.split(&mut caller));
+    assert!(rt; appender.append(&queue, 0, b"old").is_ok());
+    assert!(rt; appender.append(&queue, 5 * DAY, b"new").is_ok());
+    let (floor, read) = read_behind(alloc, &queue, caller)?;
+    assert_eq!(rt; (floor, read.as_str()), (5, "21474836480 new"));
     Ok(())
 }

@@ -3,12 +3,16 @@
 
 #[cfg(test)]
 mod caller_tests;
+mod copying;
+mod dropping;
 mod reading;
 mod sharing;
 mod stopping;
 mod taking;
 mod writing;
 
+pub use copying::copied;
+pub use dropping::drop_old;
 pub use reading::next_message;
 pub use sharing::append_beside;
 pub use stopping::reopened;

@@ -10,9 +10,17 @@ pub use numbering::is_numbered;
 #[cfg(test)]
 mod backwards_tests;
 #[cfg(test)]
+mod beginnings;
+#[cfg(test)]
 mod claim_tests;
 #[cfg(test)]
 mod cycle_tests;
+#[cfg(test)]
+mod dropping_tests;
+#[cfg(test)]
+mod floor_tests;
+#[cfg(test)]
+mod growing_tests;
 #[cfg(test)]
 mod hint_tests;
 #[cfg(test)]
@@ -27,6 +35,8 @@ mod message_tests;
 mod parts_tests;
 #[cfg(test)]
 mod queues;
+#[cfg(test)]
+mod snapshot_tests;
 #[cfg(test)]
 mod stopping_tests;
 #[cfg(test)]

@@ -7,7 +7,7 @@ use Rattle.clap.specs.declared.builder.command.Command.TheViews.{out-Command}
 use Rattle.clap.specs.declared.builder.ArgAction.TheVariants.{Append, Set, SetTrue}
 use Rattle.clap.specs.declared.builder.value_parser.ValueParser.TheVariants.{Unsigned}
 use Rattle.cq_orders.specs.declared.order.Order.{Order}
-use Rattle.cq_orders.specs.declared.order.Order.TheVariants.{Echo, Cycle, Init, Write, Read, Take, Check, Dump}
+use Rattle.cq_orders.specs.declared.order.Order.TheVariants.{Echo, Cycle, Init, Write, Read, Take, Check, Dump, Salvage, Race, DropBefore}
 
 -- the word that names the command
 abbrev pub word_of : Order → List ℕ
@@ -17,15 +17,21 @@ word_of (Init folder settings) = codes "init"
 word_of (Write folder moment) = codes "write"
 word_of (Read folder back begin) = codes "read"
 word_of (Take folder name) = codes "take"
+word_of (DropBefore folder cycle) = codes "drop"
 word_of (Check folder) = codes "check"
 word_of (Dump folder file) = codes "dump"
+word_of (Salvage folder file) = codes "salvage"
+word_of (Race messages) = codes "race"
 
--- an argument that is to be given: any word, or a number below 2^64
+-- an argument that is to be given: any word, a number below 2^64, or one between two others
 abbrev pub word_rule : List ℕ → Rule
 word_rule name = record (new_rule name) { required = true; action = Some Set }
 
 abbrev pub number_rule : List ℕ → Rule
 number_rule name = record (word_rule name) { parser = Some (Unsigned 0 (2 ^ 64 - 1)) }
+
+abbrev pub between_rule : List ℕ → ℕ → ℕ → Rule
+between_rule name low high = record (word_rule name) { parser = Some (Unsigned low high) }
 
 -- any number of words, none too
 abbrev pub words_rule : List ℕ → Rule
@@ -48,6 +54,9 @@ echo_command = new_app (codes "echo")
 abbrev pub cycle_command : App
 cycle_command =
     with_rule (with_rule (with_rule (new_app (codes "cycle")) (word_rule (codes "ROLL"))) (number_rule (codes "EPOCH"))) (number_rule (codes "MOMENT"))
+
+abbrev pub race_command : App
+race_command = with_rule (new_app (codes "race")) (between_rule (codes "MESSAGES") 1 1000)
 
 -- a queue's folder, its roll and its epoch; then the sizes of the queue; then the names of its tailers
 abbrev pub init_place : App
@@ -72,21 +81,28 @@ read_command =
 abbrev pub take_command : App
 take_command = with_rule (with_rule (new_app (codes "take")) (word_rule (codes "DIR"))) (word_rule (codes "NAME"))
 
+abbrev pub drop_command : App
+drop_command = with_rule (with_rule (new_app (codes "drop")) (word_rule (codes "DIR"))) (number_rule (codes "CYCLE"))
+
 abbrev pub check_command : App
 check_command = with_rule (new_app (codes "check")) (word_rule (codes "DIR"))
 
 abbrev pub dump_command : App
 dump_command = with_rule (with_rule (new_app (codes "dump")) (word_rule (codes "DIR"))) (word_rule (codes "FILE"))
 
+abbrev pub salvage_command : App
+salvage_command = with_rule (with_rule (new_app (codes "salvage")) (word_rule (codes "DIR"))) (word_rule (codes "FILE"))
+
 -- the commands that need no queue
+-- the commands that need no folder
 abbrev pub plain_commands : App → App
-plain_commands app = with_subcommand (with_subcommand app echo_command.top) cycle_command.top
+plain_commands app = with_subcommand (with_subcommand (with_subcommand app echo_command.top) cycle_command.top) race_command.top
 
 -- the commands on a queue that is stored in a folder
 abbrev pub queue_commands : App → App
 queue_commands app =
-    with_subcommand (with_subcommand (with_subcommand (with_subcommand (with_subcommand (with_subcommand app init_command.top) write_command.top) read_command.top) take_command.top)
-    check_command.top) dump_command.top
+    with_subcommand (with_subcommand (with_subcommand (with_subcommand (with_subcommand (with_subcommand (with_subcommand (with_subcommand app init_command.top) write_command.top) read_command.top) take_command.top)
+    drop_command.top) check_command.top) dump_command.top) salvage_command.top
 
 -- the program with all its commands
 abbrev pub command_line : App

@@ -2,12 +2,13 @@
 ghost use Rattle.std.specs.Prelude.{IfOk, codes};
 ghost use Rattle.clap.specs.Words.{App, with_subcommand};
 ghost use Rattle.cq_command_line.specs.CommandLine.{Follows, Makes};
-ghost use Rattle.cq_command_line.specs.CommandLine.{check_command, command_line, cycle_command, dump_command};
+ghost use Rattle.cq_command_line.specs.CommandLine.{check_command, command_line, cycle_command, drop_command, dump_command};
 ghost use Rattle.cq_command_line.specs.CommandLine.{echo_command, init_command};
 ghost use Rattle.cq_command_line.specs.CommandLine.{init_place, plain_commands, queue_commands, read_command};
-ghost use Rattle.cq_command_line.specs.CommandLine.{take_command, with_sizes, write_command};
-ghost use Rattle.cq_command_line.specs.CommandLine.{flag_rule, number_rule, option_rule, word_rule, words_rule};
+ghost use Rattle.cq_command_line.specs.CommandLine.{salvage_command, take_command, with_sizes, write_command, race_command};
+ghost use Rattle.cq_command_line.specs.CommandLine.{flag_rule, number_rule, option_rule, word_rule, words_rule, between_rule};
 
+use clap::builder::ValueParser;
 use clap::{Arg, ArgAction, Command, value_parser};
 use std::alloc::{AllocError, Global};
 
@@ -21,12 +22,13 @@ pub(crate) fn command_line<'a>(alloc: Global) -> Result<Command<'a>, AllocError>
     queue_commands(alloc, plain_commands(alloc, program))
 }
 
-/// The program with the commands that need no queue.
+/// The program with the commands that need no folder.
 fn plain_commands<'a>(alloc: Global, program: Command<'a>) -> Result<Command<'a>, AllocError>
     ensures { (app : App) → Makes program.entry app → IfOk result (λ made. Makes made (plain_commands app)) }
 {
     let program = with_subcommand(Ok(program), Ok(echo_command(alloc)));
-    with_subcommand(program, cycle_command(alloc))
+    let program = with_subcommand(program, cycle_command(alloc));
+    with_subcommand(program, race_command(alloc))
 }
 
 /// The program with the commands on a queue that is stored in a folder.
@@ -41,8 +43,10 @@ fn queue_commands<'a>(
     let program = with_subcommand(program, write_command(alloc));
     let program = with_subcommand(program, read_command(alloc));
     let program = with_subcommand(program, take_command(alloc));
+    let program = with_subcommand(program, drop_command(alloc));
     let program = with_subcommand(program, check_command(alloc));
-    with_subcommand(program, dump_command(alloc))
+    let program = with_subcommand(program, dump_command(alloc));
+    with_subcommand(program, salvage_command(alloc))
 }
 
 /// A command with another one below it, where both could be made.
@@ -81,6 +85,26 @@ fn cycle_command<'a>(alloc: Global) -> Result<Command<'a>, AllocError>
             "MOMENT",
             "The moment, in milliseconds of Unix time: from EPOCH to 253,402,300,799,999,\n\
              and in a cycle up to 2,147,483,646",
+        ))
+}
+
+fn race_command<'a>(alloc: Global) -> Result<Command<'a>, AllocError>
+    ensures { IfOk result (λ command. Makes command race_command) }
+{
+    Command::new(alloc, "race")
+        .about("Lets two appenders and two tailers share a new queue, each in a thread of its own")
+        .after_help(
+            "Prints 'writer W: K in order' for the writers 0 and 1: both readers read the first K\n\
+             messages of the writer in their order, and not one more. Then 'reader R: K read' for\n\
+             the readers 0 and 1, where K is how many messages the reader read.\n\n\
+             Example:\n  cq race 1000",
+        )
+        .arg(between(
+            alloc,
+            "MESSAGES",
+            1,
+            1000,
+            "How many messages each writer appends: from 1 to 1,000",
         ))
 }
 
@@ -182,6 +206,20 @@ fn take_command<'a>(alloc: Global) -> Result<Command<'a>, AllocError>
         ))
 }
 
+fn drop_command<'a>(alloc: Global) -> Result<Command<'a>, AllocError>
+    ensures { IfOk result (λ command. Makes command drop_command) }
+{
+    Command::new(alloc, "drop")
+        .about("Lets reads pass over old cycles, and prints the first one that they look at")
+        .after_help("Example:\n  cq drop journal 20005")
+        .arg(folder(alloc))?
+        .arg(number(
+            alloc,
+            "CYCLE",
+            "Reads pass over the cycles before this one. One above the last cycle counts as that",
+        ))
+}
+
 fn check_command<'a>(alloc: Global) -> Result<Command<'a>, AllocError>
     ensures { IfOk result (λ command. Makes command check_command) }
 {
@@ -198,11 +236,17 @@ fn dump_command<'a>(alloc: Global) -> Result<Command<'a>, AllocError>
         .about("Prints the records of an image")
         .after_help("Example:\n  cq dump journal $(date -u +%Y%m%d).cqi")
         .arg(folder(alloc))?
-        .arg(word(
-            alloc,
-            "FILE",
-            "The image's file in DIR: yyyyMMdd.cqi, yyyyMMdd-HH.cqi or yyyyMMdd-HHmm.cqi, by the roll",
-        ))
+        .arg(image_file(alloc))
+}
+
+fn salvage_command<'a>(alloc: Global) -> Result<Command<'a>, AllocError>
+    ensures { IfOk result (λ command. Makes command salvage_command) }
+{
+    Command::new(alloc, "salvage")
+        .about("Prints the messages in front of what is wrong with an image, and what that is")
+        .after_help("Example:\n  cq salvage journal $(date -u +%Y%m%d).cqi")
+        .arg(folder(alloc))?
+        .arg(image_file(alloc))
 }
 
 fn folder<'a>(alloc: Global) -> Arg<'a>
@@ -212,6 +256,16 @@ fn folder<'a>(alloc: Global) -> Arg<'a>
         alloc,
         "DIR",
         "The folder of the queue, which is there already",
+    )
+}
+
+fn image_file<'a>(alloc: Global) -> Arg<'a>
+    ensures { Follows result (word_rule (codes "FILE")) }
+{
+    word(
+        alloc,
+        "FILE",
+        "The image's file in DIR: yyyyMMdd.cqi, yyyyMMdd-HH.cqi or yyyyMMdd-HHmm.cqi, by the roll",
     )
 }
 
@@ -250,6 +304,13 @@ fn number<'a>(alloc: Global, name: &'a str, help: &'a str) -> Arg<'a>
     ensures { Follows result (number_rule name.entry.now) }
 {
     word(alloc, name, help).value_parser(value_parser!(u64))
+}
+
+/// A number between these two that is to be given.
+fn between<'a>(alloc: Global, name: &'a str, low: u64, high: u64, help: &'a str) -> Arg<'a>
+    ensures { Follows result (between_rule name.entry.now low high) }
+{
+    word(alloc, name, help).value_parser(ValueParser::unsigned(low, high))
 }
 
 /// Any number of arguments, none too, behind all others.

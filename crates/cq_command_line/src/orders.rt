@@ -50,8 +50,11 @@ fn order_named(alloc: Global, name: &str, values: &ArgMatches<'_>) -> Result<Ord
         "write" => write_order(alloc, values),
         "read" => read_order(alloc, values),
         "take" => take_order(alloc, values),
+        "drop" => drop_order(alloc, values),
         "check" => check_order(alloc, values),
         "dump" => dump_order(alloc, values),
+        "salvage" => salvage_order(alloc, values),
+        "race" => race_order(values),
         _ => Err(OrderFault::NoOrder),
     }
 }
@@ -123,6 +126,16 @@ fn take_order(alloc: Global, values: &ArgMatches<'_>) -> Result<Order, OrderFaul
     })
 }
 
+fn drop_order(alloc: Global, values: &ArgMatches<'_>) -> Result<Order, OrderFault>
+    ensures named { IfOk result (λ order. word_of order ≡ codes "drop") }
+    ensures values { IfOk result (λ order. TakesValues (rows_of (found_of values.now)) order) }
+{
+    Ok(Order::DropBefore {
+        folder: word(alloc, values, "DIR")?,
+        cycle: number(values, "CYCLE")?,
+    })
+}
+
 fn check_order(alloc: Global, values: &ArgMatches<'_>) -> Result<Order, OrderFault>
     ensures named { IfOk result (λ order. word_of order ≡ codes "check") }
     ensures values { IfOk result (λ order. TakesValues (rows_of (found_of values.now)) order) }
@@ -140,6 +153,26 @@ fn dump_order(alloc: Global, values: &ArgMatches<'_>) -> Result<Order, OrderFaul
         folder: word(alloc, values, "DIR")?,
         file: word(alloc, values, "FILE")?,
     })
+}
+
+fn salvage_order(alloc: Global, values: &ArgMatches<'_>) -> Result<Order, OrderFault>
+    ensures named { IfOk result (λ order. word_of order ≡ codes "salvage") }
+    ensures values { IfOk result (λ order. TakesValues (rows_of (found_of values.now)) order) }
+{
+    Ok(Order::Salvage {
+        folder: word(alloc, values, "DIR")?,
+        file: word(alloc, values, "FILE")?,
+    })
+}
+
+fn race_order(values: &ArgMatches<'_>) -> Result<Order, OrderFault>
+    ensures named { IfOk result (λ order. word_of order ≡ codes "race") }
+    ensures values { IfOk result (λ order. TakesValues (rows_of (found_of values.now)) order) }
+{
+    match u32::try_from(number(values, "MESSAGES")?) {
+        Ok(messages) => Ok(Order::Race { messages }),
+        Err(_) => Err(OrderFault::NoOrder),
+    }
 }
 
 /// The word that was given under this name.

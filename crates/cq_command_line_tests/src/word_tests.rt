@@ -198,7 +198,7 @@ fn parses_the_words_of_a_reader(rt: HostRuntime) -> Result<(), Fail> {
 
 #[test]
 fn parses_the_words_of_other_commands(rt: HostRuntime) -> Result<(), Fail> {
-    let table: [(&[&str], &str); 21] = [
+    let table: [(&[&str], &str); 30] = [
         (
             &["cq", "write", "q", "18446744073709551615"],
             "Write { folder: \"q\", moment: 18446744073709551615 }",
@@ -226,6 +226,20 @@ fn parses_the_words_of_other_commands(rt: HostRuntime) -> Result<(), Fail> {
         (&["cq", "take", "q"], "<NAME>"),
         (&["cq", "take", "q", "r", "s"], "unexpected argument 's'"),
         (&["cq", "take", "--help"], "Usage: cq take <DIR> <NAME>"),
+        (
+            &["cq", "drop", "q", "20009"],
+            "DropBefore { folder: \"q\", cycle: 20009 }",
+        ),
+        (&["cq", "drop", "q"], "<CYCLE>"),
+        (
+            &["cq", "drop", "q", "20241009"],
+            "DropBefore { folder: \"q\", cycle: 20241009 }",
+        ),
+        (
+            &["cq", "drop", "q", "18446744073709551616"],
+            "invalid value '18446744073709551616' for '<CYCLE>'",
+        ),
+        (&["cq", "drop", "--help"], "Usage: cq drop <DIR> <CYCLE>"),
         (&["cq", "check", "q"], "Check { folder: \"q\" }"),
         (&["cq", "check", " "], "Check { folder: \" \" }"),
         (&["cq", "check"], "<DIR>"),
@@ -238,8 +252,62 @@ fn parses_the_words_of_other_commands(rt: HostRuntime) -> Result<(), Fail> {
         (&["cq", "dump", "q"], "<FILE>"),
         (&["cq", "dump", "q", "r", "s"], "unexpected argument 's'"),
         (&["cq", "dump", "--help"], "Usage: cq dump <DIR> <FILE>"),
+        (
+            &["cq", "salvage", "q", "../x"],
+            "Salvage { folder: \"q\", file: \"../x\" }",
+        ),
+        (&["cq", "salvage", "q"], "<FILE>"),
+        (&["cq", "salvage", "q", "r", "s"], "unexpected argument 's'"),
+        (
+            &["cq", "salvage", "--help"],
+            "Usage: cq salvage <DIR> <FILE>",
+        ),
     ];
     expect(&rt, table.as_slice())
+}
+
+#[test]
+fn parses_the_words_of_a_race(rt: HostRuntime) -> Result<(), Fail> {
+    let table: [(&[&str], &str); 9] = [
+        (&["cq", "race", "1"], "Race { messages: 1 }"),
+        (&["cq", "race", "1000"], "Race { messages: 1000 }"),
+        (&["cq", "race", "007"], "Race { messages: 7 }"),
+        (&["cq", "race", "0"], "invalid value '0' for '<MESSAGES>'"),
+        (
+            &["cq", "race", "1001"],
+            "invalid value '1001' for '<MESSAGES>'",
+        ),
+        (
+            &["cq", "race", "4294967297"],
+            "invalid value '4294967297' for '<MESSAGES>'",
+        ),
+        (
+            &["cq", "race", "ten"],
+            "invalid value 'ten' for '<MESSAGES>'",
+        ),
+        (&["cq", "race"], "<MESSAGES>"),
+        (&["cq", "race", "1", "2"], "unexpected argument '2'"),
+    ];
+    expect(&rt, table.as_slice())
+}
+
+#[test]
+fn help_says_what_a_race_prints(rt: HostRuntime) -> Result<(), Fail> {
+    let table = [
+        ("race", "Usage: cq race <MESSAGES>"),
+        (
+            "race",
+            " <MESSAGES>  How many messages each writer appends: from 1 to 1,000\n",
+        ),
+        (
+            "race",
+            "Prints 'writer W: K in order' for the writers 0 and 1: both readers read the first K\n\
+             messages of the writer in their order, and not one more. Then 'reader R: K read' for\n\
+             the readers 0 and 1, where K is how many messages the reader read.\n",
+        ),
+        ("race", "Example:\n  cq race 1000\n"),
+    ];
+    expect_help(&rt, table.as_slice())
 }
 
 #[test]
@@ -326,11 +394,19 @@ fn help_names_the_limits_of_other_words(rt: HostRuntime) -> Result<(), Fail> {
             " <NAME>  The name of the tailer: one of the NAMES that the queue was made with\n",
         ),
         (
+            "drop",
+            " <CYCLE>  Reads pass over the cycles before this one. One above the last cycle counts as that\n",
+        ),
+        (
             "check",
             " <DIR>  The folder of the queue, which is there already\n",
         ),
         (
             "dump",
+            " <FILE>  The image's file in DIR: yyyyMMdd.cqi, yyyyMMdd-HH.cqi or yyyyMMdd-HHmm.cqi, by the roll\n",
+        ),
+        (
+            "salvage",
             " <FILE>  The image's file in DIR: yyyyMMdd.cqi, yyyyMMdd-HH.cqi or yyyyMMdd-HHmm.cqi, by the roll\n",
         ),
     ];
@@ -355,10 +431,15 @@ fn help_gives_an_example(rt: HostRuntime) -> Result<(), Fail> {
             "Example:\n  cq read journal --from 00004e2000000000\n",
         ),
         ("take", "Example:\n  cq take journal reader\n"),
+        ("drop", "Example:\n  cq drop journal 20005\n"),
         ("check", "Example:\n  cq check journal\n"),
         (
             "dump",
             "Example:\n  cq dump journal $(date -u +%Y%m%d).cqi\n",
+        ),
+        (
+            "salvage",
+            "Example:\n  cq salvage journal $(date -u +%Y%m%d).cqi\n",
         ),
     ];
     expect_help(&rt, table.as_slice())

@@ -13,7 +13,7 @@ use Rattle.cq_tail.specs.declared.error.TakeFault.{TakeFault}
 use Rattle.cq_tail.specs.declared.error.TakeFault.TheVariants as take
 use Rattle.cq_files.specs.declared.opening.CycleImage.{CycleImage}
 use Rattle.cq_files.specs.declared.opening.SavedQueue.{SavedQueue}
-use Rattle.cq_files.specs.FolderFaults.{HasCause, IsQueueFault, IsSaveFault}
+use Rattle.cq_files.specs.FolderFaults.{IsQueueFault, IsSaveFault}
 use Rattle.cq_commands.specs.Messages.{IsReadOut, IsStart}
 use Rattle.cq_files.specs.Queue.{CanBeOpened, HoldQueue, IsLawfulQueue, contents_in}
 use Rattle.cq_text.specs.declared.fault.ToolFault.{ToolFault}

@@ -157,8 +157,10 @@ enum Asked {
     Write(u64),
     Read(bool, Option<&'static str>),
     Take(&'static str),
+    Drop(u64),
     Check,
     Dump(&'static str),
+    Salvage(&'static str),
 }
 
 /// The order, for a folder without a name.
@@ -180,10 +182,18 @@ fn order_of(alloc: Global, asked: Asked) -> Result<Order, AllocError> {
             name: String::from_str(alloc, name)?,
             folder: String::new(alloc),
         },
+        Asked::Drop(cycle) => Order::DropBefore {
+            folder: String::new(alloc),
+            cycle,
+        },
         Asked::Check => Order::Check {
             folder: String::new(alloc),
         },
         Asked::Dump(file) => Order::Dump {
+            file: String::from_str(alloc, file)?,
+            folder: String::new(alloc),
+        },
+        Asked::Salvage(file) => Order::Salvage {
             file: String::from_str(alloc, file)?,
             folder: String::new(alloc),
         },
@@ -222,7 +232,10 @@ fn read_order(alloc: Global, back: bool, from: Option<&str>) -> Result<Order, Al
 fn ran<F: Folder>(alloc: Global, folder: &mut F, order: &Order) -> Result<String, Fail> {
     let mut output = Vec::new(alloc);
     let mut rest: &[u8] = b"hello\n";
-    let done = run(alloc, order, folder, &mut rest, &mut output);
+    let done = match order {
+        Order::Race { messages: _ } => return Ok(String::from_str(alloc, "not for one caller")?),
+        _ => run(alloc, order, folder, &mut rest, &mut output),
+    };
     said(alloc, done, &output)
 }
 
@@ -238,7 +251,7 @@ fn ran_behind(alloc: Global, before: &[Step], asked: Asked) -> Result<String, Fa
 /// A queue with "hello" in cycle 1.
 const HELLO: &[Step] = &[Step::Queue(4), Step::Write(DAY, b"hello\n")];
 
-static ORDERS: [(&[Step], Asked, &str); 9] = [
+static ORDERS: [(&[Step], Asked, &str); 11] = [
     (&[], Asked::Echo, "0 hello\n|cq: no queue here"),
     (
         &[],
@@ -268,6 +281,11 @@ static ORDERS: [(&[Step], Asked, &str); 9] = [
     ),
     (
         HELLO,
+        Asked::Drop(1),
+        "1\n|19700102.cqi: 1 messages, open\n",
+    ),
+    (
+        HELLO,
         Asked::Check,
         "19700102.cqi: 1 messages, open\n|19700102.cqi: 1 messages, open\n",
     ),
@@ -277,6 +295,11 @@ static ORDERS: [(&[Step], Asked, &str); 9] = [
         "00000000 40000018 store 1 1 8 1 64\n0000001c 40000020 top 64 0 0 0 0 0 0 0\n\
 00000040 40000020 table 0 100 0 0 0 0 0 0 0\n00000064 00000005 data 0 68656c6c6f\n|\
 19700102.cqi: 1 messages, open\n",
+    ),
+    (
+        HELLO,
+        Asked::Salvage("19700102.cqi"),
+        "0 hello\nwhole\n|19700102.cqi: 1 messages, open\n",
     ),
 ];
 

@@ -1,5 +1,7 @@
 //! Which fault is answered, and what the folder holds then.
-use crate::steps::{DAY, Failing, MOST_BYTES, Step, expect, expect_each, expect_failing, said_by};
+use crate::steps::{
+    DAY, Failing, MOST_BYTES, Step, Unprinted, expect, expect_each, expect_failing, said_by,
+};
 use cq_folder::MemoryFolder;
 use std::alloc::Global;
 use std::test::Fail;
@@ -207,14 +209,14 @@ fn tells_that_a_file_is_none_first(rt: HostRuntime) -> Result<(), Fail> {
 static STREAMS: [(Step, &str); 5] = [
     (Step::Queue(1), ""),
     // The input comes before the moment, and its end before its lines.
-    (Step::WriteBroken(u64::MAX), "cq: read fault"),
+    (Step::WriteBroken(u64::MAX, 0), "cq: read fault"),
     (
         Step::WriteEmpty(u64::MAX, MOST_BYTES + 1),
         "cq: input too long",
     ),
     // An end that is wrong comes before the input.
     (Step::Put("19700101.cqi", &[0, 0, 0, 0xc0]), ""),
-    (Step::WriteBroken(0), "cq: 19700101.cqi: wrong end"),
+    (Step::WriteBroken(0, 0), "cq: 19700101.cqi: wrong end"),
 ];
 
 #[test]
@@ -224,7 +226,7 @@ fn tells_the_first_fault_of_streams(rt: HostRuntime) -> Result<(), Fail> {
 
 static UNPRINTED: Failing = Failing {
     before: &[Step::Queue(1)],
-    step: Step::WriteUnprinted,
+    step: Step::Unprinted(Unprinted::Write),
     after: &[Step::Check],
     table: &[
         (4, "cq: file fault: 19700101.cqi", ""),

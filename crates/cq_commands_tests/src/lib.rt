@@ -6,6 +6,8 @@
 #[cfg(test)]
 mod command_tests;
 #[cfg(test)]
+mod drop_tests;
+#[cfg(test)]
 mod echo_tests;
 #[cfg(test)]
 mod falling;
@@ -15,6 +17,10 @@ mod falling_tests;
 mod fault_tests;
 #[cfg(test)]
 mod limit_tests;
+#[cfg(test)]
+mod pair_tests;
+#[cfg(test)]
+mod salvage_tests;
 #[cfg(test)]
 mod steps;
 #[cfg(test)]

@@ -1,6 +1,8 @@
 //! Steps over a folder in memory, and what is said at each.
-use crate::streams::{Broken, said};
-use cq_commands::{InitSettings, check, dump, init, read, take, write};
+use crate::streams::{Broken, BrokenBehind, said};
+use cq_commands::{
+    InitSettings, ToolFault, check, drop_before, dump, init, read, salvage, take, write,
+};
 use cq_fixtures::push_missed;
 use cq_folder::{FailingFolder, Folder, FolderFault, MemoryFolder};
 use std::alloc::{AllocError, Global};
@@ -25,18 +27,22 @@ pub enum Step {
     Write(u64, &'static [u8]),
     /// `write` of so many empty lines at a moment.
     WriteEmpty(u64, usize),
-    /// `write` of "a" at moment 0 to a writer that fails.
-    WriteUnprinted,
-    /// `write` at a moment with a reader and a writer that fail.
-    WriteBroken(u64),
+    /// `write` at a moment with a reader that fails behind so many line feeds, and a writer that fails.
+    WriteBroken(u64, usize),
+    /// A command with a writer that fails.
+    Unprinted(Unprinted),
     /// `read`, backwards or not, from an index on.
     Read(bool, Option<&'static str>),
     /// `take` under a name.
     Take(&'static str),
+    /// `drop` of the cycles before one.
+    Drop(u64),
     /// `check`.
     Check,
     /// `dump` of a file.
     Dump(&'static str),
+    /// `salvage` of a file.
+    Salvage(&'static str),
     /// Puts a file with these bytes.
     Put(&'static str, &'static [u8]),
     /// Puts a file of so many copies of a byte.
@@ -51,6 +57,21 @@ pub enum Step {
     Length(&'static str),
 }
 
+/// A command whose writer fails.
+#[derive(Clone, Copy)]
+pub enum Unprinted {
+    /// `write` of "a" at moment 0.
+    Write,
+    /// `read` of all messages.
+    Read,
+    /// `take` under the name "reader".
+    Take,
+    /// `check`.
+    Check,
+    /// `dump` of a file.
+    Dump(&'static str),
+}
+
 /// Takes a step over a folder, and gives what is said.
 pub fn said_at<F: Folder>(alloc: Global, folder: &mut F, step: &Step) -> Result<String, Fail> {
     match *step {
@@ -60,12 +81,14 @@ pub fn said_at<F: Folder>(alloc: Global, folder: &mut F, step: &Step) -> Result<
         }
         Step::Write(moment, input) => written(alloc, folder, moment, input),
         Step::WriteEmpty(moment, lines) => written_empty(alloc, folder, moment, lines),
-        Step::WriteUnprinted => written_unprinted(alloc, folder),
-        Step::WriteBroken(moment) => written_broken(alloc, folder, moment),
+        Step::WriteBroken(moment, behind) => written_broken(alloc, folder, moment, behind),
+        Step::Unprinted(command) => said(alloc, done_unprinted(alloc, folder, command), &[]),
         Step::Read(back, from) => printed(alloc, folder, back, from),
         Step::Take(name) => taken(alloc, folder, name),
+        Step::Drop(cycle) => dropped(alloc, folder, cycle),
         Step::Check => checked(alloc, folder),
         Step::Dump(file) => dumped(alloc, folder, file),
+        Step::Salvage(file) => salvaged(alloc, folder, file),
         Step::Text(file) => text_of(alloc, folder, file),
         Step::Length(file) => length_of(alloc, folder, file),
         Step::Put(file, bytes) => put(alloc, folder, file, bytes),
@@ -129,19 +152,31 @@ fn written_empty<F: Folder>(
     written(alloc, folder, moment, &copies(alloc, b'\n', lines)?)
 }
 
-/// What `write` says of "a" where the output fails.
-fn written_unprinted<F: Folder>(alloc: Global, folder: &mut F) -> Result<String, Fail> {
-    let mut input: &[u8] = b"a\n";
-    said(alloc, write(alloc, folder, 0, &mut input, &mut Broken), &[])
+/// What `write` says where the input fails behind so many line feeds, and the output fails.
+fn written_broken<F: Folder>(
+    alloc: Global,
+    folder: &mut F,
+    moment: u64,
+    behind: usize,
+) -> Result<String, Fail> {
+    let mut input = BrokenBehind { left: behind };
+    let done = write(alloc, folder, moment, &mut input, &mut Broken);
+    said(alloc, done, &[])
 }
 
-/// What `write` says where the input and the output fail.
-fn written_broken<F: Folder>(alloc: Global, folder: &mut F, moment: u64) -> Result<String, Fail> {
-    said(
-        alloc,
-        write(alloc, folder, moment, &mut Broken, &mut Broken),
-        &[],
-    )
+/// A command whose writer fails.
+fn done_unprinted<F: Folder>(
+    alloc: Global,
+    folder: &mut F,
+    command: Unprinted,
+) -> Result<(), ToolFault> {
+    match command {
+        Unprinted::Write => write(alloc, folder, 0, &mut &b"a\n"[..], &mut Broken),
+        Unprinted::Read => read(alloc, folder, false, None, &mut Broken),
+        Unprinted::Take => take(alloc, folder, "reader", &mut Broken),
+        Unprinted::Check => check(alloc, folder, &mut Broken),
+        Unprinted::Dump(file) => dump(alloc, folder, file, &mut Broken),
+    }
 }
 
 /// What `read` says.
@@ -163,6 +198,13 @@ fn taken<F: Folder>(alloc: Global, folder: &mut F, name: &str) -> Result<String,
     said(alloc, done, &output)
 }
 
+/// What `drop` says.
+fn dropped<F: Folder>(alloc: Global, folder: &mut F, cycle: u64) -> Result<String, Fail> {
+    let mut output = Vec::new(alloc);
+    let done = drop_before(alloc, folder, cycle, &mut output);
+    said(alloc, done, &output)
+}
+
 /// What `check` says.
 fn checked<F: Folder>(alloc: Global, folder: &mut F) -> Result<String, Fail> {
     let mut output = Vec::new(alloc);
@@ -174,6 +216,13 @@ fn checked<F: Folder>(alloc: Global, folder: &mut F) -> Result<String, Fail> {
 fn dumped<F: Folder>(alloc: Global, folder: &mut F, file: &str) -> Result<String, Fail> {
     let mut output = Vec::new(alloc);
     let done = dump(alloc, folder, file, &mut output);
+    said(alloc, done, &output)
+}
+
+/// What `salvage` says.
+fn salvaged<F: Folder>(alloc: Global, folder: &mut F, file: &str) -> Result<String, Fail> {
+    let mut output = Vec::new(alloc);
+    let done = salvage(alloc, folder, file, &mut output);
     said(alloc, done, &output)
 }
 

@@ -14,15 +14,28 @@ pub fn said(alloc: Global, done: Result<(), ToolFault>, output: &[u8]) -> Result
     }
 }
 
-/// A stream that fails at once.
+/// A reader that fails behind so many line feeds.
 #[derive(Drop)]
-pub struct Broken;
+pub struct BrokenBehind {
+    /// How many are left.
+    pub left: usize,
+}
 
-impl Read for Broken {
-    fn read(&mut self, _buf: &mut [u8]) -> io::Result<usize> {
-        Err(io::Error::from(ErrorKind::Other))
+impl Read for BrokenBehind {
+    fn read(&mut self, buf: &mut [u8]) -> io::Result<usize> {
+        if self.left == 0 {
+            return Err(io::Error::from(ErrorKind::Other));
+        }
+        let count = buf.len().min(self.left);
+        buf[..count].fill(b'\n');
+        self.left -= count;
+        Ok(count)
     }
 }
+
+/// A writer that fails at once.
+#[derive(Drop)]
+pub struct Broken;
 
 impl Write for Broken {
     fn write(&mut self, _buf: &[u8]) -> io::Result<usize> {

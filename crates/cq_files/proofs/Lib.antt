@@ -5,5 +5,5 @@ pub mod OrderLemmas
 pub mod SavingLemmas
 pub mod WritingLemmas
 pub mod CheckLemmas
-pub mod DumpLemmas
+pub mod ShownLemmas
 pub mod CountLemmas

@@ -1,11 +1,11 @@
 -- The files that are dumped.
-use Rattle.std.specs.Prelude.{◌≡◌, Bool, Option, Some, IfSome, IsSomeAnd, ℕ, List, [], codes}
+use Rattle.std.specs.Prelude.{◌≡◌, Bool, Option, Some, ℕ, List, []}
 use Rattle.cq_image.specs.Image.{AreNext, image_of}
-use Rattle.cq_model.specs.Settings.{IsLawfulSettings, Settings}
-use Rattle.cq_folder.specs.ConfigText.{IsTextOf}
+use Rattle.cq_model.specs.Settings.{Settings}
 use Rattle.cq_folder.specs.Folder.{Files}
 use Rattle.cq_text.specs.DumpText.{dump_of}
 use Rattle.cq_files.specs.Queue.{IsImageName}
+use Rattle.cq_files.specs.Shown.{IsShown}
 
 -- the file is named as the image of a cycle, and holds one whose lines are this text
 pub record IsDumped (settings : Settings) (file : List ℕ) (text : List ℕ) (files : Files) : Type 0 where
@@ -18,9 +18,5 @@ pub record IsDumped (settings : Settings) (file : List ℕ) (text : List ℕ) (f
   pub text_is : text ≡ dump_of settings.shape cycle messages ended
 
 -- the folder's configuration gives the shape and the names of cycles by which the file was dumped
-pub record IsDumpedQueue (file : List ℕ) (files : Option Files) (text : List ℕ) : Type 0 where
-  pub settings : Settings
-  pub positions : List ℕ
-  pub lawful : IsLawfulSettings settings
-  pub config : IfSome files (λ held. IsSomeAnd (held (codes "queue.cqc")) (IsTextOf settings positions))
-  pub dumped : IfSome files (IsDumped settings file text)
+abbrev pub IsDumpedQueue : List ℕ → Option Files → List ℕ → Type 0
+IsDumpedQueue file files text = IsShown IsDumped file files text

@@ -13,6 +13,7 @@ use Rattle.cq_folder.specs.declared.config_fault.ConfigFault.TheVariants as conf
 use Rattle.cq_files.specs.declared.opening.CycleImage.{CycleImage}
 use Rattle.cq_files.specs.declared.opening.SavedQueue.{SavedQueue}
 use Rattle.cq_files.specs.Dumped.{IsDumped}
+use Rattle.cq_files.specs.Salvaged.{IsSalvaged}
 use Rattle.cq_files.specs.Queue.{HoldQueue, IsImageFile, IsImageName, IsLawfulImage, file_of, name_cmp}
 use Rattle.cq_files.specs.declared.files.TheConstants.{MOST_FILE_BYTES}
 use Rattle.cq_text.specs.declared.fault.ToolFault.{ToolFault}
@@ -46,7 +47,8 @@ EndsWronglyAt images k image = ((image.ended ≡ false) × (k + 1 < length image
 -- the files' configuration has these settings
 pub record HasSettings (files : Files) (settings : Settings) : Type 0 where
   pub positions : List ℕ
-  pub spelled : IsSomeAnd (files (codes "queue.cqc")) (IsTextOf settings positions)
+  pub floor : ℕ
+  pub spelled : IsSomeAnd (files (codes "queue.cqc")) (IsTextOf settings positions floor)
 
 -- the text of the files' configuration is refused so
 abbrev pub RefusesConfig : Files → ConfigFault → Type 0
@@ -173,24 +175,40 @@ abbrev pub IsNameFault : List ℕ → ToolFault → Type 0
 IsNameFault file (BadCycleName name) = string_bytes name ≡ file
 IsNameFault file _ = ⊥
 
--- why the records of a file that is there are not printed: its name is no cycle's; else it is not read, or holds no image;
--- else the lines are not written
-abbrev pub IsRecordsFault : Settings → List ℕ → Files → ToolFault → Type 0
-IsRecordsFault settings file files fault = (IsNameFault file fault × HasCause files fault)
-    ⊎ (NamesCycle settings file × ((IsImageFault file fault × HasCause files fault)
-    ⊎ ((fault ≡ WriteFault) × ((text : List ℕ) × IsDumped settings file text files))))
-
--- why a file is not dumped of a folder that was opened: it has no such image file; else that one is at fault, or its lines
--- are not written
-pub record RefusesFile (file : List ℕ) (files : Files) (fault : ToolFault) : Type 0 where
+-- why nothing is shown of a file of a folder that was opened: it has no such image file; else the name of that one is no
+-- cycle's; else what it holds is refused so
+pub record RefusesFile (Refuses : Settings → Files → ToolFault → Type 0) (file : List ℕ) (files : Files) (fault : ToolFault) : Type 0 where
   pub settings : Settings
   pub configured : HasSettings files settings
   pub lawful : IsLawfulSettings settings
-  pub cause : IsMissing file files fault ⊎ (IsImageFile files file × IsRecordsFault settings file files fault)
+  pub cause : IsMissing file files fault
+      ⊎ (IsImageFile files file × ((IsNameFault file fault × HasCause files fault) ⊎ (NamesCycle settings file × Refuses settings files fault)))
 
--- why a file is not dumped: the folder is not opened, or it is and the file is refused
+-- why nothing is shown of a file: the folder is not opened, or it is and the file is refused
+abbrev pub IsShowFault : (Settings → Files → ToolFault → Type 0) → List ℕ → Files → ToolFault → Type 0
+IsShowFault Refuses file files fault = (IsFolderFault fault × HasCause files fault) ⊎ RefusesFile Refuses file files fault
+
+-- what it holds is not refused
+abbrev pub IsNoFault : Settings → Files → ToolFault → Type 0
+IsNoFault settings files fault = ⊥
+
+-- why the records of a file are not printed: it is not read, or holds no image; else the lines are not written
+abbrev pub IsRecordsFault : List ℕ → Settings → Files → ToolFault → Type 0
+IsRecordsFault file settings files fault = (IsImageFault file fault × HasCause files fault)
+    ⊎ ((fault ≡ WriteFault) × ((text : List ℕ) × IsDumped settings file text files))
+
+-- why what is saved of a file is not printed: it is not read; else the lines are not written
+abbrev pub IsMessagesFault : List ℕ → Settings → Files → ToolFault → Type 0
+IsMessagesFault file settings files fault = (IsFileFault file fault × HasCause files fault)
+    ⊎ ((fault ≡ WriteFault) × ((text : List ℕ) × IsSalvaged settings file text files))
+
+-- why a file is not dumped
 abbrev pub IsDumpFault : List ℕ → Files → ToolFault → Type 0
-IsDumpFault file files fault = (IsFolderFault fault × HasCause files fault) ⊎ RefusesFile file files fault
+IsDumpFault file files fault = IsShowFault (IsRecordsFault file) file files fault
+
+-- why nothing is saved of a file
+abbrev pub IsSalvageFault : List ℕ → Files → ToolFault → Type 0
+IsSalvageFault file files fault = IsShowFault (IsMessagesFault file) file files fault
 
 -- a fault of a folder, or of the names and files of its images; none of what these hold
 abbrev pub IsLookingFault : ToolFault → Type 0

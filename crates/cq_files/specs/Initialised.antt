@@ -19,10 +19,10 @@ wanted_shape wanted = measures wanted.cells wanted.index_count wanted.index_spac
 abbrev pub wanted_settings : InitSettings → Roll → Settings
 wanted_settings wanted roll = settings_of (wanted_shape wanted) wanted.cycles roll wanted.epoch (texts wanted.names.items)
 
--- the text says what was asked for, which is lawful, and each name stands at 0
+-- the text says what was asked for, which is lawful, each name stands at 0, and so does the floor
 pub record IsTextFor (wanted : InitSettings) (roll : Roll) (text : List ℕ) : Type 0 where
   pub lawful : IsLawfulSettings (wanted_settings wanted roll)
-  pub spelled : IsTextOf (wanted_settings wanted roll) (replicate (length wanted.names.items) 0) text
+  pub spelled : IsTextOf (wanted_settings wanted roll) (replicate (length wanted.names.items) 0) 0 text
 
 -- so it does with the roll that has the word
 pub record IsInitialText (wanted : InitSettings) (text : List ℕ) : Type 0 where

@@ -5,3 +5,5 @@ pub mod Saved
 pub mod CheckText
 pub mod Dumped
 pub mod Counted
+pub mod Salvaged
+pub mod Shown

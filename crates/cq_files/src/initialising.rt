@@ -66,7 +66,7 @@ fn initial_text(alloc: Global, roll: Roll, settings: &InitSettings) -> Result<Ve
 {
     let config = config_for(alloc, roll, settings)?;
     let positions = vec![in alloc; 0; config.names().len()]?;
-    Ok(write_config(alloc, &config, positions.as_slice())?)
+    Ok(write_config(alloc, &config, positions.as_slice(), 0)?)
 }
 
 /// The configuration that was asked for, if it is within the limits.

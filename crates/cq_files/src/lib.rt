@@ -1,13 +1,15 @@
-//! The commands of the program `cq` on the files of a folder, which need no queue: `init`, `check` and `dump`; and how the
-//! images of a queue are read from its folder and saved there.
+//! The commands of the program `cq` on the files of a folder, which need no queue: `init`, `check`, `dump` and `salvage`; and
+//! how the images of a queue are read from its folder and saved there.
 #![tactic(auto)]
 
 mod checking;
 mod dumping;
 mod files;
+mod given;
 mod initialising;
 mod names;
 mod opening;
+mod salvaging;
 mod saving;
 
 pub use checking::check;
@@ -16,4 +18,5 @@ pub use files::{CONFIG_FILE, MOST_FILE_BYTES, has_name, write_file};
 pub use initialising::init;
 pub use names::copied_names;
 pub use opening::{CycleImage, ImageFile, Kept, ReadQueue, SavedQueue, SeenMessages, open_queue};
+pub use salvaging::salvage;
 pub use saving::save;

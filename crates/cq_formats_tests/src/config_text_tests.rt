@@ -1,6 +1,7 @@
 //! The text of the file `queue.cqc`.
 use crate::settings::settings_text;
 use crate::wanted::{expect, expect_text};
+use cq_cycle::LAST_CYCLE;
 use cq_folder::{SavedConfig, read_config, write_config};
 use std::alloc::{AllocError, Global};
 use std::test::Fail;
@@ -35,12 +36,17 @@ fn expect_answers(alloc: Global, head: &str, table: &[(&str, &str)]) -> Result<(
     Ok(())
 }
 
-/// Whether the same text is written from what a text says, which has a position for each name.
+/// Whether the same text is written from what a text says, which has a position for each name and a floor within its limit.
 fn is_written_again(alloc: Global, text: &str, saved: &SavedConfig) -> Result<bool, AllocError> {
-    if saved.positions.len() != saved.config.names().len() {
+    if saved.positions.len() != saved.config.names().len() || saved.floor > LAST_CYCLE {
         return Ok(false);
     }
-    let written = write_config(alloc, &saved.config, saved.positions.as_slice())?;
+    let written = write_config(
+        alloc,
+        &saved.config,
+        saved.positions.as_slice(),
+        saved.floor,
+    )?;
     Ok(written.as_slice() == text.as_bytes())
 }
 
@@ -48,7 +54,11 @@ fn is_written_again(alloc: Global, text: &str, saved: &SavedConfig) -> Result<bo
 fn expect_saved(alloc: Global, text: &str, saved: &SavedConfig, want: &str) -> Result<(), Fail> {
     expect(is_written_again(alloc, text, saved)?, text)?;
     let settings = settings_text(alloc, &saved.config)?;
-    let said = format!(in alloc; "{settings} at {:?}", saved.positions.as_slice())?;
+    let floor = saved.floor;
+    let said = format!(in alloc;
+        "{settings} at {:?} from {floor}",
+        saved.positions.as_slice()
+    )?;
     expect_text(said, want)
 }
 
@@ -59,16 +69,22 @@ fn expect_read(alloc: Global, text: &str, want: &str) -> Result<(), Fail> {
 }
 
 /// Texts, each beside what it says.
-static TEXTS: [(&str, &str); 2] = [
+static TEXTS: [(&str, &str); 3] = [
     (
         "cq 1\nroll daily\nepoch 0\ncells 64\ncount 8\nspacing 1\ncycles 4\nname reader 0\n",
-        "Daily from 0, 4 of Shape { cells: 64, index_count: 8, index_spacing: 1 }, [\"reader\"] at [0]",
+        "Daily from 0, 4 of Shape { cells: 64, index_count: 8, index_spacing: 1 }, [\"reader\"] at [0] from 0",
+    ),
+    (
+        "cq 1\nroll daily\nepoch 0\ncells 64\ncount 8\nspacing 1\ncycles 4\nfloor 20005\n\
+        name reader 85920820756481\n",
+        "Daily from 0, 4 of Shape { cells: 64, index_count: 8, index_spacing: 1 }, [\"reader\"] at [85920820756481] \
+        from 20005",
     ),
     (
         "cq 1\nroll minutely\nepoch 253402300799999\ncells 3000\ncount 16\nspacing 256\ncycles 64\n\
         name b-2_.Z 18446744073709551615\nname a 85899345920001\n",
         "Minutely from 253402300799999, 64 of Shape { cells: 3000, index_count: 16, index_spacing: 256 }, \
-        [\"b-2_.Z\", \"a\"] at [18446744073709551615, 85899345920001]",
+        [\"b-2_.Z\", \"a\"] at [18446744073709551615, 85899345920001] from 0",
     ),
 ];
 
@@ -143,7 +159,7 @@ fn the_faulty_line_is_named(rt: HostRuntime) -> Result<(), Fail> {
 }
 
 /// Lines of names, each beside what reading them answers.
-static FAULTY_NAMES: [(&str, &str); 17] = [
+static FAULTY_NAMES: [(&str, &str); 15] = [
     ("", "0 names, 0 positions"),
     ("name reader 0\nname writer 7\n", "2 names, 2 positions"),
     ("name reader 0", "line 8"),
@@ -157,8 +173,6 @@ static FAULTY_NAMES: [(&str, &str); 17] = [
     ("name l\u{e9}o 0\n", "line 8"),
     ("name a b 0\n", "line 8"),
     ("Name a 0\n", "line 8"),
-    ("floor 1\n", "line 8"),
-    ("name a 0\nfloor 1\n", "line 9"),
     ("name a 0\nname b 0\nname a 0\nname\n", "line 11"),
     // No name stands twice.
     ("name a 0\nname b 0\nname a 0\n", "BadConfig"),
@@ -169,8 +183,51 @@ fn the_faulty_name_is_named(rt: HostRuntime) -> Result<(), Fail> {
     expect_answers(rt.alloc(), HEAD, &FAULTY_NAMES)
 }
 
+/// The floor that is read of the lines behind the head, or the fault, as a text.
+fn floor_answer(alloc: Global, rest: &str) -> Result<String, AllocError> {
+    let text = format!(in alloc; "{HEAD}{rest}")?;
+    match read_config(alloc, text.as_bytes()) {
+        Ok(saved) => format!(in alloc; "{}", saved.floor),
+        Err(fault) => format!(in alloc; "{fault}"),
+    }
+}
+
+/// Lines behind the head, each beside the floor or the fault that is read of them.
+static FLOORS: [(&str, &str); 20] = [
+    ("", "0"),
+    ("name a 0\n", "0"),
+    ("floor 1\n", "1"),
+    ("floor 20005\nname a 0\nname b 0\n", "20005"),
+    ("floor 2147483646\n", "2147483646"),
+    ("floor 2147483647\n", "BadConfig"),
+    ("floor 18446744073709551615\n", "BadConfig"),
+    ("floor 18446744073709551616\n", "line 8"),
+    ("floor 0\n", "line 8"),
+    ("floor 01\n", "line 8"),
+    ("floor +1\n", "line 8"),
+    ("floor \n", "line 8"),
+    ("floor\n", "line 8"),
+    ("floor 1", "line 8"),
+    ("floor 1 2\n", "line 8"),
+    ("Floor 1\n", "line 8"),
+    // It stands once, and before the names.
+    ("floor 1\nfloor 1\n", "line 9"),
+    ("name a 0\nfloor 1\n", "line 9"),
+    ("floor 1\nname a 0", "line 9"),
+    // The lines come before the limits.
+    ("floor 2147483647\nname\n", "line 9"),
+];
+
+#[test]
+fn a_floor_is_read_or_refused(rt: HostRuntime) -> Result<(), Fail> {
+    for &(rest, want) in &FLOORS {
+        expect_text(floor_answer(rt.alloc(), rest)?, want)?;
+    }
+    Ok(())
+}
+
 /// Lines behind those of the roll, each beside what reading them answers.
-static LIMITS: [(&str, &str); 13] = [
+static LIMITS: [(&str, &str); 14] = [
     (
         "epoch 0\ncells 64\ncount 8\nspacing 1\ncycles 4\n",
         "0 names, 0 positions",
@@ -222,6 +279,10 @@ static LIMITS: [(&str, &str); 13] = [
     // The limits of a shape come first.
     (
         "epoch 18446744073709551615\ncells 30\ncount 8\nspacing 1\ncycles 0\n",
+        "BadShape",
+    ),
+    (
+        "epoch 0\ncells 30\ncount 8\nspacing 1\ncycles 4\nfloor 2147483647\n",
         "BadShape",
     ),
 ];

@@ -25,6 +25,8 @@ mod plain_cycle_tests;
 #[cfg(test)]
 mod real_folder_tests;
 #[cfg(test)]
+mod salvage_tests;
+#[cfg(test)]
 mod settings;
 #[cfg(test)]
 mod tables_tests;

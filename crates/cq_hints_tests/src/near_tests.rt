@@ -1,9 +1,8 @@
 //! Where walks to messages begin, each from before the first record of the first slot.
 
-ghost use Rattle.std.specs.Prelude.{◌≡◌, IfOk, None};
 ghost use Rattle.cq_words.specs.Values.{IsOf};
 
-use cq_append::Appender;
+use crate::many::{append_all, full_queue};
 use cq_fixtures::{config_of, contents_of};
 use cq_hints::near;
 use cq_layout::Shape;
@@ -37,24 +36,9 @@ fn starts(
     Ok(starts)
 }
 
-/// Appends so many messages at moment 0.
-fn append_all(queue: &Queue, caller: Caller, count: u32) -> Result<Caller, Fail>
-    requires of { IsOf queue.now caller }
-    requires idle { caller.view.claim ≡ None }
-    ensures { IfOk result (λ caller. IsOf queue.now caller) }
-{
-    let mut appender = Appender::new(caller);
-    for _ in 0..count {
-        appender.append(queue, 0, b"a")?;
-    }
-    Ok(appender.into_caller())
-}
-
 /// Where walks begin in a cycle of 30,000 messages, of which one in 16 has an entry.
 fn starts_among_many(alloc: Global, wanted: &[u32]) -> Result<Vec<u32>, Fail> {
-    let config = config_of(alloc, Shape::new(1_048_576, 256, 16)?, 1)?;
-    let (queue, caller) = Queue::create(alloc, config, 0)?;
-    let mut caller = append_all(&queue, caller, 30_000)?;
+    let (queue, mut caller) = full_queue(alloc)?;
     starts(alloc, &queue, &mut caller, wanted)
 }
 

@@ -1,9 +1,13 @@
 pub mod CallLemmas
+pub mod CopyLemmas
 pub mod Decided
 pub mod FindLemmas
+pub mod FloorLemmas
 pub mod Grows
 pub mod Inversions
+pub mod LaterLemmas
 pub mod Legal
+pub mod ListLemmas
 pub mod NameLemmas
 pub mod OpenLemmas
 pub mod ReplyLemmas

@@ -1,6 +1,7 @@
 pub mod Callers
 pub mod Finds
 pub mod Histories
+pub mod Lists
 pub mod Replies
 pub mod Rows
 pub mod Settings

@@ -1,7 +1,7 @@
--- The folder of an order.
-use Rattle.std.specs.Prelude.{ℕ, List, Option, None, Some, string_bytes}
+-- The folder of an order, and which orders need threads.
+use Rattle.std.specs.Prelude.{⊤, ℕ, List, Option, None, Some, string_bytes}
 use Rattle.cq_orders.specs.declared.order.Order.{Order}
-use Rattle.cq_orders.specs.declared.order.Order.TheVariants.{Echo, Cycle, Init, Write, Read, Take, Check, Dump}
+use Rattle.cq_orders.specs.declared.order.Order.TheVariants.{Echo, Cycle, Init, Write, Read, Take, Check, Dump, Salvage, Race, DropBefore}
 
 -- the path of the folder that an order is for
 abbrev pub folder_of : Order → Option (List ℕ)
@@ -11,5 +11,13 @@ folder_of (Init folder settings) = Some (string_bytes folder)
 folder_of (Write folder moment) = Some (string_bytes folder)
 folder_of (Read folder back from) = Some (string_bytes folder)
 folder_of (Take folder name) = Some (string_bytes folder)
+folder_of (DropBefore folder cycle) = Some (string_bytes folder)
 folder_of (Check folder) = Some (string_bytes folder)
 folder_of (Dump folder file) = Some (string_bytes folder)
+folder_of (Salvage folder file) = Some (string_bytes folder)
+folder_of (Race messages) = None
+
+-- the order is one for several callers in threads of their own
+abbrev pub IsRace : Order → Type 0
+IsRace (Race messages) = ⊤
+IsRace _ = ⊥

@@ -47,6 +47,13 @@ pub enum Order {
         /// The name.
         name: String,
     },
+    /// Let reads pass over the cycles before one.
+    DropBefore {
+        /// The folder.
+        folder: String,
+        /// The cycle.
+        cycle: u64,
+    },
     /// Say of each image what it holds, or what is wrong with it.
     Check {
         /// The folder.
@@ -59,6 +66,18 @@ pub enum Order {
         /// The name of the image's file.
         file: String,
     },
+    /// Print the messages in front of what is wrong with an image, and what that is.
+    Salvage {
+        /// The folder.
+        folder: String,
+        /// The name of the image's file.
+        file: String,
+    },
+    /// Let two appenders and two tailers share a new queue, each in a thread of its own.
+    Race {
+        /// How many messages each of the two appends.
+        messages: u32,
+    },
 }
 
 impl Order {
@@ -67,13 +86,15 @@ impl Order {
         ensures { option_map (λ path. path.now) result ≡ folder_of self.now }
     {
         match self {
-            Order::Echo | Order::Cycle { .. } => None,
+            Order::Echo | Order::Cycle { .. } | Order::Race { .. } => None,
             Order::Init { folder, .. }
             | Order::Write { folder, .. }
             | Order::Read { folder, .. }
             | Order::Take { folder, .. }
+            | Order::DropBefore { folder, .. }
             | Order::Check { folder }
-            | Order::Dump { folder, .. } => Some(folder.as_str()),
+            | Order::Dump { folder, .. }
+            | Order::Salvage { folder, .. } => Some(folder.as_str()),
         }
     }
 }

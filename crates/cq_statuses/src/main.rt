@@ -8,9 +8,10 @@ use std::fs::File;
 use std::io::{self, Stdout};
 use std::process::{self, ExitCode};
 use std::rt::Files;
+use std::thread::Threads;
 
 /// The words of each start, behind the program's name.
-const STARTS: [&[&str]; 11] = [
+const STARTS: [&[&str]; 16] = [
     &["check", "."],
     &["write", ".", "1728086400000"],
     &["write", ".", "253402300800000"],
@@ -19,9 +20,14 @@ const STARTS: [&[&str]; 11] = [
     &["read", ".", "--back", "--from", "00004e2100000000"],
     &["take", ".", "writer"],
     &["init", ".", "daily", "0", "64", "8", "1", "4"],
+    &["drop", ".", "20001"],
+    &["read", "."],
     &["read", "nowhere"],
     &["dump", ".", "20241006.cqi"],
+    &["salvage", ".", "20241005.cqi"],
     &["take", "."],
+    &["race", "10"],
+    &["race", "1001"],
 ];
 
 /// Standard output, which takes what is wrong.
@@ -55,7 +61,7 @@ fn main(rt: HostRuntime) -> ExitCode {
 /// Starts the program with these words, and tells them and its status.
 fn start<R>(rt: &R, errors: &OnOutput, words: &[&str], process: u32) -> u8
 where
-    R: AllocGlobal + Files<File = File> + Input + Print + Clone + Drop,
+    R: AllocGlobal + Files<File = File> + Input + Print + Threads + Sync + Clone + Drop,
 {
     let _ = print!(rt; "cq");
     for word in words {

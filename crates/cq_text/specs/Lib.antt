@@ -5,3 +5,4 @@ pub mod CycleLine
 pub mod DumpText
 pub mod Faults
 pub mod Output
+pub mod SalvageText

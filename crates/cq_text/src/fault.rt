@@ -78,6 +78,9 @@ pub enum ToolFault {
     /// The moment lies in no cycle.
     #[error("BadMoment")]
     BadMoment,
+    /// A worker of a race gave up, as where the gate did not let it in.
+    #[error("gave up")]
+    GaveUp,
     /// Standard output could not be written.
     #[error("write fault")]
     WriteFault,

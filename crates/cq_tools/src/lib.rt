@@ -13,5 +13,6 @@ pub use cq_folder::{
     write_config,
 };
 pub use cq_orders::{InitSettings, Order};
+pub use cq_race::{Gate, OpenGate, race};
 pub use cq_text::{ToolFault, dump_text, echo};
 pub use starting::{DONE, FAULT, NOT_UNDERSTOOD, status};

@@ -1,14 +1,17 @@
 //! A start of the program: from its words to its exit status.
 
 ghost use Rattle.std.specs.Prelude.{◌≡◌};
+ghost use Rattle.cq_orders.specs.OrderFolder.{IsRace};
 
 use cq_command_line::{ParseFault, parse};
 use cq_folder::RealFolder;
 use cq_orders::Order;
+use cq_race::{OpenGate, race};
 use cq_text::ToolFault;
 use std::fs::File;
 use std::io::{self, ErrorKind};
 use std::rt::Files;
+use std::thread::Threads;
 
 /// The command was done.
 pub const DONE: u8 = 0;
@@ -23,7 +26,7 @@ pub const NOT_UNDERSTOOD: u8 = 2;
 /// standard streams. Says in `errors` what is wrong, and gives the exit status.
 pub fn status<R, E>(rt: &R, errors: &E, words: io::Result<Vec<String>>, process: u32) -> u8
 where
-    R: AllocGlobal + Files<File = File> + Input + Print + Clone + Drop,
+    R: AllocGlobal + Files<File = File> + Input + Print + Threads + Sync + Clone + Drop,
     E: Eprint,
 {
     let words = match words {
@@ -57,11 +60,25 @@ fn fault<E: Eprint>(errors: &E, fault: ToolFault) -> u8
 }
 
 /// Does what is asked for, over the folder that is named and the standard streams.
-fn run<R: AllocGlobal + Files<File = File> + Input + Print + Clone + Drop>(
+fn run<R: AllocGlobal + Files<File = File> + Input + Print + Threads + Sync + Clone + Drop>(
     rt: &R,
     process: u32,
     order: &Order,
 ) -> Result<(), ToolFault> {
+    match order {
+        Order::Race { messages } => race(rt, *messages, &OpenGate, &mut io::writer(rt)),
+        _ => run_alone(rt, process, order),
+    }
+}
+
+/// The same of an order for one caller.
+fn run_alone<R: AllocGlobal + Files<File = File> + Input + Print + Clone + Drop>(
+    rt: &R,
+    process: u32,
+    order: &Order,
+) -> Result<(), ToolFault>
+    requires { ¬ IsRace order.now }
+{
     let alloc = rt.alloc();
     let path = String::from_str(alloc, order.folder().unwrap_or(""))?;
     let mut folder = RealFolder::new(rt, path, process);

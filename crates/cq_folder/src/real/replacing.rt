@@ -20,7 +20,7 @@ impl<'a, R: Files<File = File> + AllocGlobal + Clone + Drop> RealFolder<'a, R> {
             self.discard(name);
             return Err(error);
         }
-        self.sync()
+        self.confirm()
     }
 
     /// Writes files together. One file takes its place at once, and so needs no record.
@@ -44,7 +44,7 @@ impl<'a, R: Files<File = File> + AllocGlobal + Clone + Drop> RealFolder<'a, R> {
             self.give_up(changes);
             return Err(error);
         }
-        let promised = self.sync();
+        let promised = self.confirm();
         self.record = Some(record);
         promised?;
         let _ = self.settle();
@@ -121,6 +121,17 @@ impl<'a, R: Files<File = File> + AllocGlobal + Clone + Drop> RealFolder<'a, R> {
             Ok(_) => Err(io::Error::from(ErrorKind::InvalidInput)),
             Err(error) if error.kind() == ErrorKind::NotFound => Ok(None),
             Err(error) => Err(error),
+        }
+    }
+
+    /// Brings what the folder lists to the device behind a rename from which on the new bytes are seen. So an error is never
+    /// that of want of memory, after which no file has changed.
+    fn confirm(&self) -> io::Result<()> {
+        match self.sync() {
+            Err(error) if error.kind() == ErrorKind::OutOfMemory => {
+                Err(io::Error::from(ErrorKind::Other))
+            }
+            synced => synced,
         }
     }
 

@@ -9,4 +9,4 @@ pub returns : goal.returns
 returns c =
     let plain : Makes c.after_help.result (new_app (codes "dump")) = search rules in
     let folder = made-with_rule _ _ _ _ _ c.in_ok-arg.ensures plain c.folder.ensures in
-    IfOk-weaker c.arg-2.result _ _ (λ command adds. made-with_rule _ _ _ _ _ adds folder c.word.ensures) c.arg-2.ensures
+    IfOk-weaker c.arg-2.result _ _ (λ command adds. made-with_rule _ _ _ _ _ adds folder c.image_file.ensures) c.arg-2.ensures

@@ -57,6 +57,11 @@ returns-in-Take-clause-left g c = failed LeavesFiles _ c.take.result c.args.orde
     ⊎ ((text : List ℕ) × IsTaken name (g.F.Folder.files c.args.folder.now) (g.F.Folder.files c.take.new.folder) text)))
     c.as_str-in-Take.ensures.value c.take.ensures.whole))
 
+pub returns-in-DropBefore-clause-left : goal.returns-in-DropBefore-clause-left
+returns-in-DropBefore-clause-left g c = failed LeavesFiles _ c.drop_before.result c.args.order.now _ c.in-DropBefore.is
+    (keeps_or_saves _ _ c.drop_before.result c.drop_before.ensures.kept c.drop_before.ensures.scarce
+    c.drop_before.ensures.whole)
+
 pub returns-in-Cycle-clause-broken : goal.returns-in-Cycle-clause-broken
 returns-in-Cycle-clause-broken g c =
     failed (λ (order : Order) s fault. fault ≡ WriteFault → IsCutShort order s) _ c.cycle.result c.args.order.now _ c.in-Cycle.is

@@ -11,19 +11,19 @@ use Rattle.cq_files.proofs.initialising.initial_text.Goals as goal
 -- the text of a configuration that is the wanted one, with each name at 0
 text_for : (wanted : InitSettings) (roll : Roll) (config : Settings) (names : List (String Global)) (positions text : List ℕ)
     → config ≡ wanted_settings wanted roll → IsLawfulSettings (wanted_settings wanted roll) → texts names ≡ config.names
-    → positions ≡ replicate (length names) 0 → IsTextOf config positions text → IsTextFor wanted roll text
+    → positions ≡ replicate (length names) 0 → IsTextOf config positions 0 text → IsTextFor wanted roll text
 text_for wanted roll config names positions text config_is lawful names_are zeros spelled =
     let count : length names ≡ length wanted.names.items =
     sym (length-map names string_bytes) ∙ ap length names_are ∙ ap (λ (s : Settings). length s.names) config_is
     ∙ length-map wanted.names.items string_bytes in
     record {
       lawful = lawful;
-      spelled = subst (λ (s : Settings). IsTextOf s (replicate (length wanted.names.items) 0) text) config_is
-          (subst (λ (ps : List ℕ). IsTextOf config ps text) (zeros ∙ ap (λ (n : ℕ). replicate n 0) count) spelled);
+      spelled = subst (λ (s : Settings). IsTextOf s (replicate (length wanted.names.items) 0) 0 text) config_is
+          (subst (λ (ps : List ℕ). IsTextOf config ps 0 text) (zeros ∙ ap (λ (n : ℕ). replicate n 0) count) spelled);
     }
 
-pub write_config-requires : goal.write_config-requires
-write_config-requires c =
+pub write_config-requires-clause-paired : goal.write_config-requires-clause-paired
+write_config-requires-clause-paired c =
     c.as_slice.ensures.len ∙ c.in_ok-positions.ensures.len ∙ sym (length-map c.names.result.now string_bytes)
     ∙ ap length c.names.ensures.value
 

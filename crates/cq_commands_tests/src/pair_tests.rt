@@ -1,0 +1,521 @@
+//! Two faults that compete, over a folder that lists its names in falling order: the first one of the command's order is told.
+use crate::falling::FallingFolder;
+use crate::steps::{DAY, MOST_BYTES, Step, Unprinted, said_at, said_by};
+use cq_fixtures::push_missed;
+use cq_folder::FailingFolder;
+use std::alloc::Global;
+use std::process::Abort;
+use std::test::Fail;
+
+/// Two faults that a step could tell of.
+struct Pair {
+    /// What is done before.
+    before: &'static [Step],
+    /// The call on the folder that fails at the step; 0 where none does.
+    failing: u64,
+    /// The step.
+    step: Step,
+    /// The fault that is told.
+    want: &'static str,
+}
+
+/// What the step says.
+fn said_of(alloc: Global, pair: &Pair) -> Result<String, Fail> {
+    let mut folder = FallingFolder::new(alloc);
+    said_by(alloc, &mut folder, pair.before)?;
+    said_at(
+        alloc,
+        &mut FailingFolder::new(folder, pair.failing),
+        &pair.step,
+    )
+}
+
+/// What is said that is something else than is wanted, with the place of the pair.
+fn missed(alloc: Global, pairs: &'static [Pair]) -> Result<String, Fail> {
+    let mut text = String::new(alloc);
+    for (place, pair) in pairs.iter().enumerate() {
+        let said = said_of(alloc, pair)?;
+        push_missed(alloc, &mut text, place, said.as_str(), pair.want)?;
+    }
+    Ok(text)
+}
+
+/// Each step tells of the first of its two faults.
+fn expect_first<R: AllocGlobal + Abort>(rt: &R, pairs: &'static [Pair]) -> Result<(), Fail> {
+    let missed = missed(rt.alloc(), pairs)?;
+    assert!(rt; missed.is_empty(), "{missed}");
+    Ok(())
+}
+
+/// An image that ended with no message.
+const ENDED: &[u8] = &[0, 0, 0, 0xc0];
+
+/// More cycles than the settings allow.
+const TOO_MANY: &[Step] = &[
+    Step::Queue(1),
+    Step::Put("19700101.cqi", ENDED),
+    Step::Put("19700102.cqi", b""),
+];
+
+/// A faulty image before one that is none of its faults.
+const FAULTY_FIRST: &[Step] = &[
+    Step::Queue(4),
+    Step::Put("19700101.cqi", b"x"),
+    Step::Put("19700102.cqi", b""),
+];
+
+/// Of the folder, of `queue.cqc` and of the names of images.
+static OPENING: [Pair; 9] = [
+    Pair {
+        before: &[Step::Put("zzz.cqi", b"")],
+        failing: 1,
+        step: Step::Read(false, None),
+        want: "cq: folder fault",
+    },
+    Pair {
+        before: &[Step::Put("zzz.cqi", b"")],
+        failing: 2,
+        step: Step::Read(false, None),
+        want: "cq: folder fault",
+    },
+    Pair {
+        before: &[Step::Put("zzz.cqi", b"")],
+        failing: 0,
+        step: Step::Read(false, None),
+        want: "cq: no queue here",
+    },
+    Pair {
+        before: &[Step::Queue(4), Step::Fill("queue.cqc", 0, MOST_BYTES + 1)],
+        failing: 3,
+        step: Step::Read(false, None),
+        want: "cq: file fault: queue.cqc",
+    },
+    Pair {
+        before: &[Step::Queue(4), Step::Fill("queue.cqc", 0, MOST_BYTES + 1)],
+        failing: 0,
+        step: Step::Read(false, None),
+        want: "cq: file too large: queue.cqc",
+    },
+    Pair {
+        before: &[Step::Put(
+            "queue.cqc",
+            b"cq 1\nroll daily\nepoch 0\ncells 30\ncount 8\nspacing 1\ncycles 4\nname a\n",
+        )],
+        failing: 0,
+        step: Step::Read(false, None),
+        want: "cq: queue.cqc: line 8",
+    },
+    Pair {
+        before: &[
+            Step::Put(
+                "queue.cqc",
+                b"cq 1\nroll daily\nepoch 0\ncells 30\ncount 8\nspacing 1\ncycles 0\n",
+            ),
+            Step::Put("zzz.cqi", b""),
+        ],
+        failing: 0,
+        step: Step::Read(false, None),
+        want: "cq: BadShape",
+    },
+    Pair {
+        before: &[
+            Step::Put(
+                "queue.cqc",
+                b"cq 1\nroll daily\nepoch 0\ncells 64\ncount 8\nspacing 1\ncycles 0\n",
+            ),
+            Step::Put("zzz.cqi", b""),
+        ],
+        failing: 0,
+        step: Step::Read(false, None),
+        want: "cq: BadConfig",
+    },
+    Pair {
+        before: &[
+            Step::Queue(4),
+            Step::Put("19700101.cqi", b"x"),
+            Step::Put("zzz.cqi", b""),
+        ],
+        failing: 4,
+        step: Step::Read(false, None),
+        want: "cq: zzz.cqi: bad cycle name",
+    },
+];
+
+#[test]
+fn the_configuration_comes_before_the_images(rt: HostRuntime) -> Result<(), Fail> {
+    expect_first(&rt, &OPENING)
+}
+
+/// Of images, their ends, and what they hold together.
+static IMAGES: [Pair; 8] = [
+    Pair {
+        before: &[
+            Step::Queue(4),
+            Step::Fill("19700101.cqi", 0, MOST_BYTES + 1),
+        ],
+        failing: 4,
+        step: Step::Read(false, None),
+        want: "cq: file fault: 19700101.cqi",
+    },
+    Pair {
+        before: &[
+            Step::Queue(4),
+            Step::Put("19700101.cqi", ENDED),
+            Step::Put("19700102.cqi", b"x"),
+        ],
+        failing: 4,
+        step: Step::Read(false, None),
+        want: "cq: file fault: 19700101.cqi",
+    },
+    Pair {
+        before: FAULTY_FIRST,
+        failing: 5,
+        step: Step::Read(false, None),
+        want: "cq: 19700101.cqi: Cut at 0",
+    },
+    Pair {
+        before: &[
+            Step::Queue(4),
+            Step::Fill("19700101.cqi", 0, MOST_BYTES + 1),
+            Step::Put("19700102.cqi", b"x"),
+        ],
+        failing: 0,
+        step: Step::Read(false, None),
+        want: "cq: file too large: 19700101.cqi",
+    },
+    Pair {
+        before: &[
+            Step::Queue(4),
+            Step::Put("19700101.cqi", b"x"),
+            Step::Fill("19700102.cqi", 0, MOST_BYTES + 1),
+        ],
+        failing: 0,
+        step: Step::Read(false, None),
+        want: "cq: 19700101.cqi: Cut at 0",
+    },
+    Pair {
+        before: &[
+            Step::Queue(4),
+            Step::Put("19700101.cqi", b""),
+            Step::Put("19700102.cqi", b"x"),
+        ],
+        failing: 0,
+        step: Step::Read(false, None),
+        want: "cq: 19700102.cqi: Cut at 0",
+    },
+    Pair {
+        before: &[
+            Step::Queue(1),
+            Step::Put("19700101.cqi", b""),
+            Step::Put("19700102.cqi", ENDED),
+        ],
+        failing: 0,
+        step: Step::Read(false, None),
+        want: "cq: 19700101.cqi: wrong end",
+    },
+    Pair {
+        before: &[
+            Step::Queue(1),
+            Step::Put("19700101.cqi", ENDED),
+            Step::Put("19700102.cqi", ENDED),
+        ],
+        failing: 0,
+        step: Step::Read(false, None),
+        want: "cq: 19700102.cqi: wrong end",
+    },
+];
+
+#[test]
+fn images_come_in_the_order_of_their_names(rt: HostRuntime) -> Result<(), Fail> {
+    expect_first(&rt, &IMAGES)
+}
+
+/// Of `init`.
+static INIT: [Pair; 7] = [
+    Pair {
+        before: &[Step::Queue(4)],
+        failing: 1,
+        step: Step::Init("weekly", 0, 64, 4, &[]),
+        want: "cq: BadConfig",
+    },
+    Pair {
+        before: &[Step::Queue(4)],
+        failing: 1,
+        step: Step::Init("daily", 0, 30, 4, &[]),
+        want: "cq: folder fault",
+    },
+    Pair {
+        before: &[Step::Queue(4)],
+        failing: 2,
+        step: Step::Init("daily", 0, 30, 4, &[]),
+        want: "cq: folder fault",
+    },
+    Pair {
+        before: &[Step::Queue(4)],
+        failing: 0,
+        step: Step::Init("daily", 0, 30, 4, &[]),
+        want: "cq: queue there already",
+    },
+    Pair {
+        before: &[],
+        failing: 0,
+        step: Step::Init("daily", 0, 30, 0, &[]),
+        want: "cq: BadShape",
+    },
+    Pair {
+        before: &[],
+        failing: 3,
+        step: Step::Init("daily", 0, 30, 4, &[]),
+        want: "cq: BadShape",
+    },
+    Pair {
+        before: &[],
+        failing: 3,
+        step: Step::Init("daily", 0, 64, 0, &[]),
+        want: "cq: BadConfig",
+    },
+];
+
+#[test]
+fn init_tells_the_first(rt: HostRuntime) -> Result<(), Fail> {
+    expect_first(&rt, &INIT)
+}
+
+/// Of `check`: of the files of all images before what one holds.
+static CHECK: [Pair; 6] = [
+    Pair {
+        before: &[Step::Put("zzz.cqi", b"")],
+        failing: 0,
+        step: Step::Unprinted(Unprinted::Check),
+        want: "cq: no queue here",
+    },
+    Pair {
+        before: &[
+            Step::Queue(4),
+            Step::Put("19700101.cqi", b"x"),
+            Step::Put("zzz.cqi", b""),
+        ],
+        failing: 4,
+        step: Step::Unprinted(Unprinted::Check),
+        want: "cq: zzz.cqi: bad cycle name",
+    },
+    Pair {
+        before: &[
+            Step::Queue(4),
+            Step::Fill("19700101.cqi", 0, MOST_BYTES + 1),
+            Step::Put("19700102.cqi", b"x"),
+        ],
+        failing: 4,
+        step: Step::Unprinted(Unprinted::Check),
+        want: "cq: file fault: 19700101.cqi",
+    },
+    Pair {
+        before: FAULTY_FIRST,
+        failing: 5,
+        step: Step::Unprinted(Unprinted::Check),
+        want: "cq: file fault: 19700102.cqi",
+    },
+    Pair {
+        before: &[
+            Step::Queue(4),
+            Step::Put("19700101.cqi", b"x"),
+            Step::Fill("19700102.cqi", 0, MOST_BYTES + 1),
+        ],
+        failing: 0,
+        step: Step::Unprinted(Unprinted::Check),
+        want: "cq: file too large: 19700102.cqi",
+    },
+    Pair {
+        before: FAULTY_FIRST,
+        failing: 0,
+        step: Step::Unprinted(Unprinted::Check),
+        want: "cq: write fault",
+    },
+];
+
+#[test]
+fn check_tells_the_first(rt: HostRuntime) -> Result<(), Fail> {
+    expect_first(&rt, &CHECK)
+}
+
+/// Of `dump`.
+static DUMP: [Pair; 6] = [
+    Pair {
+        before: &[Step::Put("queue.cqc", b"")],
+        failing: 0,
+        step: Step::Unprinted(Unprinted::Dump("zzz.cqi")),
+        want: "cq: queue.cqc: line 1",
+    },
+    Pair {
+        before: &[Step::Queue(4)],
+        failing: 0,
+        step: Step::Unprinted(Unprinted::Dump("zzz.cqi")),
+        want: "cq: no such file: zzz.cqi",
+    },
+    Pair {
+        before: &[Step::Queue(4), Step::Put("zzz.cqi", b"x")],
+        failing: 4,
+        step: Step::Unprinted(Unprinted::Dump("zzz.cqi")),
+        want: "cq: zzz.cqi: bad cycle name",
+    },
+    Pair {
+        before: &[
+            Step::Queue(4),
+            Step::Fill("19700101.cqi", 0, MOST_BYTES + 1),
+        ],
+        failing: 4,
+        step: Step::Unprinted(Unprinted::Dump("19700101.cqi")),
+        want: "cq: file fault: 19700101.cqi",
+    },
+    Pair {
+        before: &[
+            Step::Queue(4),
+            Step::Fill("19700101.cqi", 0, MOST_BYTES + 1),
+        ],
+        failing: 0,
+        step: Step::Unprinted(Unprinted::Dump("19700101.cqi")),
+        want: "cq: file too large: 19700101.cqi",
+    },
+    Pair {
+        before: &[Step::Queue(4), Step::Put("19700101.cqi", b"x")],
+        failing: 0,
+        step: Step::Unprinted(Unprinted::Dump("19700101.cqi")),
+        want: "cq: 19700101.cqi: Cut at 0",
+    },
+];
+
+#[test]
+fn dump_tells_the_first(rt: HostRuntime) -> Result<(), Fail> {
+    expect_first(&rt, &DUMP)
+}
+
+/// Of `read`.
+static READ: [Pair; 3] = [
+    Pair {
+        before: &[],
+        failing: 1,
+        step: Step::Read(false, Some("x")),
+        want: "cq: BadIndex",
+    },
+    Pair {
+        before: TOO_MANY,
+        failing: 0,
+        step: Step::Read(true, Some("x")),
+        want: "cq: BadIndex",
+    },
+    Pair {
+        before: TOO_MANY,
+        failing: 0,
+        step: Step::Unprinted(Unprinted::Read),
+        want: "cq: BadContents",
+    },
+];
+
+#[test]
+fn read_tells_the_first(rt: HostRuntime) -> Result<(), Fail> {
+    expect_first(&rt, &READ)
+}
+
+/// Of `take`.
+static TAKE: [Pair; 3] = [
+    Pair {
+        before: TOO_MANY,
+        failing: 0,
+        step: Step::Take("none"),
+        want: "cq: BadContents",
+    },
+    Pair {
+        before: &[Step::Queue(4), Step::Write(0, b"a\n")],
+        failing: 5,
+        step: Step::Take("none"),
+        want: "cq: NoSuchName",
+    },
+    Pair {
+        before: &[Step::Queue(4), Step::Write(0, b"a\n")],
+        failing: 5,
+        step: Step::Unprinted(Unprinted::Take),
+        want: "cq: file fault: queue.cqc",
+    },
+];
+
+#[test]
+fn take_tells_the_first(rt: HostRuntime) -> Result<(), Fail> {
+    expect_first(&rt, &TAKE)
+}
+
+/// A line that fits into no cycle of 64 cells, behind an empty one.
+const EMPTY_AND_LONG: &[u8] =
+    b"\naaaaaaaaaaaaaaaaaaaaaaaaaaaaaaaaaaaaaaaaaaaaaaaaaaaaaaaaaaaaaaaaaaaaaaaaaaaaaaaaaaaaaaaaaaaaaaaaaaaaaaaaaaaaaaaaaaaaaaaaaaaaaaaaaaaaaaaaaaaaaaaaaaaaaaaaaaaaaaaaaaaaaaaaaaaaaaaaaaaaaaaaaaaaaaaaaaaaaaaa\n";
+
+/// The same line before an empty one.
+const LONG_AND_EMPTY: &[u8] =
+    b"aaaaaaaaaaaaaaaaaaaaaaaaaaaaaaaaaaaaaaaaaaaaaaaaaaaaaaaaaaaaaaaaaaaaaaaaaaaaaaaaaaaaaaaaaaaaaaaaaaaaaaaaaaaaaaaaaaaaaaaaaaaaaaaaaaaaaaaaaaaaaaaaaaaaaaaaaaaaaaaaaaaaaaaaaaaaaaaaaaaaaaaaaaaaaaaaaaaaaaaa\n\n";
+
+/// Of `write`.
+static WRITE: [Pair; 10] = [
+    Pair {
+        before: TOO_MANY,
+        failing: 0,
+        step: Step::WriteBroken(u64::MAX, 0),
+        want: "cq: BadContents",
+    },
+    Pair {
+        before: &[Step::Queue(4)],
+        failing: 0,
+        step: Step::WriteBroken(u64::MAX, MOST_BYTES + 1),
+        want: "cq: read fault",
+    },
+    Pair {
+        before: &[Step::Queue(4)],
+        failing: 0,
+        step: Step::WriteEmpty(u64::MAX, MOST_BYTES + 1),
+        want: "cq: input too long",
+    },
+    Pair {
+        before: &[Step::Queue(4)],
+        failing: 0,
+        step: Step::Write(u64::MAX, b"\n"),
+        want: "cq: BadMoment",
+    },
+    Pair {
+        before: &[Step::Queue(1), Step::Write(0, b"a\n")],
+        failing: 0,
+        step: Step::Write(DAY, EMPTY_AND_LONG),
+        want: "cq: line 1: BadRoom",
+    },
+    Pair {
+        before: &[Step::Queue(1), Step::Write(0, b"a\n")],
+        failing: 0,
+        step: Step::Write(DAY, LONG_AND_EMPTY),
+        want: "cq: line 1: NoCycleLeft",
+    },
+    Pair {
+        before: &[Step::Queue(4)],
+        failing: 0,
+        step: Step::Write(0, EMPTY_AND_LONG),
+        want: "cq: line 1: BadRoom",
+    },
+    Pair {
+        before: &[Step::Queue(4)],
+        failing: 0,
+        step: Step::Write(0, LONG_AND_EMPTY),
+        want: "cq: line 1: CycleFull",
+    },
+    Pair {
+        before: &[Step::Queue(4), Step::Write(0, b"a\n")],
+        failing: 5,
+        step: Step::Write(DAY, LONG_AND_EMPTY),
+        want: "cq: line 1: CycleFull",
+    },
+    Pair {
+        before: &[Step::Queue(4), Step::Write(0, b"a\n")],
+        failing: 5,
+        step: Step::Unprinted(Unprinted::Write),
+        want: "cq: file fault: 19700101.cqi",
+    },
+];
+
+#[test]
+fn write_tells_the_first(rt: HostRuntime) -> Result<(), Fail> {
+    expect_first(&rt, &WRITE)
+}

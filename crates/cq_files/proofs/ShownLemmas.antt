@@ -1,0 +1,127 @@
+-- Why nothing is shown of a file, and what is.
+use Rattle.std.proofs.Common.{◌≡◌, ◌⊎◌, ◌∙◌, Bool, Global, ℕ, List, ap, inl, inr, subst, sym, true, false}
+use Rattle.std.specs.Prelude.{String, Option, None, Some, IfErr, IfSome, IsSomeAnd, Result, Ok, Err, codes, string_bytes}
+use Rattle.std.specs.Prelude.{OnOk}
+use Rattle.std.specs.Io.KnownBytes.{Appends}
+use Rattle.std.proofs.lemmas.Result.{on_ok_weaker}
+use Rattle.cq_model.specs.Settings.{IsLawfulSettings, Settings, texts}
+use Rattle.cq_folder.specs.ConfigText.{IsTextOf}
+use Rattle.cq_folder.specs.Folder.{Files, KeepsFiles}
+use Rattle.cq_text.specs.declared.fault.ToolFault.{ToolFault}
+use Rattle.cq_text.specs.declared.fault.ToolFault.TheVariants.{BadCycleName, NoSuchFile, WriteFault}
+use Rattle.cq_files.specs.FolderFaults.{HasCause, HasSettings, IsNoFault, IsShowFault}
+use Rattle.cq_files.specs.Queue.{IsImageFile, IsImageName, ListsImages}
+use Rattle.cq_files.specs.Shown.{IsGiven, IsShown}
+use Rattle.cq_files.specs.declared.given.GivenImage.{GivenImage}
+use Rattle.cq_files.specs.declared.opening.QueueFolder.{QueueFolder}
+use Rattle.cq_files.proofs.CauseLemmas.{has_settings}
+use Rattle.cq_files.proofs.QueueLemmas.{is_named, named, shown_before, unnamed}
+
+-- a folder that was opened: its settings, and the names of its images
+pub record Opened (files : Option Files) (settings : Settings) (names : List (String Global)) : Type 0 where
+  pub configured : IfSome files (λ held. HasSettings held settings)
+  pub lawful : IsLawfulSettings settings
+  pub listed : IfSome files (ListsImages (texts names))
+
+-- so it was, by what opening it answered
+pub was_opened : (a : Option Files) (queue : QueueFolder) → IsLawfulSettings queue.saved.config
+    → IfSome a (λ held. IsSomeAnd (held (codes "queue.cqc")) (IsTextOf queue.saved.config queue.saved.positions.items queue.saved.floor))
+    → IfSome a (ListsImages (texts queue.image_names.items)) → Opened a queue.saved.config queue.image_names.items
+was_opened a queue lawful config listed = record {
+  configured = has_settings a queue.saved.config queue.saved.positions.items queue.saved.floor config;
+  lawful = lawful;
+  listed = listed;
+}
+
+-- what a search of the names that a slice shows says, the names say
+pub named_as_shown : (names shown : List (String Global)) (file : List ℕ) (found is : Bool) → shown ≡ names
+    → found ≡ is_named shown file → found ≡ is → is_named names file ≡ is
+named_as_shown names shown file found is same found_is test =
+    ap (λ (all : List (String Global)). is_named all file) (sym same) ∙ (sym found_is ∙ test)
+
+-- the file is not among the images that were listed
+pub is_missing : (a : Option Files) (settings : Settings) (names : List (String Global)) (name : String Global) (file : List ℕ)
+    → Opened a settings names → string_bytes name ≡ file → is_named names file ≡ false
+    → IfSome a (λ files. IsShowFault IsNoFault file files (NoSuchFile name))
+is_missing None settings names name file opened same none = tt
+is_missing (Some a) settings names name file opened same none =
+    inr (record {
+      settings = settings;
+      configured = opened.configured;
+      lawful = opened.lawful;
+      cause = inl (same, λ is. unnamed names file none (opened.listed.whole file is));
+    })
+
+-- it is among them
+pub is_there : (a : Option Files) (settings : Settings) (names : List (String Global)) (file : List ℕ) → Opened a settings names
+    → is_named names file ≡ true → IfSome a (λ files. IsImageFile files file)
+is_there None settings names file opened is = tt
+is_there (Some a) settings names file opened is = opened.listed.held file (named names file is)
+
+-- its name is no cycle's
+pub bad_name : (a : Option Files) (settings : Settings) (names : List (String Global)) (name : String Global) (file : List ℕ) (fault : ToolFault)
+    → Opened a settings names → is_named names file ≡ true → string_bytes name ≡ file
+    → (fault ≡ BadCycleName name) × ((cycle : ℕ) → ¬ IsImageName settings cycle (string_bytes name))
+    → IfSome a (λ files. IsShowFault IsNoFault file files fault)
+bad_name None settings names name file fault opened is same bad = tt
+bad_name (Some a) settings names name file fault opened is same bad =
+    subst (IsShowFault IsNoFault file a) (sym bad.0)
+    (inr (record {
+      settings = settings;
+      configured = opened.configured;
+      lawful = opened.lawful;
+      cause = inr (
+        opened.listed.held file (named names file is),
+        inl (same, record { settings = settings; configured = opened.configured; none = bad.1 }),
+      );
+    }))
+
+-- what is wrong with one that is given is why nothing is shown of it
+pub given_refused : (Refuses : Settings → Files → ToolFault → Type 0) (a : Option Files) (file : List ℕ) (given : GivenImage) (fault : ToolFault)
+    → IsGiven file a given → IfSome a (λ files. Refuses given.saved.config files fault)
+    → IfSome a (λ files. IsShowFault Refuses file files fault)
+given_refused Refuses None file given fault is why = tt
+given_refused Refuses (Some a) file given fault is why = inr (record {
+  settings = given.saved.config;
+  configured = has_settings (Some a) given.saved.config given.saved.positions.items given.saved.floor is.config;
+  lawful = is.lawful;
+  cause = inr (is.there, inr ((given.image.cycle, is.named), why));
+})
+
+-- it is not read, or what it holds is refused
+pub not_read : (Is : List ℕ → ToolFault → Type 0) (Or : Files → Type 0) (a : Option Files) (given file : List ℕ) (fault : ToolFault)
+    → given ≡ file → Is given fault → IfSome a (λ files. HasCause files fault)
+    → IfSome a (λ files. (Is file fault × HasCause files fault) ⊎ Or files)
+not_read Is Or None given file fault same is cause = tt
+not_read Is Or (Some a) given file fault same is cause = inl (subst (λ (f : List ℕ). Is f fault) same is, cause)
+
+-- its lines are not written
+pub unwritten : (Or : Files → Type 0) (Shows : Settings → List ℕ → List ℕ → Files → Type 0) (a : Option Files) (settings : Settings)
+    (file text : List ℕ) (fault : ToolFault) → fault ≡ WriteFault → IfSome a (Shows settings file text)
+    → IfSome a (λ files. Or files ⊎ ((fault ≡ WriteFault) × ((text : List ℕ) × Shows settings file text files)))
+unwritten Or Shows None settings file text fault is shown = tt
+unwritten Or Shows (Some a) settings file text fault is shown = inr (is, (text, shown))
+
+-- what is shown of one that is given
+pub given_shown : (Shows : Settings → List ℕ → List ℕ → Files → Type 0) (a b : Option Files) (file text printed : List ℕ) (given : GivenImage)
+    → IsGiven file a given → KeepsFiles a b → printed ≡ text
+    → IfSome b (Shows given.saved.config (string_bytes given.image.name) text) → IsShown Shows file a printed
+given_shown Shows a b file text printed given is kept same shown = record {
+  settings = given.saved.config;
+  positions = given.saved.positions.items;
+  floor = given.saved.floor;
+  lawful = is.lawful;
+  config = is.config;
+  shown = shown_before Shows a b given.saved.config (string_bytes given.image.name) file text printed kept is.spelled same shown;
+}
+
+-- where its lines were written, they are those of the file
+pub printed_as : {T E : Type 0} (IsText : List ℕ → Type 0) (old new : Option (List ℕ)) (text : List ℕ) (result : Result T E)
+    → IsText text → OnOk result (Appends old new text) → OnOk result ((text : List ℕ) × IsText text × Appends old new text)
+printed_as IsText old new text result is written = on_ok_weaker result (λ w. (text, is, w)) written
+
+-- what holds of the one fault that a call has holds of its fault
+pub of_fault : {T : Type 0} (result : Result T ToolFault) (is : ToolFault) (P : ToolFault → Type 0)
+    → IfErr result (λ fault. fault ≡ is) → P is → IfErr result P
+of_fault (Ok value) is P same holds = tt
+of_fault (Err fault) is P same holds = subst P (sym same) holds

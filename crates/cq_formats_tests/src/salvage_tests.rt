@@ -1,0 +1,146 @@
+//! What is saved of images that are cut or changed.
+use crate::image_tests::{
+    Change, HELLO, HELLO_RECORD, changed, image_of_copies, image_with, outcome,
+};
+use crate::wanted::expect_text;
+use cq_image::{Salvaged, salvage};
+use cq_layout::Shape;
+use std::alloc::Global;
+use std::str;
+use std::test::Fail;
+
+/// What is saved of the bytes: each message with a space behind it, and then the fault, or `whole`.
+fn saved(alloc: Global, cycle: u32, shape: Shape, bytes: &[u8]) -> Result<String, Fail> {
+    let Salvaged { messages, fault } = salvage(alloc, cycle, shape, bytes)?;
+    let mut text = String::new(alloc);
+    for message in messages.as_slice() {
+        text.push_str(str::from_utf8(message.as_slice())?)?;
+        text.push_str(" ")?;
+    }
+    match fault {
+        Some(fault) => Ok(format!(in alloc; "{text}{fault}")?),
+        None => Ok(format!(in alloc; "{text}whole")?),
+    }
+}
+
+/// How many of the first bytes of the worked image are left, from a number to another one, what they are read as, and what
+/// is saved of them.
+static BEGINNINGS: [(usize, usize, &str, &str); 8] = [
+    (0, 0, "0 open", "whole"),
+    (1, 27, "Cut at 0", "Cut at 0"),
+    (28, 63, "Cut at 28", "Cut at 28"),
+    (64, 99, "Cut at 64", "Cut at 64"),
+    (100, 111, "Cut at 100", "Cut at 100"),
+    (112, 112, "1 open", "hello whole"),
+    (113, 115, "Cut at 112", "hello Cut at 112"),
+    (116, 116, "1 ended", "hello whole"),
+];
+
+/// Fails where the first bytes of the worked image, so many of them, are read or saved otherwise.
+fn expect_beginning(alloc: Global, len: usize, read: &str, want: &str) -> Result<(), Fail> {
+    let shape = Shape::new(64, 8, 1)?;
+    let bytes = changed(alloc, &HELLO, &[Change::Cut(len)])?;
+    expect_text(outcome(alloc, 0, shape, &bytes)?, read)?;
+    expect_text(saved(alloc, 0, shape, &bytes)?, want)
+}
+
+#[test]
+fn every_beginning_is_saved(rt: HostRuntime) -> Result<(), Fail> {
+    for (first, last, read, want) in BEGINNINGS {
+        for len in first..=last {
+            expect_beginning(rt.alloc(), len, read, want)?;
+        }
+    }
+    Ok(())
+}
+
+/// Fails where an image is saved otherwise with the changes of a row.
+fn expect_saved(
+    alloc: Global,
+    cycle: u32,
+    shape: Shape,
+    bytes: &[u8],
+    table: &[(&[Change], &str)],
+) -> Result<(), Fail> {
+    for &(changes, want) in table {
+        let bytes = changed(alloc, bytes, changes)?;
+        expect_text(saved(alloc, cycle, shape, &bytes)?, want)?;
+    }
+    Ok(())
+}
+
+/// The worked image with some bytes replaced, and what is saved of it.
+static CHANGED: [(&[Change], &str); 11] = [
+    (&[], "hello whole"),
+    (&[Change::Patch(109, &[1])], "BadPadding at 109"),
+    (
+        &[Change::Patch(68, &[0, 0, 0, 0])],
+        "hello WrongTable at 68",
+    ),
+    (
+        &[Change::Patch(32, &[0, 0, 0, 0])],
+        "hello WrongTable at 32",
+    ),
+    (&[Change::Patch(36, &[4])], "hello WrongTable at 36"),
+    // A header of the longest message, and one of the longest meta-data.
+    (
+        &[Change::Patch(100, &[0xff, 0xff, 0xff, 0x3f])],
+        "Cut at 100",
+    ),
+    (
+        &[Change::Patch(100, &[0xff, 0xff, 0xff, 0x7f])],
+        "WrongTable at 100",
+    ),
+    (
+        &[Change::Patch(112, &[0, 0, 0, 0])],
+        "hello Unfinished at 112",
+    ),
+    (&[Change::Add(&[0, 0, 0, 0])], "hello AfterEnd at 116"),
+    (
+        &[Change::Patch(112, &[0x01, 0x00, 0x00, 0x80])],
+        "hello BadHeader at 112",
+    ),
+    (&[Change::Patch(12, &[1])], "WrongStore at 12"),
+];
+
+#[test]
+fn the_worked_image_is_saved_changed(rt: HostRuntime) -> Result<(), Fail> {
+    expect_saved(rt.alloc(), 0, Shape::new(64, 8, 1)?, &HELLO, &CHANGED)
+}
+
+/// A cycle of nine messages, of which one more does not fit, and what is saved of it.
+static FULL: [(&[Change], &str); 3] = [
+    (
+        &[],
+        "hello hello hello hello hello hello hello hello hello whole",
+    ),
+    (
+        &[Change::Add(HELLO_RECORD)],
+        "hello hello hello hello hello hello hello hello hello OverShape at 244",
+    ),
+    // The last message begins at 232.
+    (
+        &[Change::Cut(243)],
+        "hello hello hello hello hello hello hello hello Cut at 232",
+    ),
+];
+
+#[test]
+fn a_full_cycle_is_saved(rt: HostRuntime) -> Result<(), Fail> {
+    let shape = Shape::new(64, 8, 1)?;
+    let bytes = image_of_copies(rt.alloc(), 0, shape, b"hello", 9, false)?;
+    expect_saved(rt.alloc(), 0, shape, &bytes, &FULL)
+}
+
+/// The open image of two messages in cycle 20,000, whole and cut.
+static TWO: [(&[Change], &str); 2] = [
+    (&[], "hello world whole"),
+    (&[Change::Cut(115)], "hello Cut at 112"),
+];
+
+#[test]
+fn an_open_image_is_saved(rt: HostRuntime) -> Result<(), Fail> {
+    let shape = Shape::new(64, 8, 1)?;
+    let bytes = image_with(rt.alloc(), 20_000, shape, &[b"hello", b"world"], false)?;
+    expect_saved(rt.alloc(), 20_000, shape, &bytes, &TWO)
+}

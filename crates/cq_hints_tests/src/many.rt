@@ -1,0 +1,63 @@
+//! A queue of many messages.
+
+ghost use Rattle.std.specs.Prelude.{◌≡◌, IfOk, None};
+ghost use Rattle.cq_words.specs.Values.{IsOf};
+
+use cq_append::Appender;
+use cq_fixtures::config_of;
+use cq_layout::Shape;
+use cq_model::Config;
+use cq_shown::recover;
+use cq_words::{Caller, Queue};
+use std::alloc::Global;
+use std::test::Fail;
+
+/// How many messages the queues have.
+pub const COUNT: u32 = 30_000;
+
+/// One message in so many has an entry.
+pub const SPACING: u32 = 16;
+
+/// One cycle in which all messages fit.
+fn config(alloc: Global) -> Result<Config, Fail> {
+    Ok(config_of(alloc, Shape::new(1_048_576, 256, SPACING)?, 1)?)
+}
+
+/// A new queue, and its first caller.
+pub fn new_queue(alloc: Global) -> Result<(Queue, Caller), Fail>
+    ensures of { IfOk result (λ made. IsOf made.0 made.1) }
+    ensures idle { IfOk result (λ made. made.1.view.claim ≡ None) }
+{
+    Ok(Queue::create(alloc, config(alloc)?, 0)?)
+}
+
+/// Appends so many messages at moment 0.
+pub fn append_all(queue: &Queue, caller: Caller, count: u32) -> Result<Caller, Fail>
+    requires of { IsOf queue.now caller }
+    requires idle { caller.view.claim ≡ None }
+    ensures { IfOk result (λ caller. IsOf queue.now caller) }
+{
+    let mut appender = Appender::new(caller);
+    for _ in 0..count {
+        appender.append(queue, 0, b"a")?;
+    }
+    Ok(appender.into_caller())
+}
+
+/// A queue to which all messages were appended, and a caller that knows no place.
+pub fn full_queue(alloc: Global) -> Result<(Queue, Caller), Fail>
+    ensures { IfOk result (λ made. IsOf made.0 made.1) }
+{
+    let (queue, caller) = new_queue(alloc)?;
+    let caller = append_all(&queue, caller, COUNT)?;
+    Ok((queue, caller))
+}
+
+/// The same, stopped and opened again: no message has an entry, and there is no write position.
+pub fn reopened_queue(alloc: Global) -> Result<(Queue, Caller), Fail>
+    ensures { IfOk result (λ made. IsOf made.0 made.1) }
+{
+    let (queue, caller) = full_queue(alloc)?;
+    let contents = recover(alloc, &queue.stop(caller))?;
+    Ok(Queue::reopen(alloc, config(alloc)?, &contents)?)
+}

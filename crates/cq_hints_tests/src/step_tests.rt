@@ -1,0 +1,190 @@
+//! How many atomic steps calls take on headers and hints over many messages: all but those on the cells of payloads.
+
+ghost use Rattle.std.specs.Prelude.{◌≡◌};
+ghost use Rattle.cq_words.specs.Values.{IsOf};
+
+use crate::many::{COUNT, SPACING, append_all, full_queue, new_queue, reopened_queue};
+use cq_cycle::Index;
+use cq_tail::{At, Direction, Found, Tailer};
+use cq_words::{Caller, Queue};
+use std::alloc::Global;
+use std::test::Fail;
+
+/// A message that was appended is not read.
+fn missing() -> Result<u64, Fail> {
+    let none: Option<u64> = None;
+    Ok(none.ok_or("a message is missing")?)
+}
+
+/// The steps of a read by index, by a caller that was just split off.
+fn read_steps(alloc: Global, queue: &Queue, caller: &mut Caller, sequence: u32) -> Result<u64, Fail>
+    requires { IsOf queue.now caller.old }
+    ensures { IsOf queue.now caller.new }
+{
+    let mut tailer = Tailer::new(queue.split(caller));
+    match tailer.read_at(alloc, queue, Index::new(0, sequence))? {
+        At::Message(_message) => Ok(tailer.into_caller().steps()),
+        At::NotYet | At::Never | At::Gone => missing(),
+    }
+}
+
+/// The most steps of a read by index here and there, each by a new caller.
+fn most_read_steps(alloc: Global, queue: &Queue, caller: &mut Caller) -> Result<u64, Fail>
+    requires { IsOf queue.now caller.old }
+{
+    let mut most = 0;
+    for k in 0..500u32 {
+        most = most.max(read_steps(alloc, queue, caller, k * 7_919 % COUNT)?);
+    }
+    Ok(most)
+}
+
+/// The same over a queue of many messages.
+fn most_steps_of_reads(alloc: Global) -> Result<u64, Fail> {
+    let (queue, mut caller) = full_queue(alloc)?;
+    most_read_steps(alloc, &queue, &mut caller)
+}
+
+#[test]
+fn a_read_by_index_takes_few_steps(rt: HostRuntime) -> Result<(), Fail> {
+    assert!(rt; most_steps_of_reads(rt.alloc())? <= 12 + u64::from(SPACING));
+    Ok(())
+}
+
+/// The steps of so many reads forwards by a new caller, one behind the other.
+fn forward_steps(alloc: Global, queue: &Queue, caller: &mut Caller, count: u32) -> Result<u64, Fail>
+    requires { IsOf queue.now caller.old }
+    ensures { IsOf queue.now caller.new }
+{
+    let mut tailer = Tailer::new(queue.split(caller));
+    for _ in 0..count {
+        match tailer.next(alloc, queue)? {
+            Found::Message(_index, _message) => {}
+            Found::NotYet | Found::BeforeStart => return missing(),
+        }
+    }
+    Ok(tailer.into_caller().steps())
+}
+
+/// The most steps of one of these reads forwards, each by the caller that read the message before it.
+fn most_forward_steps(
+    alloc: Global,
+    queue: &Queue,
+    caller: &mut Caller,
+    wanted: &[u32],
+) -> Result<u64, Fail>
+    requires { IsOf queue.now caller.old }
+{
+    let mut most = 0;
+    for sequence in wanted {
+        let before = forward_steps(alloc, queue, caller, *sequence)?;
+        let with = forward_steps(alloc, queue, caller, sequence.saturating_add(1))?;
+        most = most.max(with.saturating_sub(before));
+    }
+    Ok(most)
+}
+
+/// The same over a queue of many messages.
+fn most_steps_of_forward_reads(alloc: Global, wanted: &[u32]) -> Result<u64, Fail> {
+    let (queue, mut caller) = full_queue(alloc)?;
+    most_forward_steps(alloc, &queue, &mut caller, wanted)
+}
+
+#[test]
+fn a_read_behind_the_last_one_takes_three_steps(rt: HostRuntime) -> Result<(), Fail> {
+    // An index table stands before message 4,096.
+    let wanted = [1, 2, 16, 4_095, 4_096, 4_097, 12_345, 29_999];
+    assert!(rt; most_steps_of_forward_reads(rt.alloc(), &wanted)? <= 3);
+    Ok(())
+}
+
+/// The steps of so many reads backwards from the end on by a new caller, and of its way to the end.
+fn backward_steps(
+    alloc: Global,
+    queue: &Queue,
+    caller: &mut Caller,
+    count: u32,
+) -> Result<u64, Fail>
+    requires { IsOf queue.now caller.old }
+    ensures { IsOf queue.now caller.new }
+{
+    let mut tailer = Tailer::new(queue.split(caller));
+    tailer.to_end(queue);
+    tailer.direction(Direction::Backwards);
+    for _ in 0..count {
+        match tailer.next(alloc, queue)? {
+            Found::Message(_index, _message) => {}
+            Found::NotYet | Found::BeforeStart => return missing(),
+        }
+    }
+    Ok(tailer.into_caller().steps())
+}
+
+/// The steps of reads of all messages backwards, without the way to the end.
+fn all_backward_steps(alloc: Global, queue: &Queue, caller: &mut Caller) -> Result<u64, Fail>
+    requires { IsOf queue.now caller.old }
+{
+    let way = backward_steps(alloc, queue, caller, 0)?;
+    let all = backward_steps(alloc, queue, caller, COUNT)?;
+    Ok(all.saturating_sub(way))
+}
+
+/// The same over a queue of many messages.
+fn steps_of_backward_reads(alloc: Global) -> Result<u64, Fail> {
+    let (queue, mut caller) = full_queue(alloc)?;
+    all_backward_steps(alloc, &queue, &mut caller)
+}
+
+#[test]
+fn reads_backwards_look_at_two_headers_a_message(rt: HostRuntime) -> Result<(), Fail> {
+    // In each block of 64 messages the slot's cycle, the write position and two entries are loaded too.
+    let most = u64::from(2 * COUNT + 4 * (COUNT / 64 + 2));
+    assert!(rt; steps_of_backward_reads(rt.alloc())? <= most);
+    Ok(())
+}
+
+/// The same over a queue that is opened again, whose messages have no hints.
+fn steps_of_backward_reads_without_hints(alloc: Global) -> Result<u64, Fail> {
+    let (queue, mut caller) = reopened_queue(alloc)?;
+    all_backward_steps(alloc, &queue, &mut caller)
+}
+
+#[test]
+fn reads_backwards_without_hints_look_at_three_headers_a_message(
+    rt: HostRuntime,
+) -> Result<(), Fail> {
+    assert!(rt;
+        steps_of_backward_reads_without_hints(rt.alloc())? <= u64::from(3 * COUNT + COUNT / 64)
+    );
+    Ok(())
+}
+
+/// The steps of so many appends to a new queue by one caller.
+fn append_steps(alloc: Global, count: u32) -> Result<u64, Fail> {
+    let (queue, caller) = new_queue(alloc)?;
+    Ok(append_all(&queue, caller, count)?.steps())
+}
+
+/// The most steps of an append of one of these messages, each by the caller that appended the one before it.
+fn most_append_steps(alloc: Global, sequences: &[u32]) -> Result<u64, Fail> {
+    let mut most = 0;
+    for sequence in sequences {
+        let before = append_steps(alloc, *sequence)?;
+        let with = append_steps(alloc, sequence.saturating_add(1))?;
+        most = most.max(with.saturating_sub(before));
+    }
+    Ok(most)
+}
+
+#[test]
+fn an_append_behind_the_last_one_takes_six_steps(rt: HostRuntime) -> Result<(), Fail> {
+    let sequences = [1, 2, 15, 16, 17, 4_095, 4_097, 4_112, 29_984, 29_999];
+    assert!(rt; most_append_steps(rt.alloc(), &sequences)? <= 6);
+    Ok(())
+}
+
+#[test]
+fn an_append_behind_a_new_table_takes_seven_steps(rt: HostRuntime) -> Result<(), Fail> {
+    assert!(rt; most_append_steps(rt.alloc(), &[4_096, 8_192])? <= 7);
+    Ok(())
+}

@@ -1,0 +1,6 @@
+use Rattle.std.proofs.Common.{◌≡◌}
+use Rattle.cq_words.specs.Values.{IsOf}
+use Rattle.cq_race.proofs.worker.Worker.append_one.Given as goal
+
+abbrev pub invariant-loop : goal.invariant-loop
+invariant-loop g l = IsOf l.queue l.appender × (l.self.number ≡ l.fn.self.number)

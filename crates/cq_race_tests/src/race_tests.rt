@@ -1,0 +1,255 @@
+//! Races with several gates: what is printed, which calls a gate is asked for, and that the workers run beside one another.
+use cq_race::{Gate, OpenGate, race};
+use cq_text::ToolFault;
+use std::hint::spin_loop;
+use std::io::{self, ErrorKind, Write};
+use std::process::Abort;
+use std::str;
+use std::sync::atomic::{AtomicU64, Ordering};
+use std::test::Fail;
+use std::thread::Threads;
+
+/// What a race with this gate writes, and behind it the text of its fault.
+fn raced<R: AllocGlobal + Threads + Sync, G: Gate + Sync>(
+    rt: &R,
+    messages: u32,
+    gate: &G,
+) -> Result<String, Fail> {
+    let alloc = rt.alloc();
+    let mut output = Vec::new(alloc);
+    let done = race(rt, messages, gate, &mut output);
+    let text = str::from_utf8(output.as_slice())?;
+    match done {
+        Ok(()) => Ok(String::from_str(alloc, text)?),
+        Err(fault) => Ok(format!(in alloc; "{text}cq: {fault}")?),
+    }
+}
+
+/// How many messages each appender appends, and what is printed then.
+static TALLIES: [(u32, &str); 3] = [
+    (
+        1,
+        "writer 0: 1 in order\nwriter 1: 1 in order\nreader 0: 2 read\nreader 1: 2 read\n",
+    ),
+    (10, TEN),
+    (
+        1000,
+        "writer 0: 1000 in order\nwriter 1: 1000 in order\nreader 0: 2000 read\nreader 1: 2000 read\n",
+    ),
+];
+
+/// What a race with ten messages of each appender prints.
+const TEN: &str =
+    "writer 0: 10 in order\nwriter 1: 10 in order\nreader 0: 20 read\nreader 1: 20 read\n";
+
+#[test]
+fn all_messages_are_read_in_order(rt: HostRuntime) -> Result<(), Fail> {
+    for (messages, want) in &TALLIES {
+        assert_eq!(rt; raced(&rt, *messages, &OpenGate)?.as_str(), *want);
+    }
+    Ok(())
+}
+
+/// A gate that lets a worker in up to a number of its calls.
+#[derive(Drop)]
+struct LimitedGate {
+    worker: usize,
+    calls: u64,
+}
+
+impl Gate for LimitedGate {
+    fn enter(&self, worker: usize, call: u64) -> bool {
+        worker != self.worker || call < self.calls
+    }
+
+    fn answered(&self, _worker: usize, _call: u64) {}
+}
+
+/// A gate that lets nobody in.
+#[derive(Drop)]
+struct ClosedGate;
+
+impl Gate for ClosedGate {
+    fn enter(&self, _worker: usize, _call: u64) -> bool {
+        false
+    }
+
+    fn answered(&self, _worker: usize, _call: u64) {}
+}
+
+/// A worker, and the number of its first call that is not let in. Each makes that many calls at least.
+static LIMITS: [(usize, u64); 8] = [
+    (0, 0),
+    (0, 9),
+    (1, 0),
+    (1, 9),
+    (2, 0),
+    (2, 19),
+    (3, 0),
+    (3, 19),
+];
+
+#[test]
+fn a_worker_that_is_not_let_in_gives_up(rt: HostRuntime) -> Result<(), Fail> {
+    assert_eq!(rt; raced(&rt, 10, &ClosedGate)?.as_str(), "cq: gave up");
+    for (worker, calls) in &LIMITS {
+        let gate = LimitedGate {
+            worker: *worker,
+            calls: *calls,
+        };
+        assert_eq!(rt;
+            raced(&rt, 10, &gate)?.as_str(),
+            "cq: gave up",
+            "worker {worker}"
+        );
+    }
+    Ok(())
+}
+
+/// What a gate is asked and told by each worker: the number of the next call, and whether it is being made. It counts what
+/// comes out of turn.
+#[derive(Drop)]
+struct CountingGate {
+    entered: [AtomicU64; 4],
+    answered: [AtomicU64; 4],
+    strays: AtomicU64,
+}
+
+/// Four counts of nothing.
+fn counts() -> [AtomicU64; 4] {
+    [
+        AtomicU64::new(0),
+        AtomicU64::new(0),
+        AtomicU64::new(0),
+        AtomicU64::new(0),
+    ]
+}
+
+impl CountingGate {
+    fn new() -> CountingGate {
+        CountingGate {
+            entered: counts(),
+            answered: counts(),
+            strays: AtomicU64::new(0),
+        }
+    }
+
+    /// Counts a call that is not the next one of its worker.
+    fn count(&self, counts: &[AtomicU64], worker: usize, call: u64) {
+        let is_next = match counts.get(worker) {
+            Some(count) => count.fetch_add(1, Ordering::SeqCst) == call,
+            None => false,
+        };
+        if !is_next {
+            self.strays.fetch_add(1, Ordering::SeqCst);
+        }
+    }
+
+    /// The least number of calls that were answered of two workers.
+    fn least_answered(&self, one: usize, two: usize) -> u64 {
+        self.answered_by(one).min(self.answered_by(two))
+    }
+
+    fn answered_by(&self, worker: usize) -> u64 {
+        match self.answered.get(worker) {
+            Some(count) => count.load(Ordering::SeqCst),
+            None => 0,
+        }
+    }
+}
+
+impl Gate for CountingGate {
+    fn enter(&self, worker: usize, call: u64) -> bool {
+        self.count(&self.entered, worker, call);
+        true
+    }
+
+    fn answered(&self, worker: usize, call: u64) {
+        self.count(&self.answered, worker, call);
+    }
+}
+
+#[test]
+fn each_call_is_entered_and_answered_in_turn(rt: HostRuntime) -> Result<(), Fail> {
+    let gate = CountingGate::new();
+    assert_eq!(rt; raced(&rt, 10, &gate)?.as_str(), TEN);
+    assert_eq!(rt; gate.strays.load(Ordering::SeqCst), 0);
+    assert!(rt; gate.least_answered(0, 1) >= 10 && gate.least_answered(2, 3) >= 20);
+    Ok(())
+}
+
+/// How often an appender looks for the other one before it gives up.
+const TURNS: u32 = 10_000_000;
+
+/// A gate at which each appender's first call waits for the other's: it raises its own flag, and looks for the other one.
+#[derive(Drop)]
+struct MeetingGate {
+    zero: AtomicU64,
+    one: AtomicU64,
+}
+
+/// Raises a flag, and looks for another one. Answers whether it came.
+fn meets(own: &AtomicU64, other: &AtomicU64) -> bool {
+    own.store(1, Ordering::SeqCst);
+    for _ in 0..TURNS {
+        if other.load(Ordering::SeqCst) == 1 {
+            return true;
+        }
+        spin_loop();
+    }
+    false
+}
+
+impl Gate for MeetingGate {
+    fn enter(&self, worker: usize, call: u64) -> bool {
+        match (worker, call) {
+            (0, 0) => meets(&self.zero, &self.one),
+            (1, 0) => meets(&self.one, &self.zero),
+            _ => true,
+        }
+    }
+
+    fn answered(&self, _worker: usize, _call: u64) {}
+}
+
+#[test]
+fn race_overlaps(rt: HostRuntime) -> Result<(), Fail> {
+    let gate = MeetingGate {
+        zero: AtomicU64::new(0),
+        one: AtomicU64::new(0),
+    };
+    assert_eq!(rt; raced(&rt, 10, &gate)?.as_str(), TEN);
+    Ok(())
+}
+
+/// A writer that takes so many bytes and then fails.
+#[derive(Drop)]
+struct Broken {
+    left: usize,
+}
+
+impl Write for Broken {
+    fn write(&mut self, bytes: &[u8]) -> io::Result<usize> {
+        let count = bytes.len().min(self.left);
+        if count == 0 {
+            return Err(io::Error::from(ErrorKind::Other));
+        }
+        self.left -= count;
+        Ok(count)
+    }
+
+    fn flush(&mut self) -> io::Result<()> {
+        Ok(())
+    }
+}
+
+#[test]
+fn a_writer_that_fails_is_a_fault(rt: HostRuntime) {
+    for left in [0, 7] {
+        let done = race(&rt, 1, &OpenGate, &mut Broken { left });
+        assert!(rt;
+            matches!(done, Err(ToolFault::WriteFault)),
+            "after {left} bytes"
+        );
+    }
+}

@@ -1,0 +1,95 @@
+//! Images of a snapshot that was taken beside a message that was begun.
+
+ghost use Rattle.cq_words.specs.Values.{IsOf};
+
+use cq_append::{Appender, Writing};
+use cq_chain::fits_all;
+use cq_fixtures::{DAY, small_config};
+use cq_image::{ImageRead, image, read};
+use cq_layout::Shape;
+use cq_model::CycleList;
+use cq_tail::Tailer;
+use cq_text::dump_text;
+use cq_words::Queue;
+use std::alloc::Global;
+use std::test::Fail;
+
+/// The image of a cycle.
+#[tactic(auto, using(cq_chain::proofs::HeldLemmas::held_are_next))]
+fn image_of(alloc: Global, shape: Shape, list: &CycleList, ended: bool) -> Result<Vec<u8>, Fail> {
+    // A shape's readers tell that it is lawful.
+    let _cells = shape.cells();
+    let messages = list.messages.as_slice();
+    if !fits_all(shape, messages) {
+        return Err(Fail::new("the messages do not fit"));
+    }
+    Ok(image(alloc, list.cycle, shape, messages, ended)?)
+}
+
+/// What an image is read as: its messages in brackets, and its mark.
+fn push_read(
+    alloc: Global,
+    shape: Shape,
+    cycle: u32,
+    bytes: &[u8],
+    out: &mut String,
+) -> Result<(), Fail> {
+    let ImageRead { messages, ended } = read(alloc, cycle, shape, bytes)?;
+    write!(out, "{cycle}[")?;
+    for message in messages.as_slice() {
+        out.push_str(str::from_utf8(message.as_slice())?)?;
+        out.push_str(";")?;
+    }
+    Ok(out.push_str(if ended { "] ended\n" } else { "] open\n" })?)
+}
+
+/// What the images of these cycles are read as, the last one open and the others ended, and then the records of the last one.
+fn images_text(alloc: Global, shape: Shape, lists: &[CycleList]) -> Result<String, Fail> {
+    let mut out = String::new(alloc);
+    for (place, list) in lists.iter().enumerate() {
+        let is_last = place + 1 == lists.len();
+        let bytes = image_of(alloc, shape, list, !is_last)?;
+        push_read(alloc, shape, list.cycle, bytes.as_slice(), &mut out)?;
+        if is_last {
+            let records = dump_text(alloc, list.cycle, shape, bytes.as_slice())?;
+            out.push_str(str::from_utf8(records.as_slice())?)?;
+        }
+    }
+    Ok(out)
+}
+
+/// Begins a message of one byte in the current cycle.
+fn begun(queue: &Queue, appender: Appender) -> Result<Writing, Fail>
+    requires { IsOf queue.now appender }
+{
+    match appender.begin(queue, 0, 1) {
+        Ok(writing) => Ok(writing),
+        Err((_appender, _refusal)) => Err(Fail::new("no message was begun")),
+    }
+}
+
+/// The images of a snapshot behind "a" in cycle 0 and "b" in cycle 5, while another message is begun.
+fn beside_claim_text(alloc: Global) -> Result<String, Fail> {
+    let config = small_config(alloc, 4)?;
+    let shape = config.shape();
+    let (queue, mut caller) = Queue::create(alloc, config, 0)?;
+    let mut appender = Appender::new(queue.split(&mut caller));
+    let mut tailer = Tailer::new(caller);
+    let _first = appender.append(&queue, 0, b"a")?;
+    let _second = appender.append(&queue, 5 * DAY, b"b")?;
+    let _writing = begun(&queue, appender)?;
+    let lists = tailer.snapshot(alloc, &queue)?;
+    images_text(alloc, shape, lists.as_slice())
+}
+
+/// What its images are read as, and the records of the last one.
+const READ_BACK: &str = "0[a;] ended\n5[b;] open\n\
+00000000 40000018 store 1 5 8 1 64\n0000001c 40000020 top 64 0 0 0 0 0 0 0\n\
+00000040 40000020 table 0 100 0 0 0 0 0 0 0\n00000064 00000001 data 0 62\n";
+
+#[test]
+fn a_snapshot_beside_a_claim_has_images(rt: HostRuntime) -> Result<(), Fail> {
+    let text = beside_claim_text(rt.alloc())?;
+    assert_eq!(rt; text.as_str(), READ_BACK);
+    Ok(())
+}
