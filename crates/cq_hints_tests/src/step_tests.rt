@@ -177,14 +177,14 @@ fn most_append_steps(alloc: Global, sequences: &[u32]) -> Result<u64, Fail> {
 }
 
 #[test]
-fn an_append_behind_the_last_one_takes_six_steps(rt: HostRuntime) -> Result<(), Fail> {
+fn an_append_behind_the_last_one_takes_five_steps(rt: HostRuntime) -> Result<(), Fail> {
     let sequences = [1, 2, 15, 16, 17, 4_095, 4_097, 4_112, 29_984, 29_999];
-    assert!(rt; most_append_steps(rt.alloc(), &sequences)? <= 6);
+    assert!(rt; most_append_steps(rt.alloc(), &sequences)? <= 5);
     Ok(())
 }
 
 #[test]
-fn an_append_behind_a_new_table_takes_seven_steps(rt: HostRuntime) -> Result<(), Fail> {
-    assert!(rt; most_append_steps(rt.alloc(), &[4_096, 8_192])? <= 7);
+fn an_append_behind_a_new_table_takes_six_steps(rt: HostRuntime) -> Result<(), Fail> {
+    assert!(rt; most_append_steps(rt.alloc(), &[4_096, 8_192])? <= 6);
     Ok(())
 }
