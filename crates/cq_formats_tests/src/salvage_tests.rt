@@ -13,8 +13,9 @@ use std::test::Fail;
 fn saved(alloc: Global, cycle: u32, shape: Shape, bytes: &[u8]) -> Result<String, Fail> {
     let Salvaged { messages, fault } = salvage(alloc, cycle, shape, bytes)?;
     let mut text = String::new(alloc);
-    for message in messages.as_slice() {
-        text.push_str(str::from_utf8(message.as_slice())?)?;
+    let messages = messages.messages();
+    for sequence in 0..messages.len() {
+        text.push_str(str::from_utf8(messages.bytes(sequence))?)?;
         text.push_str(" ")?;
     }
     match fault {
