@@ -8,7 +8,7 @@ use crate::appending::{MOMENT, append_all};
 use crate::fault::BenchFault;
 use cq_append::Appender;
 use cq_cycle::Roll;
-use cq_layout::{STORE_CELLS, Shape, record_cells};
+use cq_layout::{Shape, record_cells, store_size};
 use cq_model::Config;
 use cq_tail::Tailer;
 use cq_words::{Caller, Queue};
@@ -37,7 +37,7 @@ pub fn message_count(shape: Shape, length: u32) -> u32 {
     let served = u64::from(shape.messages_per_table());
     let record = u64::from(record_cells(length));
     // Behind the store record, the top table, one index table and the end of data.
-    let room = u64::from(shape.cells()) - u64::from(STORE_CELLS) - 2 * table - 1;
+    let room = u64::from(shape.cells()) - u64::from(store_size(shape)) - 2 * table - 1;
     let fitting = room * served / (served * record + table);
     fitting.min(u64::from(shape.message_limit())) as u32
 }

@@ -31,6 +31,49 @@ fn keeps_what_was_written(rt: HostRuntime) -> Result<(), Fail> {
     expect(&rt, &KEPT)
 }
 
+/// A folder of version 2, and then an image of version 1 in it.
+static OF_VERSION_2: [(Step, &str); 11] = [
+    (
+        Step::Put(
+            "queue.cqc",
+            b"cq 2\nroll daily\nepoch 0\ncells 64\ncount 8\nspacing 1\ncycles 4\nname reader 0\n",
+        ),
+        "",
+    ),
+    (
+        Step::Write(1_728_000_000_000, b"hello\nworld\n"),
+        "00004e2000000000\n00004e2000000001\n",
+    ),
+    (Step::Length("20241004.cqi"), "136"),
+    (
+        Step::Dump("20241004.cqi"),
+        "00000000 40000024 store 2 20000 8 1 64 0 86400000\n00000028 40000020 top 76 0 0 0 0 0 0 0\n\
+        0000004c 40000020 table 0 112 124 0 0 0 0 0 0\n00000070 00000005 data 0 68656c6c6f\n\
+        0000007c 00000005 data 1 776f726c64\n",
+    ),
+    (Step::Take("reader"), "00004e2000000000 hello\n"),
+    (
+        Step::Text("queue.cqc"),
+        "cq 2\nroll daily\nepoch 0\ncells 64\ncount 8\nspacing 1\ncycles 4\nname reader 85899345920001\n",
+    ),
+    (
+        Step::Read(false, None),
+        "00004e2000000000 hello\n00004e2000000001 world\n",
+    ),
+    (Step::Check, "20241004.cqi: 2 messages, open\n"),
+    (Step::Patch("20241004.cqi", 0, &[0x18]), ""),
+    (
+        Step::Check,
+        "20241004.cqi: WrongStore at 0\ncq: images at fault",
+    ),
+    (Step::Read(false, None), "cq: 20241004.cqi: WrongStore at 0"),
+];
+
+#[test]
+fn keeps_a_folder_of_version_2(rt: HostRuntime) -> Result<(), Fail> {
+    expect(&rt, &OF_VERSION_2)
+}
+
 static ROLLED: [(Step, &str); 8] = [
     (Step::Queue(2), ""),
     (Step::Write(0, b"a\n"), "0000000000000000\n"),

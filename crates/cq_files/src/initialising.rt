@@ -8,7 +8,7 @@ ghost use Rattle.cq_files.specs.Counted.{CountsFaults};
 use crate::files::{CONFIG_FILE, has_name, listed, write_file};
 use crate::names::copied_names;
 use cq_cycle::{Roll, roll_named};
-use cq_folder::{Access, Folder, WantedConfig, write_config};
+use cq_folder::{Access, Folder, FolderVersion, WantedConfig, write_config};
 use cq_model::Config;
 use cq_orders::InitSettings;
 use cq_text::ToolFault;
@@ -76,6 +76,7 @@ fn config_for(alloc: Global, roll: Roll, settings: &InitSettings) -> Result<Conf
     ensures fault { IfErr result (IsLimitFault settings.now roll) }
 {
     let wanted = WantedConfig {
+        version: FolderVersion::First,
         roll,
         epoch: settings.epoch,
         cells: settings.cells,

@@ -12,6 +12,7 @@ mod memory;
 mod real;
 mod record;
 mod storage;
+mod version;
 mod wanted;
 mod words;
 
@@ -22,4 +23,5 @@ pub use failing::FailingFolder;
 pub use memory::MemoryFolder;
 pub use real::RealFolder;
 pub use storage::{Access, Folder, FolderFault, NewFile};
+pub use version::FolderVersion;
 pub use wanted::WantedConfig;

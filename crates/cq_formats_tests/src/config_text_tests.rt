@@ -69,22 +69,27 @@ fn expect_read(alloc: Global, text: &str, want: &str) -> Result<(), Fail> {
 }
 
 /// Texts, each beside what it says.
-static TEXTS: [(&str, &str); 3] = [
+static TEXTS: [(&str, &str); 4] = [
     (
         "cq 1\nroll daily\nepoch 0\ncells 64\ncount 8\nspacing 1\ncycles 4\nname reader 0\n",
-        "Daily from 0, 4 of Shape { cells: 64, index_count: 8, index_spacing: 1 }, [\"reader\"] at [0] from 0",
+        "Daily from 0, 4 of Shape { cells: 64, index_count: 8, index_spacing: 1, store: First }, [\"reader\"] at [0] from 0",
     ),
     (
         "cq 1\nroll daily\nepoch 0\ncells 64\ncount 8\nspacing 1\ncycles 4\nfloor 20005\n\
         name reader 85920820756481\n",
-        "Daily from 0, 4 of Shape { cells: 64, index_count: 8, index_spacing: 1 }, [\"reader\"] at [85920820756481] \
+        "Daily from 0, 4 of Shape { cells: 64, index_count: 8, index_spacing: 1, store: First }, [\"reader\"] at [85920820756481] \
         from 20005",
     ),
     (
         "cq 1\nroll minutely\nepoch 253402300799999\ncells 3000\ncount 16\nspacing 256\ncycles 64\n\
         name b-2_.Z 18446744073709551615\nname a 85899345920001\n",
-        "Minutely from 253402300799999, 64 of Shape { cells: 3000, index_count: 16, index_spacing: 256 }, \
+        "Minutely from 253402300799999, 64 of Shape { cells: 3000, index_count: 16, index_spacing: 256, store: First }, \
         [\"b-2_.Z\", \"a\"] at [18446744073709551615, 85899345920001] from 0",
+    ),
+    (
+        "cq 2\nroll hourly\nepoch 3600000\ncells 64\ncount 8\nspacing 1\ncycles 4\nname reader 0\n",
+        "Hourly from 3600000, 4 of Shape { cells: 64, index_count: 8, index_spacing: 1, \
+        store: Second(Origin { epoch: 3600000, roll_length: 3600000 }) }, [\"reader\"] at [0] from 0",
     ),
 ];
 
@@ -97,7 +102,7 @@ fn a_text_is_read_and_written_again(rt: HostRuntime) -> Result<(), Fail> {
 }
 
 /// Texts, each beside what reading it answers.
-static FAULTY_LINES: [(&str, &str); 29] = [
+static FAULTY_LINES: [(&str, &str); 31] = [
     // Texts that end too early.
     ("", "line 1"),
     ("cq 1", "line 1"),
@@ -112,7 +117,9 @@ static FAULTY_LINES: [(&str, &str); 29] = [
         "line 7",
     ),
     // Each line wrong in turn.
-    ("cq 2\nroll daily\n", "line 1"),
+    ("cq 2\nroll daily\n", "line 3"),
+    ("cq 3\nroll daily\n", "line 1"),
+    ("cq 12\nroll daily\n", "line 1"),
     ("cq  1\nroll daily\n", "line 1"),
     ("cq 1 \nroll daily\n", "line 1"),
     ("cq 1\r\nroll daily\n", "line 1"),

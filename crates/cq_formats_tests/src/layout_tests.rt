@@ -3,7 +3,7 @@
 ghost use Rattle.std.specs.Prelude.{◌≤◌};
 
 use crate::wanted::{expect, expect_row, expect_text};
-use cq_layout::{BadShape, Shape, cells_for, fits, needs, pack, unpack};
+use cq_layout::{BadShape, Origin, Shape, cells_for, fits, needs, pack, unpack};
 use std::alloc::{AllocError, Global};
 use std::test::Fail;
 
@@ -105,6 +105,19 @@ fn messages_fit_up_to_the_end_of_data() -> Result<(), Fail> {
         !fits(shape, &[], 1_073_741_823),
         "the longest message does not fit",
     )
+}
+
+#[test]
+fn a_store_record_of_version_2_takes_three_cells_more() -> Result<(), Fail> {
+    let shape = Shape::new(64, 8, 1)?.with_origin(Origin {
+        epoch: 0,
+        roll_length: 86_400_000,
+    });
+    expect_row(needs(shape, &[5]) == 31, 1)?;
+    expect_row(needs(shape, &[5; 8]) == 52, 8)?;
+    expect(fits(shape, &[5; 7], 5), "an eighth message fits")?;
+    expect(!fits(shape, &[5; 8], 5), "a ninth message does not fit")?;
+    expect(fits(shape, &[5; 8], 4), "a ninth message of one cell fits")
 }
 
 /// Whether a message of one byte fits behind so many others in a cycle of 4,096 cells.
