@@ -23,19 +23,37 @@ const DAYS: u32 = 4;
 /// How many snapshots are taken beside them.
 const SNAPSHOTS: u32 = 40;
 
+/// Takes a snapshot. Answers it, or none where the one before it does not begin it.
+pub(crate) fn next_snapshot(
+    alloc: Global,
+    queue: &Queue,
+    tailer: &mut Tailer,
+    before: &[CycleList],
+) -> Option<Vec<CycleList>>
+    requires { IsOf queue.now tailer.old.caller }
+    ensures { IsOf queue.now tailer.new.caller }
+{
+    match tailer.snapshot(alloc, queue) {
+        Ok(lists) => {
+            if is_beginning(before, lists.as_slice()) {
+                return Some(lists);
+            }
+            None
+        }
+        Err(_) => None,
+    }
+}
+
 /// Takes snapshots, as long as each one begins the next. Answers the last one, or none where one does not.
 fn take_snapshots(alloc: Global, queue: &Queue, mut tailer: Tailer) -> Option<Vec<CycleList>>
     requires { IsOf queue.now tailer.caller }
 {
     let mut last = Vec::new(alloc);
     for _ in 0..SNAPSHOTS {
-        let Ok(lists) = tailer.snapshot(alloc, queue) else {
-            return None;
-        };
-        if !is_beginning(last.as_slice(), lists.as_slice()) {
-            return None;
+        match next_snapshot(alloc, queue, &mut tailer, last.as_slice()) {
+            Some(lists) => last = lists,
+            None => return None,
         }
-        last = lists;
     }
     Some(last)
 }

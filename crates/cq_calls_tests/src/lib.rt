@@ -16,8 +16,6 @@ mod claim_tests;
 #[cfg(test)]
 mod cycle_tests;
 #[cfg(test)]
-mod dropping_tests;
-#[cfg(test)]
 mod floor_tests;
 #[cfg(test)]
 mod growing_tests;
@@ -35,6 +33,8 @@ mod message_tests;
 mod parts_tests;
 #[cfg(test)]
 mod queues;
+#[cfg(test)]
+mod sharing_tests;
 #[cfg(test)]
 mod snapshot_tests;
 #[cfg(test)]
