@@ -1,15 +1,22 @@
 #!/usr/bin/env python3
-"""Refuses each growth of memory of cq's commands in turn: docs/refused_memory.py.
+"""Refuses each growth of memory in turn: docs/refused_memory.py [tests CRATE..], of cq's commands, or of the tests of these crates.
 
 For each command below and each k, from 1 until nothing is refused any more, the command is run on a copy of its folder with the
 k-th growth refused. It has to answer `cq: want of memory` with status 1, print nothing and leave the folder as it was, or to
 give the answer that it gives with all memory, and leave the folder so, where it can do without what was refused. The folder is
 compared behind a `take` of a name that is none: as any command that is alone there, it finishes a save whose record stands.
 
+With the word tests, the tests of the crates are run so, one at a time in an empty folder, as `rt test` left them in
+crates/CRATE/out/CRATE_tests. Each test has to pass with all memory; with a growth refused it has to say want of memory, by the
+name that the refused call gives it, or to pass, within a minute. A test that says anything else, hangs or dies of a signal is
+wrong. Left out are the tests of THREADS below.
+
 A library in front of the C library's malloc, calloc, realloc and aligned_alloc refuses; it is compiled by cc. CQ names the
 program; where it is not set, it is crates/cq/out/cq, which the launcher ./cq builds. The status is 0 where all is as said.
 """
+import collections
 import os
+import re
 import shutil
 import subprocess
 import sys
@@ -49,6 +56,8 @@ int posix_memalign(void **p, size_t a, size_t n) {
 }
 """
 
+HERE = os.path.dirname(os.path.dirname(os.path.abspath(__file__)))
+
 INIT = (["init", "D", "daily", "0", "64", "8", "1", "4", "reader"], b"")
 HELLO = (["write", "D", "1728000000000"], b"hello\nworld\n")
 NEXT = (["write", "D", "1728086400000"], b"a\n")
@@ -78,6 +87,13 @@ ROWS = [
     ),
 ]
 WANT = b"cq: want of memory\n"
+
+# Threads of these ask for memory as their schedule has it, and say of a call without memory that it gave no message.
+THREADS = ["growing_tests", "many_tests", "parts_tests", "sharing_tests", "thread_tests"]
+
+# How a test ends that failed, and how its text names want of memory.
+FAILED = 101
+WANTS = re.compile(rb"\b(AllocError|AllocFailed|OutOfMemory|want of memory)\b")
 
 
 def run(program, words, given, folder, more=None):
@@ -129,24 +145,90 @@ def try_row(program, shim, room, row):
     return k, done_without, wrong + ["too many growths"]
 
 
-def main():
-    here = os.path.dirname(os.path.dirname(os.path.abspath(__file__)))
-    program = os.environ.get("CQ", os.path.join(here, "crates/cq/out/cq"))
+def run_test(program, test, folder, more=None):
+    """How a test ends in a folder, "passed", "want" or "wrong", and what it said."""
+    environment = dict(os.environ, **(more or {}))
+    try:
+        done = subprocess.run([program, test], cwd=folder, capture_output=True, env=environment, timeout=60, check=False)
+    except subprocess.TimeoutExpired:
+        return "wrong", b"no end within a minute"
+    if done.returncode == 0:
+        return "passed", done.stdout
+    said = done.stdout + done.stderr
+    is_want = done.returncode == FAILED and WANTS.search(said)
+    return ("want" if is_want else "wrong"), b"status %d: " % done.returncode + said
+
+
+def try_test(program, shim, room, test):
+    """How often a test ended in each way, and what was wrong."""
+    ends, wrong = collections.Counter(), []
+    mark = os.path.join(room, "mark")
+    for k in range(100_000):
+        # The first run has all memory.
+        more = {"LD_PRELOAD": shim, "REFUSED_GROWTH": str(k), "REFUSED_MARK": mark} if k else {}
+        with tempfile.TemporaryDirectory(dir=room) as folder:
+            end, said = run_test(program, test, folder, more)
+        if k and os.path.exists(mark):
+            os.remove(mark)
+            ends[end] += 1
+        elif end != "passed":
+            return ends, wrong + [f"{test}, nothing refused: {said}"]
+        elif k:
+            return ends, wrong
+        if end == "wrong":
+            wrong.append(f"{test}, growth {k}: {said}")
+    return ends, wrong + [f"{test}: too many growths"]
+
+
+def try_tests(crates, shim, room):
+    """Whether each growth of the tests of these crates may be refused."""
     failed = False
+    for crate in crates:
+        program = os.path.join(HERE, "crates", crate, "out", f"{crate}_tests")
+        listed = subprocess.run([program, "--list"], capture_output=True, text=True, check=True).stdout
+        tests = [test for test in re.findall(r"^(\S+): test$", listed, re.M) if test.split("::")[0] not in THREADS]
+        every, every_wrong = collections.Counter(), []
+        for test in tests:
+            ends, wrong = try_test(program, shim, room, test)
+            every, every_wrong = every + ends, every_wrong + wrong
+            counts = f"{ends.total()} growths refused, {ends['want']} want of memory, {ends['passed']} passed, {len(wrong)} wrong"
+            print(f"{crate} {test}: {counts}")
+            for line in wrong[:5]:
+                print("   ", line)
+        print(
+            f"{crate}: {len(tests)} tests, {every.total()} growths refused, {every['want']} ended with want of memory, "
+            f"{every['passed']} passed, {len(every_wrong)} wrong"
+        )
+        failed = failed or bool(every_wrong) or every.total() == 0
+    return not failed
+
+
+def try_commands(shim, room):
+    """Whether each growth of the commands may be refused."""
+    program = os.environ.get("CQ", os.path.join(HERE, "crates/cq/out/cq"))
+    failed = False
+    for number, row in enumerate(ROWS):
+        place = os.path.join(room, str(number))
+        os.mkdir(place)
+        growths, done_without, wrong = try_row(program, shim, place, row)
+        print(f"{' '.join(row[2][0])}: {growths} growths refused, {done_without} done without, {len(wrong)} wrong")
+        for line in wrong[:5]:
+            print("   ", line)
+        failed = failed or bool(wrong) or growths == 0
+    return not failed
+
+
+def main(words):
+    if words and (words[0] != "tests" or len(words) == 1):
+        print(__doc__.split("\n", 1)[0], file=sys.stderr)
+        return 2
     with tempfile.TemporaryDirectory() as room:
         source, shim = os.path.join(room, "shim.c"), os.path.join(room, "shim.so")
         with open(source, "w", encoding="utf-8") as file:
             file.write(SHIM)
         subprocess.run(["cc", "-O1", "-shared", "-fPIC", "-o", shim, source], check=True)
-        for number, row in enumerate(ROWS):
-            place = os.path.join(room, str(number))
-            os.mkdir(place)
-            growths, done_without, wrong = try_row(program, shim, place, row)
-            print(f"{' '.join(row[2][0])}: {growths} growths refused, {done_without} done without, {len(wrong)} wrong")
-            for line in wrong[:5]:
-                print("   ", line)
-            failed = failed or bool(wrong) or growths == 0
-    return 1 if failed else 0
+        is_well = try_tests(words[1:], shim, room) if words else try_commands(shim, room)
+    return 0 if is_well else 1
 
 
-sys.exit(main())
+sys.exit(main(sys.argv[1:]))
