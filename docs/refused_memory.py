@@ -3,8 +3,9 @@
 
 For each command below and each k, from 1 until nothing is refused any more, the command is run on a copy of its folder with the
 k-th growth refused. It has to answer `cq: want of memory` with status 1, print nothing and leave the folder as it was, or to
-give the answer that it gives with all memory, and leave the folder so, where it can do without what was refused. The folder is
-compared behind a `take` of a name that is none: as any command that is alone there, it finishes a save whose record stands.
+give the answer that it gives with all memory, and leave the folder so, where it can do without what was refused, as `race` can
+without a thread; and that within a minute. The folder is compared behind a `take` of a name that is none: as any command that is
+alone there, it finishes a save whose record stands.
 
 With the word tests, the tests of the crates are run so, one at a time in an empty folder, as `rt test` left them in
 crates/CRATE/out/CRATE_tests. Each test has to pass with all memory; with a growth refused it has to say want of memory, by the
@@ -64,10 +65,13 @@ NEXT = (["write", "D", "1728086400000"], b"a\n")
 FILE = "20241004.cqi"
 FIRST = [INIT, (["write", "D", "0"], b"hello\n"), (["write", "D", "86400000"], b"a\n")]
 
+RACED = b"writer 0: 3 in order\nwriter 1: 3 in order\nreader 0: 6 read\nreader 1: 6 read\n"
+
 # What was done to the folder before, the bytes that are kept of the image, the command and its input, and its answer.
 ROWS = [
     ([], None, (["echo"], b"hello\nworld\n"), b"0 hello\n1 world\n"),
     ([], None, (["cycle", "daily", "0", "1728000000000"], b""), b"20000 20241004 00004e2000000000\n"),
+    ([], None, (["race", "3"], b""), RACED),
     ([], None, INIT, b""),
     ([INIT], None, HELLO, b"00004e2000000000\n00004e2000000001\n"),
     ([INIT, HELLO], None, NEXT, b"00004e2100000000\n"),
@@ -100,7 +104,10 @@ def run(program, words, given, folder, more=None):
     """What a command answers over a folder: its status, what it printed and what it said is wrong."""
     environment = dict(os.environ, **(more or {}))
     words = [folder if word == "D" else word for word in words]
-    done = subprocess.run([program, *words], input=given, capture_output=True, env=environment, check=False)
+    try:
+        done = subprocess.run([program, *words], input=given, capture_output=True, env=environment, timeout=60, check=False)
+    except subprocess.TimeoutExpired:
+        return None, b"", b"no end within a minute"
     return done.returncode, done.stdout, done.stderr
 
 

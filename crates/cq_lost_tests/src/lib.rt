@@ -1,0 +1,35 @@
+//! Tests of callers that are lost between any two steps of a call, and the calls a step at a time.
+//!
+//! A call of this crate makes the steps of an appender's call one by one, on the shared words, and ends before the step that
+//! its `Steps` do not hold any more: its caller is dropped there. What is left then is stopped by a caller that made no step.
+//! An append begins with a look here, which an appender behind its own last message leaves out: a look leaves nothing behind.
+#![tactic(auto)]
+
+mod advancing;
+mod claiming;
+mod looking;
+mod publishing;
+mod reading;
+mod steps;
+mod writing;
+
+pub use advancing::advance;
+pub use claiming::begin;
+pub use looking::look;
+pub use publishing::publish;
+pub use reading::{load_first, tell};
+pub use steps::Steps;
+pub use writing::{append, give_up, write};
+
+#[cfg(test)]
+mod advance_tests;
+#[cfg(test)]
+mod append_tests;
+#[cfg(test)]
+mod beside_tests;
+#[cfg(test)]
+mod hint_tests;
+#[cfg(test)]
+mod parts_tests;
+#[cfg(test)]
+mod queues;
