@@ -21,10 +21,10 @@ static REFUSED: [Life; 3] = [
         ],
         answers: "BadRoom; BadRoom; BadRoom; BadMoment; CycleFull; 0; 0[a;] at [0]",
     },
-    // The longest message that fits has 148 bytes.
+    // The longest message that fits has 136 bytes.
     Life {
         cycles: 1,
-        calls: &[Call::Begin(0, 149), Call::Begin(0, 148)],
+        calls: &[Call::Begin(0, 137), Call::Begin(0, 136)],
         answers: "CycleFull; begun; 0[] at [0]",
     },
     // No cycle is left.

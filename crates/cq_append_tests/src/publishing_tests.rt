@@ -72,29 +72,37 @@ static APPENDED: [Publishing; 4] = [
     Publishing {
         held: &[],
         calls: &[HELLO, HELLO],
-        cells: &[8, 9, 17, 18, 19],
-        left: "64 0 100 112 0 at 481036337153",
+        cells: &[11, 12, 20, 21, 22],
+        left: "76 0 112 124 0 at 532575944705",
     },
     // The ninth message is the first one of the second table.
     Publishing {
         held: &[],
         calls: &[
-            HELLO, HELLO, HELLO, HELLO, HELLO, HELLO, HELLO, HELLO, HELLO,
+            HELLO,
+            HELLO,
+            HELLO,
+            HELLO,
+            HELLO,
+            HELLO,
+            HELLO,
+            HELLO,
+            Call::Append(0, "abcd"),
         ],
-        cells: &[9, 50],
-        left: "196 232 at 996432412680",
+        cells: &[12, 53],
+        left: "208 244 at 1047972020232",
     },
     Publishing {
         held: &[],
         calls: &[HELLO, Call::AppendBeside("hello")],
-        cells: &[8, 17, 18],
-        left: "64 100 112 at 481036337153",
+        cells: &[11, 20, 21],
+        left: "76 112 124 at 532575944705",
     },
     Publishing {
         held: &[],
         calls: &[Call::Begin(0, 5), Call::Put("hello"), Call::Complete],
-        cells: &[8, 17],
-        left: "64 100 at 429496729600",
+        cells: &[11, 20],
+        left: "76 112 at 481036337152",
     },
 ];
 
@@ -107,13 +115,13 @@ static NOT_APPENDED: [Publishing; 2] = [
     Publishing {
         held: &[],
         calls: &[Call::Begin(0, 5), Call::Put("hello")],
-        cells: &[8, 17],
+        cells: &[11, 20],
         left: "0 0 at 0",
     },
     Publishing {
         held: &[],
         calls: &[Call::Begin(0, 5), Call::Put("hello"), Call::GiveUp],
-        cells: &[8, 17],
+        cells: &[11, 20],
         left: "0 0 at 0",
     },
 ];
@@ -123,24 +131,22 @@ fn a_message_that_is_not_completed_is_not_published(rt: HostRuntime) -> Result<(
     assert_left(&rt, rt.alloc(), &NOT_APPENDED)
 }
 
-/// Five bytes, nine times.
-const HELD: &[&str] = &[
-    "hello", "hello", "hello", "hello", "hello", "hello", "hello", "hello", "hello",
-];
+/// One byte, nine times.
+const HELD: &[&str] = &["a", "a", "a", "a", "a", "a", "a", "a", "a"];
 
 // No entry of the messages that were there is filled in, so that the table is found by a walk.
 static BEHIND_OTHERS: [Publishing; 2] = [
     Publishing {
         held: HELD,
         calls: &[],
-        cells: &[8, 9, 17, 50, 51],
+        cells: &[11, 12, 20, 45, 46],
         left: "0 0 0 0 0 at 0",
     },
     Publishing {
         held: HELD,
         calls: &[Call::Append(0, "x")],
-        cells: &[8, 9, 17, 50, 51],
-        left: "0 196 0 0 244 at 1047972020233",
+        cells: &[11, 12, 20, 45, 46],
+        left: "0 176 0 0 220 at 944892805129",
     },
 ];
 

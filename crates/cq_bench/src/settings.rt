@@ -1,6 +1,8 @@
 //! What a run is given: the shape of the queues, and how often and how long is measured.
 use crate::fault::BenchFault;
+use cq_cycle::Roll;
 use cq_layout::Shape;
+use cq_model::origin_of;
 use std::env::{self, VarError};
 use std::rt::Env;
 use std::time::Duration;
@@ -55,7 +57,7 @@ impl Settings {
 
     /// A short run over small queues, without figures.
     pub fn of_trial() -> Result<Settings, BenchFault> {
-        let Ok(shape) = Shape::new(8192, 32, 4) else {
+        let Some(shape) = shape_with(8192, 32, 4) else {
             return Err(BenchFault::NoQueue);
         };
         Ok(Settings {
@@ -85,7 +87,13 @@ fn shape_of(text: &str) -> Option<Shape> {
     if parts.next().is_some() {
         return None;
     }
-    Shape::new(cells, count, spacing).ok()
+    shape_with(cells, count, spacing)
+}
+
+/// The shape of a queue with these measures, whose cycles are days.
+fn shape_with(cells: u32, count: u32, spacing: u32) -> Option<Shape> {
+    let shape = Shape::new(cells, count, spacing).ok()?;
+    Some(shape.with_origin(origin_of(Roll::Daily, 0)))
 }
 
 fn number_of(text: Option<&str>) -> Option<u32> {

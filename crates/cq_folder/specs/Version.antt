@@ -1,9 +1,9 @@
 -- The version of a folder.
 use Rattle.std.specs.Prelude.{ℕ, List, codes}
-use Rattle.cq_cycle.specs.Cycle.{length_of}
 use Rattle.cq_cycle.specs.declared.roll.Roll.{Roll}
 use Rattle.cq_layout.specs.declared.store_record.StoreVersion.{StoreVersion}
 use Rattle.cq_layout.specs.declared.store_record.StoreVersion.TheVariants as store
+use Rattle.cq_model.specs.Settings.{origin_of}
 use Rattle.cq_folder.specs.declared.version.FolderVersion.{FolderVersion}
 use Rattle.cq_folder.specs.declared.version.FolderVersion.TheVariants.{First, Second}
 
@@ -20,4 +20,4 @@ version_of (store.Second origin) = Second
 -- the store record of its images
 abbrev pub store_in : FolderVersion → Roll → ℕ → StoreVersion
 store_in First roll epoch = store.First
-store_in Second roll epoch = store.Second (record { epoch = epoch; roll_length = length_of roll })
+store_in Second roll epoch = store.Second (origin_of roll epoch)

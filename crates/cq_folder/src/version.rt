@@ -6,7 +6,8 @@ ghost use Rattle.cq_folder.specs.Version.{store_in, version_of, version_word};
 ghost use Rattle.cq_folder.specs.declared.version.FolderVersion.{FolderVersion};
 
 use cq_cycle::Roll;
-use cq_layout::{Origin, StoreVersion};
+use cq_layout::StoreVersion;
+use cq_model::origin_of;
 use std::fmt;
 
 /// The version of a folder, which is that of the store records of its images.
@@ -49,10 +50,7 @@ impl FolderVersion {
     {
         match self {
             FolderVersion::First => StoreVersion::First,
-            FolderVersion::Second => StoreVersion::Second(Origin {
-                epoch,
-                roll_length: roll.millis() as u32,
-            }),
+            FolderVersion::Second => StoreVersion::Second(origin_of(roll, epoch)),
         }
     }
 }

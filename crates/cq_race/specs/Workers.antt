@@ -2,7 +2,7 @@
 use Rattle.std.specs.Prelude.{◌≡◌, ℕ, ◌*◌, [], IfOk, Result, Vec, vec_len}
 use Rattle.cq_cycle.specs.declared.roll.Roll.TheVariants.{Daily}
 use Rattle.cq_layout.specs.Shape.{measures}
-use Rattle.cq_model.specs.Settings.{Settings, settings_of}
+use Rattle.cq_model.specs.Settings.{Settings, new_settings}
 use Rattle.cq_text.specs.declared.fault.ToolFault.{ToolFault}
 use Rattle.cq_text.specs.declared.fault.ToolFault.TheVariants as fault
 use Rattle.cq_race.specs.declared.worker.Ending.{Ending}
@@ -10,7 +10,7 @@ use Rattle.cq_race.specs.declared.worker.Ending.TheVariants as ending
 
 -- the settings of the queue of a race: one cycle of a day, from the epoch on
 abbrev pub race_settings : Settings
-race_settings = settings_of (measures 16384 64 1) 1 Daily 0 []
+race_settings = new_settings (measures 16384 64 1) 1 Daily 0 []
 
 -- a reader that did not end early has read the messages of both writers, of which each appended so many
 abbrev pub HasAll : {M E A : Type 0} → ℕ → Result (Vec M A) E → Type 0

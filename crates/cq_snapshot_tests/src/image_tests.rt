@@ -84,8 +84,8 @@ fn beside_claim_text(alloc: Global) -> Result<String, Fail> {
 
 /// What its images are read as, and the records of the last one.
 const READ_BACK: &str = "0[a;] ended\n5[b;] open\n\
-00000000 40000018 store 1 5 8 1 64\n0000001c 40000020 top 64 0 0 0 0 0 0 0\n\
-00000040 40000020 table 0 100 0 0 0 0 0 0 0\n00000064 00000001 data 0 62\n";
+00000000 40000024 store 2 5 8 1 64 0 86400000\n00000028 40000020 top 76 0 0 0 0 0 0 0\n\
+0000004c 40000020 table 0 112 0 0 0 0 0 0 0\n00000070 00000001 data 0 62\n";
 
 #[test]
 fn a_snapshot_beside_a_claim_has_images(rt: HostRuntime) -> Result<(), Fail> {
