@@ -1,0 +1,4 @@
+pub mod Endpoints
+pub mod Faults
+pub mod Stops
+pub mod Works

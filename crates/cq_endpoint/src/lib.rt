@@ -1,0 +1,20 @@
+//! Endpoints of a queue: each shares its queue with the others, and has an appender and a tailer of it. So a call on an
+//! endpoint asks nothing of who calls, and the last endpoint that is dropped frees the queue.
+//!
+//! An endpoint may be moved to a thread, and another one is split off for each thread. No call waits for another endpoint.
+//! `specs/Endpoints.antt` says what an endpoint is, `specs/Works.antt` what the calls that append answer, `specs/Faults.antt`
+//! which calls are refused, and `specs/Stops.antt` what is left of a queue. What reads answer is said in `cq_tail`.
+#![tactic(auto)]
+
+mod appending;
+mod endpoint;
+mod fault;
+mod naming;
+mod reading;
+mod sharing;
+mod stopping;
+mod work;
+
+pub use cq_tail::{At, Direction, Found, NoSuchName, Sought, Take, TakeFault};
+pub use endpoint::Endpoint;
+pub use fault::{AppendFault, CompleteFault, NotSeen, NotWriting, PutFault, SeekFault};
