@@ -1,17 +1,18 @@
-//! Images of a snapshot that was taken beside a message that was begun.
+//! Snapshots that are taken beside a message that was begun: their images, and what they give where memory was refused.
 
+ghost use Rattle.std.specs.Prelude.{IfOk};
 ghost use Rattle.cq_words.specs.Values.{IsOf};
 
 use cq_append::{Appender, Writing};
 use cq_chain::fits_all;
-use cq_fixtures::{DAY, small_config};
+use cq_fixtures::{DAY, lists_text, small_config};
 use cq_image::{ImageRead, image, read};
 use cq_layout::Shape;
 use cq_model::CycleList;
 use cq_tail::Tailer;
 use cq_text::dump_text;
 use cq_words::Queue;
-use std::alloc::Global;
+use std::alloc::{AllocError, Global};
 use std::test::Fail;
 
 /// The image of a cycle.
@@ -61,6 +62,7 @@ fn images_text(alloc: Global, shape: Shape, lists: &[CycleList]) -> Result<Strin
 /// Begins a message of one byte in the current cycle.
 fn begun(queue: &Queue, appender: Appender) -> Result<Writing, Fail>
     requires { IsOf queue.now appender }
+    ensures { IfOk result (λ writing. IsOf queue.now writing.caller) }
 {
     match appender.begin(queue, 0, 1) {
         Ok(writing) => Ok(writing),
@@ -91,5 +93,52 @@ const READ_BACK: &str = "0[a;] ended\n5[b;] open\n\
 fn a_snapshot_beside_a_claim_has_images(rt: HostRuntime) -> Result<(), Fail> {
     let text = beside_claim_text(rt.alloc())?;
     assert_eq!(rt; text.as_str(), READ_BACK);
+    Ok(())
+}
+
+/// What a snapshot gives; where memory was refused to it, what it gives at the second try.
+fn taken(alloc: Global, queue: &Queue, tailer: &mut Tailer) -> Result<Vec<CycleList>, AllocError>
+    requires { IsOf queue.now tailer.old.caller }
+    ensures { IsOf queue.now tailer.new.caller }
+{
+    match tailer.snapshot(alloc, queue) {
+        Ok(lists) => Ok(lists),
+        Err(_refused) => tailer.snapshot(alloc, queue),
+    }
+}
+
+/// Completes a message that was begun as "c".
+fn complete(queue: &Queue, mut writing: Writing) -> Result<(), Fail>
+    requires { IsOf queue.now writing.caller }
+{
+    writing.put(queue, b"c")?;
+    match writing.complete(queue) {
+        Ok(_completed) => Ok(()),
+        Err(_writing) => Err(Fail::new("the message was not completed")),
+    }
+}
+
+/// What snapshots give behind "a" in cycle 0 and "b" in cycle 5, while another message is begun, and once that was completed.
+fn around_completion_text(alloc: Global) -> Result<String, Fail> {
+    let (queue, mut caller) = Queue::create(alloc, small_config(alloc, 4)?, 0)?;
+    let mut appender = Appender::new(queue.split(&mut caller));
+    let mut tailer = Tailer::new(caller);
+    let _first = appender.append(&queue, 0, b"a")?;
+    let _second = appender.append(&queue, 5 * DAY, b"b")?;
+    let writing = begun(&queue, appender)?;
+    let beside = taken(alloc, &queue, &mut tailer)?;
+    complete(&queue, writing)?;
+    let behind = taken(alloc, &queue, &mut tailer)?;
+    let mut text = lists_text(alloc, beside.as_slice())?;
+    text.push_str("; ")?;
+    text.push_str(lists_text(alloc, behind.as_slice())?.as_str())?;
+    Ok(text)
+}
+
+/// A snapshot that memory was refused to leaves all as it was: the next one gives the same, and the message is completed.
+#[test]
+fn a_claim_is_completed_behind_a_snapshot(rt: HostRuntime) -> Result<(), Fail> {
+    let text = around_completion_text(rt.alloc())?;
+    assert_eq!(rt; text.as_str(), "0[a;] 5[b;] ; 0[a;] 5[b;c;] ");
     Ok(())
 }
