@@ -1,6 +1,7 @@
 //! What is saved of images that are cut or changed.
 use crate::image_tests::{
-    Change, HELLO, HELLO_RECORD, changed, image_of_copies, image_with, outcome,
+    Change, DAYS, HELLO, HELLO_OF_VERSION_2, HELLO_RECORD, changed, image_of_copies, image_with,
+    outcome,
 };
 use crate::wanted::expect_text;
 use cq_image::{Salvaged, salvage};
@@ -53,6 +54,16 @@ fn every_beginning_is_saved(rt: HostRuntime) -> Result<(), Fail> {
         }
     }
     Ok(())
+}
+
+/// Of a queue of version 2 the messages of either version are saved.
+#[test]
+fn messages_of_either_version_are_saved(rt: HostRuntime) -> Result<(), Fail> {
+    let shape = Shape::new(64, 8, 1)?.with_origin(DAYS);
+    let first = changed(rt.alloc(), &HELLO, &[Change::Cut(113)])?;
+    expect_text(saved(rt.alloc(), 0, shape, &first)?, "hello Cut at 112")?;
+    let second = changed(rt.alloc(), &HELLO_OF_VERSION_2, &[Change::Cut(127)])?;
+    expect_text(saved(rt.alloc(), 0, shape, &second)?, "hello Cut at 124")
 }
 
 /// Fails where an image is saved otherwise with the changes of a row.
