@@ -5,7 +5,7 @@ ghost use Rattle.cq_words.specs.Values.{IsOf};
 
 use crate::{
     append_beside, append_then_read, append_written, copied, drop_old, next_message, reopened,
-    take_next,
+    sent, take_next,
 };
 use cq_append::Appender;
 use cq_cycle::Index;
@@ -30,6 +30,14 @@ fn answer_text(alloc: Global, answer: Option<(Index, Message)>) -> Result<String
 fn a_message_is_appended_and_read(rt: HostRuntime) -> Result<(), Fail> {
     let alloc = rt.alloc();
     let read = append_then_read(alloc, small_config(alloc, 4)?, 0, b"hello")?;
+    assert_eq!(rt; answer_text(alloc, read)?.as_str(), "0 hello");
+    Ok(())
+}
+
+#[test]
+fn a_message_is_sent_by_an_endpoint(rt: HostRuntime) -> Result<(), Fail> {
+    let alloc = rt.alloc();
+    let read = sent(alloc, small_config(alloc, 4)?, 0, b"hello")?;
     assert_eq!(rt; answer_text(alloc, read)?.as_str(), "0 hello");
     Ok(())
 }

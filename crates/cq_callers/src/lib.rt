@@ -5,6 +5,7 @@
 mod caller_tests;
 mod copying;
 mod dropping;
+mod endpoints;
 mod reading;
 mod sharing;
 mod stopping;
@@ -13,6 +14,7 @@ mod writing;
 
 pub use copying::copied;
 pub use dropping::drop_old;
+pub use endpoints::sent;
 pub use reading::next_message;
 pub use sharing::append_beside;
 pub use stopping::reopened;

@@ -1,0 +1,22 @@
+//! Endpoints of one queue.
+use cq_cycle::Index;
+use cq_endpoint::{Endpoint, Found};
+use cq_model::{Config, Message};
+use std::alloc::Global;
+use std::test::Fail;
+
+/// Appends a message to a new queue by one endpoint, and reads what comes first by another, which might be in another thread.
+pub fn sent(
+    alloc: Global,
+    config: Config,
+    moment: u64,
+    bytes: &[u8],
+) -> Result<Option<(Index, Message)>, Fail> {
+    let mut one = Endpoint::create(alloc, config, moment)?;
+    let mut other = one.split()?;
+    let _index = one.append(moment, bytes)?;
+    match other.next(alloc)? {
+        Found::Message(index, message) => Ok(Some((index, message))),
+        Found::NotYet | Found::BeforeStart => Ok(None),
+    }
+}
