@@ -46,7 +46,8 @@ fn queue_commands<'a>(
     let program = with_subcommand(program, drop_command(alloc));
     let program = with_subcommand(program, check_command(alloc));
     let program = with_subcommand(program, dump_command(alloc));
-    with_subcommand(program, salvage_command(alloc))
+    let program = with_subcommand(program, salvage_command(alloc));
+    with_subcommand(program, migrate_command(alloc))
 }
 
 /// A command with another one below it, where both could be made.
@@ -226,6 +227,17 @@ fn check_command<'a>(alloc: Global) -> Result<Command<'a>, AllocError>
     Command::new(alloc, "check")
         .about("Says of each image what it holds, or what is wrong with it")
         .after_help("Example:\n  cq check journal")
+        .arg(folder(alloc))
+}
+
+fn migrate_command<'a>(alloc: Global) -> Result<Command<'a>, AllocError>
+    ensures { IfOk result (λ command. Makes command migrate_command) }
+{
+    Command::new(alloc, "migrate")
+        .about("Makes the files of a folder of version 1 such of version 2, with 3 more cells a cycle")
+        .after_help(
+            "CELLS and 3 more are at most 1048576, and CYCLES * (CELLS + 3) at most 4194304. A folder of version 2 stays as it is.\n\nExample:\n  cq migrate journal",
+        )
         .arg(folder(alloc))
 }
 

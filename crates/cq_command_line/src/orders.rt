@@ -51,6 +51,7 @@ fn order_named(alloc: Global, name: &str, values: &ArgMatches<'_>) -> Result<Ord
         "read" => read_order(alloc, values),
         "take" => take_order(alloc, values),
         "drop" => drop_order(alloc, values),
+        "migrate" => migrate_order(alloc, values),
         "check" => check_order(alloc, values),
         "dump" => dump_order(alloc, values),
         "salvage" => salvage_order(alloc, values),
@@ -133,6 +134,15 @@ fn drop_order(alloc: Global, values: &ArgMatches<'_>) -> Result<Order, OrderFaul
     Ok(Order::DropBefore {
         folder: word(alloc, values, "DIR")?,
         cycle: number(values, "CYCLE")?,
+    })
+}
+
+fn migrate_order(alloc: Global, values: &ArgMatches<'_>) -> Result<Order, OrderFault>
+    ensures named { IfOk result (λ order. word_of order ≡ codes "migrate") }
+    ensures values { IfOk result (λ order. TakesValues (rows_of (found_of values.now)) order) }
+{
+    Ok(Order::Migrate {
+        folder: word(alloc, values, "DIR")?,
     })
 }
 

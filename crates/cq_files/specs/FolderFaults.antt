@@ -1,5 +1,5 @@
 -- Which faults of a folder and its files are answered.
-use Rattle.std.specs.Prelude.{◌≡◌, ◌⊎◌, ⊤, ℕ, ◌+◌, true, false, ◌<◌, ◌≤◌, List, length, slice_get, take, Err, IsOk, IsSome, IsSomeAnd, Some, codes, string_bytes}
+use Rattle.std.specs.Prelude.{◌≡◌, ◌⊎◌, ⊤, ℕ, ◌+◌, true, false, ◌<◌, ◌≤◌, List, length, slice_get, take, Result, Ok, Err, IsOk, IsSome, IsSomeAnd, Some, codes, string_bytes}
 use Rattle.std.specs.List.{AllByRecursion}
 use Rattle.std.specs.declared.cmp.Ordering.TheVariants.{Less}
 use Rattle.cq_model.specs.Settings.{IsLawfulSettings, Settings}
@@ -8,6 +8,9 @@ use Rattle.cq_image.specs.Reading.{read_of}
 use Rattle.cq_folder.specs.ConfigFault.{RefusesText}
 use Rattle.cq_folder.specs.ConfigText.{IsTextOf}
 use Rattle.cq_folder.specs.Folder.{Files}
+use Rattle.cq_folder.specs.Version.{version_of}
+use Rattle.cq_folder.specs.declared.version.FolderVersion.{FolderVersion}
+use Rattle.cq_folder.specs.declared.version.FolderVersion.TheVariants as version
 use Rattle.cq_folder.specs.declared.config_fault.ConfigFault.{ConfigFault}
 use Rattle.cq_folder.specs.declared.config_fault.ConfigFault.TheVariants as config
 use Rattle.cq_files.specs.declared.opening.CycleImage.{CycleImage}
@@ -17,7 +20,7 @@ use Rattle.cq_files.specs.Salvaged.{IsSalvaged}
 use Rattle.cq_files.specs.Queue.{HoldQueue, IsImageFile, IsImageName, IsLawfulImage, file_of, name_cmp}
 use Rattle.cq_files.specs.declared.files.TheConstants.{MOST_FILE_BYTES}
 use Rattle.cq_text.specs.declared.fault.ToolFault.{ToolFault}
-use Rattle.cq_text.specs.declared.fault.ToolFault.TheVariants.{OutOfMemory, FolderFault, FileFault, FileTooLarge, WriteFault, ConfigLine, BadShape, BadConfig, BadCycleName, FaultyImage, NoQueueHere, WrongEnd, NoSuchFile, ImagesAtFault}
+use Rattle.cq_text.specs.declared.fault.ToolFault.TheVariants.{OutOfMemory, FolderFault, FileFault, FileTooLarge, WriteFault, ConfigLine, BadShape, BadConfig, BadCycleName, FaultyImage, NoQueueHere, OldVersion, WrongEnd, NoSuchFile, ImagesAtFault}
 
 -- a fault of listing the folder
 abbrev pub IsListFault : ToolFault → Type 0
@@ -49,6 +52,12 @@ pub record HasSettings (files : Files) (settings : Settings) : Type 0 where
   pub positions : List ℕ
   pub floor : ℕ
   pub spelled : IsSomeAnd (files (codes "queue.cqc")) (IsTextOf settings positions floor)
+
+-- the files' configuration tells this version
+pub record HasVersion (files : Files) (version : FolderVersion) : Type 0 where
+  pub settings : Settings
+  pub configured : HasSettings files settings
+  pub told : version_of settings.shape.store ≡ version
 
 -- the text of the files' configuration is refused so
 abbrev pub RefusesConfig : Files → ConfigFault → Type 0
@@ -91,6 +100,7 @@ HasCause files NoQueueHere = ¬ IsSome (files (codes "queue.cqc"))
 HasCause files (ConfigLine number) = RefusesConfig files (config.Line number)
 HasCause files BadShape = RefusesConfig files config.BadShape
 HasCause files BadConfig = RefusesConfig files config.BadConfig
+HasCause files OldVersion = HasVersion files version.First
 HasCause files (BadCycleName file) = NamesNoCycle files (string_bytes file)
 HasCause files (FaultyImage file fault) = HoldsFault files (string_bytes file) fault
 HasCause files (WrongEnd file) = EndsWrongly files (string_bytes file)
@@ -148,6 +158,12 @@ IsFolderFault (ConfigLine number) = ⊤
 IsFolderFault BadShape = ⊤
 IsFolderFault BadConfig = ⊤
 IsFolderFault _ = ⊥
+
+-- a command that changes files is done, or comes to a fault behind those of `queue.cqc`, only in a folder of the second
+-- version, and else is refused as old
+abbrev pub MindsVersion : {T : Type 0} → Files → Result T ToolFault → Type 0
+MindsVersion files (Ok done) = HasVersion files version.Second
+MindsVersion files (Err fault) = IsFolderFault fault ⊎ ((fault ≡ OldVersion) ⊎ HasVersion files version.Second)
 
 -- a fault of the names of images: the first one that names no cycle
 abbrev pub IsNamingFault : Files → ToolFault → Type 0

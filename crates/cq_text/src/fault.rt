@@ -75,6 +75,9 @@ pub enum ToolFault {
     /// The settings are outside the limits, or name no roll.
     #[error("BadConfig")]
     BadConfig,
+    /// The folder is of the first version, whose files no command changes but the one that makes it of the second.
+    #[error("OldVersion")]
+    OldVersion,
     /// The moment lies in no cycle.
     #[error("BadMoment")]
     BadMoment,
