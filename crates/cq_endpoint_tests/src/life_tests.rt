@@ -1,0 +1,190 @@
+//! Two endpoints of a queue, from its start to its end.
+use crate::calls::Call;
+use cq_endpoint::{Direction, Endpoint};
+use cq_fixtures::{DAY, contents_of, contents_text, small_config};
+use cq_shown::{CreateError, recover};
+use std::alloc::Global;
+use std::test::Fail;
+
+/// Which endpoint calls.
+#[derive(Clone, Copy)]
+enum Who {
+    /// The first one of the queue.
+    First,
+    /// The one that was split off from it.
+    Second,
+}
+
+/// A new queue with four cycles of 64 cells, each of a day, and the name "reader": calls of its endpoints, and what they answer.
+struct Life {
+    calls: &'static [(Who, Call)],
+    answers: &'static str,
+}
+
+/// What the calls answer, and what is left once the last endpoint stopped the queue.
+fn answers(alloc: Global, calls: &[(Who, Call)]) -> Result<String, Fail> {
+    let mut out = String::new(alloc);
+    let mut first = Endpoint::create(alloc, small_config(alloc, 4)?, 0)?;
+    let mut second = first.split()?;
+    for (who, call) in calls {
+        match who {
+            Who::First => call.push_answer(alloc, &mut first, &mut out)?,
+            Who::Second => call.push_answer(alloc, &mut second, &mut out)?,
+        }
+        out.push_str("; ")?;
+    }
+    push_end(alloc, first, second, &mut out)?;
+    Ok(out)
+}
+
+/// What is left once the first endpoint stopped the queue. It may not while the second one lives.
+fn push_end(
+    alloc: Global,
+    first: Endpoint,
+    second: Endpoint,
+    out: &mut String,
+) -> Result<(), Fail> {
+    let Err(first) = first.stop() else {
+        return Err(Fail::new("the queue was stopped while another endpoint lived"));
+    };
+    drop(second);
+    let Ok(stopped) = first.stop() else {
+        return Err(Fail::new("the last endpoint did not stop the queue"));
+    };
+    let contents = recover(alloc, &stopped)?;
+    Ok(out.push_str(contents_text(alloc, &contents)?.as_str())?)
+}
+
+static LIVES: [Life; 5] = [
+    // One appends, and the other reads both ways.
+    Life {
+        calls: &[
+            (Who::First, Call::Append(0, "a")),
+            (Who::First, Call::Append(0, "b")),
+            (Who::Second, Call::Next),
+            (Who::Second, Call::Next),
+            (Who::Second, Call::Next),
+            (Who::Second, Call::Turn(Direction::Backwards)),
+            (Who::Second, Call::Next),
+            (Who::Second, Call::Stands),
+            (Who::Second, Call::ToStart),
+            (Who::Second, Call::Next),
+            (Who::Second, Call::ToEnd),
+            (Who::Second, Call::MoveTo(0)),
+            (Who::Second, Call::MoveTo(7)),
+            (Who::Second, Call::Stands),
+            (Who::Second, Call::ReadAt(1)),
+            (Who::Second, Call::ReadAt(2)),
+            (Who::First, Call::Snapshot),
+        ],
+        answers: "0; 1; 0 a; 1 b; NotYet; turned; 1 b; (1, 2); start; BeforeStart; 2; true; false; (0, 2); 1 b; NotYet; \
+0[a;b;] ; 0[a;b;] at [0]",
+    },
+    // A message is put in parts, and keeps the other one from writing. Meanwhile its endpoint begins no other.
+    Life {
+        calls: &[
+            (Who::First, Call::Put("x")),
+            (Who::First, Call::Complete),
+            (Who::First, Call::GiveUp),
+            (Who::First, Call::Begin(0)),
+            (Who::First, Call::Begin(5)),
+            (Who::First, Call::Begin(5)),
+            (Who::First, Call::Append(0, "b")),
+            (Who::First, Call::Advance(DAY)),
+            (Who::Second, Call::Append(0, "b")),
+            (Who::First, Call::Complete),
+            (Who::First, Call::Put("hel")),
+            (Who::First, Call::Put("lo!")),
+            (Who::First, Call::Put("lo")),
+            (Who::First, Call::Next),
+            (Who::First, Call::Complete),
+            (Who::First, Call::Next),
+            (Who::Second, Call::Append(0, "b")),
+            (Who::First, Call::Complete),
+        ],
+        answers: "Err(NotWriting); NotWriting; Err(NotWriting); Err(Refused(BadRoom)); Ok(()); Err(Writing); Writing; Writing; \
+Refused(Busy); EmptyMessage; Ok(()); Err(NoRoom); Ok(()); NotYet; 0; 0 hello; 1; NotWriting; 0[hello;b;] at [0]",
+    },
+    // One that is given up, and one that is begun when the queue stops, are in no list.
+    Life {
+        calls: &[
+            (Who::First, Call::Begin(5)),
+            (Who::First, Call::Put("hello")),
+            (Who::First, Call::GiveUp),
+            (Who::Second, Call::Append(0, "a")),
+            (Who::First, Call::Begin(5)),
+            (Who::First, Call::Put("lost")),
+        ],
+        answers: "Ok(()); Ok(()); Ok(()); 0; Ok(()); Ok(()); 0[a;] at [0]",
+    },
+    // A name is taken by, asked for and moved; none is moved behind what was seen.
+    Life {
+        calls: &[
+            (Who::First, Call::Append(0, "a")),
+            (Who::First, Call::Append(0, "b")),
+            (Who::Second, Call::Take("reader")),
+            (Who::First, Call::Take("reader")),
+            (Who::First, Call::Take("reader")),
+            (Who::First, Call::Take("other")),
+            (Who::First, Call::Position("reader")),
+            (Who::First, Call::Position("other")),
+            (Who::First, Call::Seek("reader", 0, 1)),
+            (Who::First, Call::Seek("reader", 2, 1)),
+            (Who::First, Call::Seek("reader", 1, 3)),
+            (Who::First, Call::Seek("other", 1, 2)),
+            (Who::First, Call::Seek("other", 1, 3)),
+        ],
+        answers: "0; 1; 0 a; 1 b; NotYet; NoSuchName; 2; NoSuchName; Moved(2); Done; NotSeen; NoSuchName; NotSeen; \
+0[a;b;] at [1]",
+    },
+    // Cycles begin, and old ones are dropped where the endpoint has seen a later one.
+    Life {
+        calls: &[
+            (Who::First, Call::Append(0, "a")),
+            (Who::First, Call::Advance(DAY)),
+            (Who::First, Call::Append(DAY, "b")),
+            (Who::Second, Call::DropBefore(1)),
+            (Who::Second, Call::ToEnd),
+            (Who::Second, Call::DropBefore(1)),
+            (Who::Second, Call::ReadAt(0)),
+            (Who::First, Call::Next),
+            (Who::First, Call::Advance(9 * DAY)),
+        ],
+        answers: "0; 1; 4294967296; NotSeen; 4294967297; 1; Gone; 4294967296 b; 9; 0[a;] 1[b;] 9[] at [0] floor 1",
+    },
+];
+
+#[test]
+fn endpoints_append_and_read(rt: HostRuntime) -> Result<(), Fail> {
+    let alloc = rt.alloc();
+    for life in &LIVES {
+        assert_eq!(rt; answers(alloc, life.calls)?.as_str(), life.answers);
+    }
+    Ok(())
+}
+
+/// What an endpoint of a queue that is opened with one message reads.
+fn opened_text(alloc: Global) -> Result<String, Fail> {
+    let contents = contents_of(alloc, &[(3, &["old"])], &[0])?;
+    let mut endpoint = Endpoint::open(alloc, small_config(alloc, 4)?, &contents)?;
+    let mut out = String::new(alloc);
+    Call::Next.push_answer(alloc, &mut endpoint, &mut out)?;
+    Ok(out)
+}
+
+#[test]
+fn a_queue_is_opened_with_contents(rt: HostRuntime) -> Result<(), Fail> {
+    assert_eq!(rt; opened_text(rt.alloc())?.as_str(), "12884901888 old");
+    Ok(())
+}
+
+#[test]
+fn no_queue_is_opened_with_other_contents(rt: HostRuntime) -> Result<(), Fail> {
+    let alloc = rt.alloc();
+    let contents = contents_of(alloc, &[(3, &["old"])], &[])?;
+    let fault = Endpoint::open(alloc, small_config(alloc, 4)?, &contents).err();
+    assert!(rt; matches!(fault, Some(CreateError::BadContents)));
+    let fault = Endpoint::create(alloc, small_config(alloc, 4)?, u64::MAX).err();
+    assert!(rt; matches!(fault, Some(CreateError::BadMoment)));
+    Ok(())
+}
