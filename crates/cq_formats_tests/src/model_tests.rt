@@ -20,8 +20,8 @@ fn hourly_text(alloc: Global) -> Result<String, Fail> {
 fn a_configuration_gives_back_its_settings(rt: HostRuntime) -> Result<(), Fail> {
     expect_text(
         hourly_text(rt.alloc())?,
-        "Hourly from 3600000, 4 of Shape { cells: 64, index_count: 8, index_spacing: 1, \
-            store: Second(Origin { epoch: 3600000, roll_length: 3600000 }) }, [\"reader\", \"b-2_.Z\"]",
+        "Hourly from 3600000, 4 of Shape { store: Second(Origin { epoch: 3600000, roll_length: 3600000 }), \
+            cells: 64, index_count: 8, index_spacing: 1 }, [\"reader\", \"b-2_.Z\"]",
     )
 }
 
