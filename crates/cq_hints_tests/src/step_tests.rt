@@ -188,3 +188,29 @@ fn an_append_behind_a_new_table_takes_six_steps(rt: HostRuntime) -> Result<(), F
     assert!(rt; most_append_steps(rt.alloc(), &[4_096, 8_192])? <= 6);
     Ok(())
 }
+
+/// The steps of an append by a caller that was just split off, behind so many messages.
+fn new_append_steps(alloc: Global, count: u32) -> Result<u64, Fail> {
+    let (queue, caller) = new_queue(alloc)?;
+    let mut caller = append_all(&queue, caller, count)?;
+    let other = queue.split(&mut caller);
+    Ok(append_all(&queue, other, 1)?.steps())
+}
+
+/// The most steps of an append of one of these messages, each by a new caller.
+fn most_new_append_steps(alloc: Global, sequences: &[u32]) -> Result<u64, Fail> {
+    let mut most = 0;
+    for sequence in sequences {
+        most = most.max(new_append_steps(alloc, *sequence)?);
+    }
+    Ok(most)
+}
+
+/// Three of them find the place.
+#[test]
+fn an_append_by_a_new_caller_takes_eight_steps(rt: HostRuntime) -> Result<(), Fail> {
+    let sequences = [1, 2, 15, 16, 17, 4_095, 4_097, 4_112, 29_984, 29_999];
+    assert!(rt; most_new_append_steps(rt.alloc(), &sequences)? <= 8);
+    assert!(rt; most_new_append_steps(rt.alloc(), &[1, 2, 15, 17, 4_095, 4_097, 29_999])? <= 6);
+    Ok(())
+}
