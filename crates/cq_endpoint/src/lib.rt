@@ -11,10 +11,13 @@ mod endpoint;
 mod fault;
 mod naming;
 mod reading;
+mod rooms;
 mod sharing;
 mod stopping;
 mod work;
 
-pub use cq_tail::{At, Direction, Found, NoSuchName, Sought, Take, TakeFault};
+pub use cq_tail::{
+    At, AtInto, Direction, Found, FoundInto, NoSuchName, Sought, Take, TakeFault, TakeInto,
+};
 pub use endpoint::Endpoint;
 pub use fault::{AppendFault, CompleteFault, NotSeen, NotWriting, PutFault, SeekFault};
