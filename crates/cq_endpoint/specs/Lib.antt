@@ -1,4 +1,5 @@
 pub mod Endpoints
 pub mod Faults
+pub mod Meetings
 pub mod Stops
 pub mod Works

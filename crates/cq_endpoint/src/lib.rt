@@ -9,6 +9,7 @@
 mod appending;
 mod endpoint;
 mod fault;
+mod meeting;
 mod naming;
 mod reading;
 mod rooms;
