@@ -1,5 +1,5 @@
 //! Endpoints of a queue: each shares its queue with the others, and has an appender and a tailer of it. So a call on an
-//! endpoint asks nothing of who calls, and the last endpoint that is dropped frees the queue.
+//! endpoint asks nothing of who calls, but that two that meet are of one queue, and the last endpoint that is dropped frees it.
 //!
 //! An endpoint may be moved to a thread, and another one is split off for each thread. No call waits for another endpoint.
 //! `specs/Endpoints.antt` says what an endpoint is, `specs/Works.antt` what the calls that append answer, `specs/Faults.antt`
