@@ -7,7 +7,7 @@ use Rattle.clap.specs.declared.builder.command.Command.TheViews.{out-Command}
 use Rattle.clap.specs.declared.builder.ArgAction.TheVariants.{Append, Set, SetTrue}
 use Rattle.clap.specs.declared.builder.value_parser.ValueParser.TheVariants.{Unsigned}
 use Rattle.cq_orders.specs.declared.order.Order.{Order}
-use Rattle.cq_orders.specs.declared.order.Order.TheVariants.{Echo, Cycle, Init, Write, Read, Take, Check, Dump, Salvage, Race, DropBefore}
+use Rattle.cq_orders.specs.declared.order.Order.TheVariants.{Echo, Cycle, Init, Write, Read, Take, Check, Dump, Salvage, Race, DropBefore, Migrate}
 
 -- the word that names the command
 abbrev pub word_of : Order → List ℕ
@@ -21,6 +21,7 @@ word_of (DropBefore folder cycle) = codes "drop"
 word_of (Check folder) = codes "check"
 word_of (Dump folder file) = codes "dump"
 word_of (Salvage folder file) = codes "salvage"
+word_of (Migrate folder) = codes "migrate"
 word_of (Race messages) = codes "race"
 
 -- an argument that is to be given: any word, a number below 2^64, or one between two others
@@ -93,7 +94,9 @@ dump_command = with_rule (with_rule (new_app (codes "dump")) (word_rule (codes "
 abbrev pub salvage_command : App
 salvage_command = with_rule (with_rule (new_app (codes "salvage")) (word_rule (codes "DIR"))) (word_rule (codes "FILE"))
 
--- the commands that need no queue
+abbrev pub migrate_command : App
+migrate_command = with_rule (new_app (codes "migrate")) (word_rule (codes "DIR"))
+
 -- the commands that need no folder
 abbrev pub plain_commands : App → App
 plain_commands app = with_subcommand (with_subcommand (with_subcommand app echo_command.top) cycle_command.top) race_command.top
@@ -101,8 +104,8 @@ plain_commands app = with_subcommand (with_subcommand (with_subcommand app echo_
 -- the commands on a queue that is stored in a folder
 abbrev pub queue_commands : App → App
 queue_commands app =
-    with_subcommand (with_subcommand (with_subcommand (with_subcommand (with_subcommand (with_subcommand (with_subcommand (with_subcommand app init_command.top) write_command.top) read_command.top) take_command.top)
-    drop_command.top) check_command.top) dump_command.top) salvage_command.top
+    with_subcommand (with_subcommand (with_subcommand (with_subcommand (with_subcommand (with_subcommand (with_subcommand (with_subcommand (with_subcommand app init_command.top) write_command.top) read_command.top) take_command.top)
+    drop_command.top) check_command.top) dump_command.top) salvage_command.top) migrate_command.top
 
 -- the program with all its commands
 abbrev pub command_line : App

@@ -4,7 +4,7 @@ use Rattle.std.specs.Str.Parse.{IsNumeral, digits_value, without_leading_plus}
 use Rattle.clap.specs.Words.{Row, Text, all_of, first_of, one_of}
 use Rattle.cq_orders.specs.declared.settings.InitSettings.{InitSettings}
 use Rattle.cq_orders.specs.declared.order.Order.{Order}
-use Rattle.cq_orders.specs.declared.order.Order.TheVariants.{Echo, Cycle, Init, Write, Read, Take, Check, Dump, Salvage, Race, DropBefore}
+use Rattle.cq_orders.specs.declared.order.Order.TheVariants.{Echo, Cycle, Init, Write, Read, Take, Check, Dump, Salvage, Race, DropBefore, Migrate}
 
 -- the text is the word that was given under this name
 abbrev pub IsWord : {A : Type 0} → List Row → Text → String A → Type 0
@@ -52,4 +52,5 @@ TakesValues rows (DropBefore folder cycle) = IsWord rows (codes "DIR") folder ×
 TakesValues rows (Check folder) = IsWord rows (codes "DIR") folder
 TakesValues rows (Dump folder file) = IsWord rows (codes "DIR") folder × IsWord rows (codes "FILE") file
 TakesValues rows (Salvage folder file) = IsWord rows (codes "DIR") folder × IsWord rows (codes "FILE") file
+TakesValues rows (Migrate folder) = IsWord rows (codes "DIR") folder
 TakesValues rows (Race messages) = IsNumber rows (codes "MESSAGES") messages

@@ -3,7 +3,7 @@ ghost use Rattle.std.specs.Prelude.{IfOk, codes};
 ghost use Rattle.clap.specs.Words.{App, with_subcommand};
 ghost use Rattle.cq_command_line.specs.CommandLine.{Follows, Makes};
 ghost use Rattle.cq_command_line.specs.CommandLine.{check_command, command_line, cycle_command, drop_command, dump_command};
-ghost use Rattle.cq_command_line.specs.CommandLine.{echo_command, init_command};
+ghost use Rattle.cq_command_line.specs.CommandLine.{echo_command, init_command, migrate_command};
 ghost use Rattle.cq_command_line.specs.CommandLine.{init_place, plain_commands, queue_commands, read_command};
 ghost use Rattle.cq_command_line.specs.CommandLine.{salvage_command, take_command, with_sizes, write_command, race_command};
 ghost use Rattle.cq_command_line.specs.CommandLine.{flag_rule, number_rule, option_rule, word_rule, words_rule, between_rule};
@@ -46,7 +46,8 @@ fn queue_commands<'a>(
     let program = with_subcommand(program, drop_command(alloc));
     let program = with_subcommand(program, check_command(alloc));
     let program = with_subcommand(program, dump_command(alloc));
-    with_subcommand(program, salvage_command(alloc))
+    let program = with_subcommand(program, salvage_command(alloc));
+    with_subcommand(program, migrate_command(alloc))
 }
 
 /// A command with another one below it, where both could be made.
@@ -247,6 +248,19 @@ fn salvage_command<'a>(alloc: Global) -> Result<Command<'a>, AllocError>
         .after_help("Example:\n  cq salvage journal $(date -u +%Y%m%d).cqi")
         .arg(folder(alloc))?
         .arg(image_file(alloc))
+}
+
+fn migrate_command<'a>(alloc: Global) -> Result<Command<'a>, AllocError>
+    ensures { IfOk result (λ command. Makes command migrate_command) }
+{
+    Command::new(alloc, "migrate")
+        .about("Makes a folder of version 1 one of version 2, in which each cycle has 3 more cells")
+        .after_help(
+            "The first line of queue.cqc tells the version: 'cq 1' or 'cq 2'. A folder of version 2 stays\n\
+             as it is. CELLS + 3 is to be at most 1,048,576, and CYCLES * (CELLS + 3) at most 4,194,304.\n\n\
+             Example:\n  cq migrate journal",
+        )
+        .arg(folder(alloc))
 }
 
 fn folder<'a>(alloc: Global) -> Arg<'a>

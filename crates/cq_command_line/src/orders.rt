@@ -54,6 +54,7 @@ fn order_named(alloc: Global, name: &str, values: &ArgMatches<'_>) -> Result<Ord
         "check" => check_order(alloc, values),
         "dump" => dump_order(alloc, values),
         "salvage" => salvage_order(alloc, values),
+        "migrate" => migrate_order(alloc, values),
         "race" => race_order(values),
         _ => Err(OrderFault::NoOrder),
     }
@@ -162,6 +163,15 @@ fn salvage_order(alloc: Global, values: &ArgMatches<'_>) -> Result<Order, OrderF
     Ok(Order::Salvage {
         folder: word(alloc, values, "DIR")?,
         file: word(alloc, values, "FILE")?,
+    })
+}
+
+fn migrate_order(alloc: Global, values: &ArgMatches<'_>) -> Result<Order, OrderFault>
+    ensures named { IfOk result (λ order. word_of order ≡ codes "migrate") }
+    ensures values { IfOk result (λ order. TakesValues (rows_of (found_of values.now)) order) }
+{
+    Ok(Order::Migrate {
+        folder: word(alloc, values, "DIR")?,
     })
 }
 

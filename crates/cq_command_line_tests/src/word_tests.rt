@@ -198,7 +198,7 @@ fn parses_the_words_of_a_reader(rt: HostRuntime) -> Result<(), Fail> {
 
 #[test]
 fn parses_the_words_of_other_commands(rt: HostRuntime) -> Result<(), Fail> {
-    let table: [(&[&str], &str); 30] = [
+    let table: [(&[&str], &str); 34] = [
         (
             &["cq", "write", "q", "18446744073709551615"],
             "Write { folder: \"q\", moment: 18446744073709551615 }",
@@ -262,6 +262,10 @@ fn parses_the_words_of_other_commands(rt: HostRuntime) -> Result<(), Fail> {
             &["cq", "salvage", "--help"],
             "Usage: cq salvage <DIR> <FILE>",
         ),
+        (&["cq", "migrate", "q"], "Migrate { folder: \"q\" }"),
+        (&["cq", "migrate"], "<DIR>"),
+        (&["cq", "migrate", "q", "r"], "unexpected argument 'r'"),
+        (&["cq", "migrate", "--help"], "Usage: cq migrate <DIR>"),
     ];
     expect(&rt, table.as_slice())
 }
@@ -409,6 +413,10 @@ fn help_names_the_limits_of_other_words(rt: HostRuntime) -> Result<(), Fail> {
             "salvage",
             " <FILE>  The image's file in DIR: yyyyMMdd.cqi, yyyyMMdd-HH.cqi or yyyyMMdd-HHmm.cqi, by the roll\n",
         ),
+        (
+            "migrate",
+            "CELLS + 3 is to be at most 1,048,576, and CYCLES * (CELLS + 3) at most 4,194,304.\n",
+        ),
     ];
     expect_help(&rt, table.as_slice())
 }
@@ -441,6 +449,7 @@ fn help_gives_an_example(rt: HostRuntime) -> Result<(), Fail> {
             "salvage",
             "Example:\n  cq salvage journal $(date -u +%Y%m%d).cqi\n",
         ),
+        ("migrate", "Example:\n  cq migrate journal\n"),
     ];
     expect_help(&rt, table.as_slice())
 }

@@ -1,7 +1,7 @@
 -- The folder of an order, and which orders need threads.
 use Rattle.std.specs.Prelude.{⊤, ℕ, List, Option, None, Some, string_bytes}
 use Rattle.cq_orders.specs.declared.order.Order.{Order}
-use Rattle.cq_orders.specs.declared.order.Order.TheVariants.{Echo, Cycle, Init, Write, Read, Take, Check, Dump, Salvage, Race, DropBefore}
+use Rattle.cq_orders.specs.declared.order.Order.TheVariants.{Echo, Cycle, Init, Write, Read, Take, Check, Dump, Salvage, Race, DropBefore, Migrate}
 
 -- the path of the folder that an order is for
 abbrev pub folder_of : Order → Option (List ℕ)
@@ -15,6 +15,7 @@ folder_of (DropBefore folder cycle) = Some (string_bytes folder)
 folder_of (Check folder) = Some (string_bytes folder)
 folder_of (Dump folder file) = Some (string_bytes folder)
 folder_of (Salvage folder file) = Some (string_bytes folder)
+folder_of (Migrate folder) = Some (string_bytes folder)
 folder_of (Race messages) = None
 
 -- the order is one for several callers in threads of their own

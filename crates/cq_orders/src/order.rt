@@ -73,6 +73,11 @@ pub enum Order {
         /// The name of the image's file.
         file: String,
     },
+    /// Make a folder of version 1 one of version 2.
+    Migrate {
+        /// The folder.
+        folder: String,
+    },
     /// Let two appenders and two tailers share a new queue, each in a thread of its own.
     Race {
         /// How many messages each of the two appends.
@@ -94,7 +99,8 @@ impl Order {
             | Order::DropBefore { folder, .. }
             | Order::Check { folder }
             | Order::Dump { folder, .. }
-            | Order::Salvage { folder, .. } => Some(folder.as_str()),
+            | Order::Salvage { folder, .. }
+            | Order::Migrate { folder } => Some(folder.as_str()),
         }
     }
 }

@@ -9,4 +9,5 @@ returns c app made =
     let dropping = c.with_subcommand-program-5.ensures _ _ take c.drop_command.ensures in
     let check = c.with_subcommand-program-6.ensures _ _ dropping c.check_command.ensures in
     let dump = c.with_subcommand-program-7.ensures _ _ check c.dump_command.ensures in
-    c.with_subcommand.ensures _ _ dump c.salvage_command.ensures
+    let salvage = c.with_subcommand-program-8.ensures _ _ dump c.salvage_command.ensures in
+    c.with_subcommand.ensures _ _ salvage c.migrate_command.ensures
