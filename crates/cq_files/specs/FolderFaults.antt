@@ -1,13 +1,17 @@
 -- Which faults of a folder and its files are answered.
-use Rattle.std.specs.Prelude.{◌≡◌, ◌⊎◌, ⊤, ℕ, ◌+◌, true, false, ◌<◌, ◌≤◌, List, length, slice_get, take, Err, IsOk, IsSome, IsSomeAnd, Some, codes, string_bytes}
+use Rattle.std.specs.Prelude.{◌≡◌, ◌⊎◌, ⊤, ℕ, ◌+◌, true, false, ◌<◌, ◌≤◌, List, length, slice_get, take, Result, Ok, Err, IsOk, IsSome, IsSomeAnd, Some, codes, string_bytes}
 use Rattle.std.specs.List.{AllByRecursion}
 use Rattle.std.specs.declared.cmp.Ordering.TheVariants.{Less}
+use Rattle.cq_cycle.specs.declared.roll.TheConstants.{LAST_CYCLE}
 use Rattle.cq_model.specs.Settings.{IsLawfulSettings, Settings}
 use Rattle.cq_image.specs.declared.fault.ImageFault.{ImageFault}
 use Rattle.cq_image.specs.Reading.{read_of}
 use Rattle.cq_folder.specs.ConfigFault.{RefusesText}
 use Rattle.cq_folder.specs.ConfigText.{IsTextOf}
 use Rattle.cq_folder.specs.Folder.{Files}
+use Rattle.cq_folder.specs.Version.{version_of}
+use Rattle.cq_folder.specs.declared.version.FolderVersion.{FolderVersion}
+use Rattle.cq_folder.specs.declared.version.FolderVersion.TheVariants as version
 use Rattle.cq_folder.specs.declared.config_fault.ConfigFault.{ConfigFault}
 use Rattle.cq_folder.specs.declared.config_fault.ConfigFault.TheVariants as config
 use Rattle.cq_files.specs.declared.opening.CycleImage.{CycleImage}
@@ -17,7 +21,7 @@ use Rattle.cq_files.specs.Salvaged.{IsSalvaged}
 use Rattle.cq_files.specs.Queue.{HoldQueue, IsImageFile, IsImageName, IsLawfulImage, file_of, name_cmp}
 use Rattle.cq_files.specs.declared.files.TheConstants.{MOST_FILE_BYTES}
 use Rattle.cq_text.specs.declared.fault.ToolFault.{ToolFault}
-use Rattle.cq_text.specs.declared.fault.ToolFault.TheVariants.{OutOfMemory, FolderFault, FileFault, FileTooLarge, WriteFault, ConfigLine, BadShape, BadConfig, BadCycleName, FaultyImage, NoQueueHere, WrongEnd, NoSuchFile, ImagesAtFault}
+use Rattle.cq_text.specs.declared.fault.ToolFault.TheVariants.{OutOfMemory, FolderFault, FileFault, FileTooLarge, WriteFault, ConfigLine, BadShape, BadConfig, BadCycleName, FaultyImage, NoQueueHere, OldVersion, WrongEnd, NoSuchFile, ImagesAtFault}
 
 -- a fault of listing the folder
 abbrev pub IsListFault : ToolFault → Type 0
@@ -50,6 +54,14 @@ pub record HasSettings (files : Files) (settings : Settings) : Type 0 where
   pub floor : ℕ
   pub spelled : IsSomeAnd (files (codes "queue.cqc")) (IsTextOf settings positions floor)
 
+-- the files' configuration is within its limits, and tells this version
+pub record HasVersion (files : Files) (version : FolderVersion) : Type 0 where
+  pub settings : Settings
+  pub configured : HasSettings files settings
+  pub lawful : IsLawfulSettings settings
+  pub low : configured.floor ≤ LAST_CYCLE
+  pub told : version_of settings.shape.store ≡ version
+
 -- the text of the files' configuration is refused so
 abbrev pub RefusesConfig : Files → ConfigFault → Type 0
 RefusesConfig files fault = IsSomeAnd (files (codes "queue.cqc")) (RefusesText fault)
@@ -68,17 +80,27 @@ pub record HoldsFault (files : Files) (file : List ℕ) (fault : ImageFault) : T
   pub named : IsImageName settings cycle file
   pub found : IsSomeAnd (files file) (λ bytes. read_of settings.shape cycle bytes ≡ Err fault)
 
--- the file is one of the queue's images, and the first that ends wrongly among them
+-- the first of these images that ends wrongly has this file
+pub record EndsWronglyIn (images : List CycleImage) (file : List ℕ) : Type 0 where
+  pub at : ℕ
+  pub image : CycleImage
+  pub there : slice_get images at ≡ Some image
+  pub named : file ≡ file_of image
+  pub ends : EndsWronglyAt images at image
+  pub before : AllByRecursion (λ other. other.ended ≡ true) (take at images)
+
+-- why the ends of images are refused
+abbrev pub IsEndFault : List CycleImage → ToolFault → Type 0
+IsEndFault images OutOfMemory = ⊤
+IsEndFault images (WrongEnd file) = EndsWronglyIn images (string_bytes file)
+IsEndFault images _ = ⊥
+
+-- the first of the queue's images that ends wrongly has this file
 pub record EndsWrongly (files : Files) (file : List ℕ) : Type 0 where
   pub queue : SavedQueue
   pub held : HoldQueue queue files
   pub lawful : AllByRecursion (IsLawfulImage queue.saved.config) queue.images.items
-  pub at : ℕ
-  pub image : CycleImage
-  pub there : slice_get queue.images.items at ≡ Some image
-  pub named : file ≡ file_of image
-  pub ends : EndsWronglyAt queue.images.items at image
-  pub before : AllByRecursion (λ other. other.ended ≡ true) (take at queue.images.items)
+  pub first : EndsWronglyIn queue.images.items file
 
 -- what the files have to do with a fault that they are said to have; of a fault of the device, and of want of memory,
 -- they say nothing
@@ -91,6 +113,7 @@ HasCause files NoQueueHere = ¬ IsSome (files (codes "queue.cqc"))
 HasCause files (ConfigLine number) = RefusesConfig files (config.Line number)
 HasCause files BadShape = RefusesConfig files config.BadShape
 HasCause files BadConfig = RefusesConfig files config.BadConfig
+HasCause files OldVersion = HasVersion files version.First
 HasCause files (BadCycleName file) = NamesNoCycle files (string_bytes file)
 HasCause files (FaultyImage file fault) = HoldsFault files (string_bytes file) fault
 HasCause files (WrongEnd file) = EndsWrongly files (string_bytes file)
@@ -149,6 +172,12 @@ IsFolderFault BadShape = ⊤
 IsFolderFault BadConfig = ⊤
 IsFolderFault _ = ⊥
 
+-- a command that changes files is done, or comes to a fault behind those of `queue.cqc`, in a folder of the second version
+-- alone, and in one of the first is refused as old
+abbrev pub MindsVersion : {T : Type 0} → Files → Result T ToolFault → Type 0
+MindsVersion files (Ok done) = HasVersion files version.Second
+MindsVersion files (Err fault) = IsFolderFault fault ⊎ ((fault ≡ OldVersion) ⊎ HasVersion files version.Second)
+
 -- a fault of the names of images: the first one that names no cycle
 abbrev pub IsNamingFault : Files → ToolFault → Type 0
 IsNamingFault files OutOfMemory = ⊤
@@ -159,6 +188,14 @@ IsNamingFault files _ = ⊥
 abbrev pub IsImageFault : List ℕ → ToolFault → Type 0
 IsImageFault name (FaultyImage file fault) = string_bytes file ≡ name
 IsImageFault name fault = IsFileFault name fault
+
+-- a fault of one of the images
+abbrev pub IsImagesFault : ToolFault → Type 0
+IsImagesFault OutOfMemory = ⊤
+IsImagesFault (FileFault file) = ⊤
+IsImagesFault (FileTooLarge file) = ⊤
+IsImagesFault (FaultyImage file fault) = ⊤
+IsImagesFault _ = ⊥
 
 -- why the images of a queue are not read: the first fault of its folder
 abbrev pub IsQueueFault : Files → ToolFault → Type 0

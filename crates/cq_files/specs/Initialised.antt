@@ -3,7 +3,7 @@ use Rattle.std.specs.Prelude.{◌≡◌, ◌⊎◌, ⊤, ℕ, List, length, repl
 use Rattle.cq_layout.specs.Shape.{IsLawfulShape, Measures, measures}
 use Rattle.cq_cycle.specs.declared.roll.Roll.{Roll}
 use Rattle.cq_cycle.specs.RollWord.{roll_word}
-use Rattle.cq_model.specs.Settings.{IsLawfulSettings, Settings, settings_of, texts}
+use Rattle.cq_model.specs.Settings.{IsLawfulSettings, Settings, new_settings, texts}
 use Rattle.cq_folder.specs.ConfigText.{IsTextOf}
 use Rattle.cq_folder.specs.Folder.{Files}
 use Rattle.cq_text.specs.declared.fault.ToolFault.{ToolFault}
@@ -15,9 +15,9 @@ use Rattle.cq_files.specs.FolderFaults.{IsFileFault, IsSaveFault}
 abbrev pub wanted_shape : InitSettings → Measures
 wanted_shape wanted = measures wanted.cells wanted.index_count wanted.index_spacing
 
--- the settings that were asked for, with this roll
+-- the settings of a new queue that were asked for, with this roll
 abbrev pub wanted_settings : InitSettings → Roll → Settings
-wanted_settings wanted roll = settings_of (wanted_shape wanted) wanted.cycles roll wanted.epoch (texts wanted.names.items)
+wanted_settings wanted roll = new_settings (wanted_shape wanted) wanted.cycles roll wanted.epoch (texts wanted.names.items)
 
 -- the text says what was asked for, which is lawful, each name stands at 0, and so does the floor
 pub record IsTextFor (wanted : InitSettings) (roll : Roll) (text : List ℕ) : Type 0 where
@@ -52,8 +52,9 @@ IsNew files = IfSome files (λ held. ¬ HasQueue held)
 -- why the settings are refused: their limits, of which the shape's come first
 abbrev pub IsLimitFault : InitSettings → Roll → ToolFault → Type 0
 IsLimitFault wanted roll OutOfMemory = ⊤
-IsLimitFault wanted roll BadShape = ¬ IsLawfulShape (wanted_shape wanted)
-IsLimitFault wanted roll BadConfig = IsLawfulShape (wanted_shape wanted) × ¬ IsLawfulSettings (wanted_settings wanted roll)
+IsLimitFault wanted roll BadShape = ¬ IsLawfulShape (wanted_settings wanted roll).shape
+IsLimitFault wanted roll BadConfig =
+    IsLawfulShape (wanted_settings wanted roll).shape × ¬ IsLawfulSettings (wanted_settings wanted roll)
 IsLimitFault wanted roll _ = ⊥
 
 -- why no queue is made in a new folder: the settings are refused, or they are lawful and the file is at fault

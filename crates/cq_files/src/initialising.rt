@@ -14,8 +14,8 @@ use cq_orders::InitSettings;
 use cq_text::ToolFault;
 use std::alloc::Global;
 
-/// The command `init`: makes a queue in a folder that is there, by writing its `queue.cqc`, with each name at 0. Its first
-/// cycle begins with the first `write`.
+/// The command `init`: makes a queue in a folder that is there, by writing its `queue.cqc`, of version 2 and with each name
+/// at 0. Its first cycle begins with the first `write`.
 ///
 /// The first of these faults is answered: `BadConfig` where the word names no roll, `FolderFault`, `QueueThereAlready`,
 /// `BadShape`, `BadConfig`, `FileFault`. `OutOfMemory` can come at any growth, and leaves every file as it was. After a
@@ -76,7 +76,7 @@ fn config_for(alloc: Global, roll: Roll, settings: &InitSettings) -> Result<Conf
     ensures fault { IfErr result (IsLimitFault settings.now roll) }
 {
     let wanted = WantedConfig {
-        version: FolderVersion::First,
+        version: FolderVersion::Second,
         roll,
         epoch: settings.epoch,
         cells: settings.cells,

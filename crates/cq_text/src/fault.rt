@@ -75,6 +75,9 @@ pub enum ToolFault {
     /// The settings are outside the limits, or name no roll.
     #[error("BadConfig")]
     BadConfig,
+    /// The folder is of version 1, and no command changes such a one but that which makes version 2 of it.
+    #[error("OldVersion")]
+    OldVersion,
     /// The moment lies in no cycle.
     #[error("BadMoment")]
     BadMoment,
