@@ -1,7 +1,7 @@
 #!/usr/bin/env python3
 """Hurts folders of cq while commands work on them: docs/hurt_folder.py [MODE..] [--runs N] [--seed N] [--room DIR].
 
-The modes, all four where none is named:
+The modes, all five where none is named:
 
 kills   N times (100 where it is not given) a `write` that rolls or not, a `take` or a `drop` is killed at a random moment.
 device  `write`, `take` and `drop` on a device that is full at every step: a small tmpfs, which root may mount, with room for k more
@@ -9,8 +9,11 @@ device  `write`, `take` and `drop` on a device that is full at every step: a sma
 calls   each call of the system that the same commands make on their folder fails in turn with EIO and with ENOSPC, and the command is
         killed there. It needs strace (apt-get install strace).
 beside  N times two `write` at once, N times two `take` at once, and 7 * N times a `read` beside a `write` that rolls.
+migrate N times a `migrate` of a folder of version 1 with several images is killed at a random moment, and each of its calls of the
+        system fails, or is killed, as in the mode calls. Behind that `read` has to print what the folder holds, or to name an image
+        of version 2 in a folder of version 1; `migrate` once more leaves the files that one without a fault leaves.
 
-Behind each of these the folder is looked at: `read` and `check` have to answer what the queue below answers with all of the command
+Behind each of the first four the folder is looked at: `read` and `check` have to answer what the queue below answers with all of the command
 or nothing of it, `queue.cqc` has to say so too behind the next command that is alone in the folder, with no file left that is none
 of a queue's, and then a `write` and a `read` have to be done. The queue below is written after docs/FORMATS.md and shares nothing
 with the program. What a command answered has to agree with what was done.
@@ -39,10 +42,11 @@ CALLS = {"statx", "openat", "flock", "getdents64", "read", "write", "fsync", "cl
 
 
 class Queue:
-    """What a folder holds: the messages of each cycle, the floor, and the position of the name `reader`."""
+    """What a folder holds: the messages of each cycle, the floor, and the position of the name `reader`; with its version."""
 
-    def __init__(self):
+    def __init__(self, version=2):
         self.lists, self.floor, self.position = {}, 0, 0
+        self.version, self.cells = version, CELLS
 
     def messages(self):
         return [
@@ -65,9 +69,42 @@ class Queue:
     def config(self):
         floor = f"floor {self.floor}\n" if self.floor else ""
         return (
-            f"cq 1\nroll daily\nepoch 0\ncells {CELLS}\ncount {COUNT}\nspacing {SPACING}\ncycles {CYCLES}\n"
+            f"cq {self.version}\nroll daily\nepoch 0\ncells {self.cells}\ncount {COUNT}\nspacing {SPACING}\ncycles {CYCLES}\n"
             f"{floor}name reader {self.position}\n"
         ).encode()
+
+    def image(self, cycle):
+        """The image of a cycle."""
+        texts, last = self.lists[cycle], max(self.lists)
+        end = b"" if cycle == last else four(0xC0000000)
+        if not texts:
+            return end
+        origin = (0, 0, DAY) if self.version == 2 else ()
+        store = b"CQIF" + b"".join(map(four, (self.version, cycle, COUNT, SPACING, self.cells, *origin)))
+        at, tables, places, records = 4 + len(store) + 4 + 4 * COUNT, [], [], []
+        for sequence, text in enumerate(texts):
+            if sequence % (COUNT * SPACING) == 0:
+                tables.append(at)
+                at += 4 + 4 * COUNT
+            places.append(at)
+            records.append(four(len(text)) + text + bytes(-len(text) % 4))
+            at += len(records[-1])
+        parts = [four(0x40000000 + len(store)), store, table_of(tables)]
+        for sequence, record in enumerate(records):
+            if sequence % (COUNT * SPACING) == 0:
+                parts.append(table_of(places[sequence:sequence + COUNT * SPACING:SPACING]))
+            parts.append(record)
+        return b"".join(parts) + end
+
+    def files(self):
+        """The files of the folder."""
+        return {"queue.cqc": self.config(), **{name_of(cycle): self.image(cycle) for cycle in self.lists}}
+
+    def migrated(self):
+        """The queue of version 2 that one of version 1 becomes."""
+        queue = copy.deepcopy(self)
+        queue.version, queue.cells = 2, self.cells + 3
+        return queue
 
     def done(self, command):
         """The queue behind a command, and what the command prints."""
@@ -89,6 +126,15 @@ class Queue:
         return queue, b"not yet\n"
 
 
+def four(number):
+    return number.to_bytes(4, "little")
+
+
+def table_of(places):
+    """The record of a table with these entries."""
+    return b"".join(map(four, [0x40000000 + 4 * COUNT] + places + [0] * (COUNT - len(places))))
+
+
 def name_of(cycle):
     """The file of a cycle of a day each."""
     return time.strftime("%Y%m%d.cqi", time.gmtime(cycle * DAY // 1000))
@@ -108,6 +154,8 @@ class Tried:
             return [self.program, "write", folder, str(number * DAY)], b"".join(line + b"\n" for line in lines)
         if kind == "drop":
             return [self.program, "drop", folder, str(number)], b""
+        if kind == "migrate":
+            return [self.program, "migrate", folder], b""
         return [self.program, "take", folder, "reader"], b""
 
     def run(self, folder, command, front=(), **how):
@@ -132,7 +180,7 @@ class Tried:
         """Which of two queues a folder holds, by those who only read and then behind a command that is alone there."""
         read, check = self.asked("read", folder), self.asked("check", folder)
         self.asked("take", folder, "nobody")
-        held = {name: open_bytes(os.path.join(folder, name)) for name in os.listdir(folder)}
+        held = held_in(folder)
         for queue in (new, old):
             names = {"queue.cqc", *map(name_of, queue.lists)}
             is_held = held.get("queue.cqc") == queue.config() and set(held) == names
@@ -168,6 +216,11 @@ class Tried:
         if got != (0, text, b"") or self.asked("read", folder) != (0, queue.read(), b""):
             self.wrong.append(f"{what}: the next command: {got}")
         return queue
+
+
+def held_in(folder):
+    """The files of a folder."""
+    return {name: open_bytes(os.path.join(folder, name)) for name in os.listdir(folder)}
 
 
 def open_bytes(path):
@@ -333,22 +386,28 @@ def try_calls(tried, _runs):
     log = os.path.join(tried.room, "log")
     tried.made(ready, queue)
     for command in [("write", 1, commands[0][2]), ("write", 2, commands[1][2]), ("take", 0, []), ("drop", 1, [])]:
-        shutil.copytree(ready, folder)
-        found = traced(tried, folder, command, log)
-        shutil.rmtree(folder)
-        if "rename" not in [name for name, _ in found]:
-            tried.wrong.append(f"calls at {kind_of(queue, command)}: no rename was seen")
-        for name, place in found:
-            for how in ("error=EIO", "error=ENOSPC", "signal=KILL"):
-                shutil.copytree(ready, folder)
-                inject = ["strace", "-o", log, "-e", f"trace={name}", "-e", f"inject={name}:{how}:when={place}"]
-                answer = tried.run(folder, command, front=inject)
-                marks = ("(INJECTED)", "SIGKILL")
-                if not any(mark in open_bytes(log).decode(errors="replace") for mark in marks):
-                    tried.wrong.append(f"calls, {name} {place}: nothing was injected")
-                tried.counts["calls: failed or killed"] += 1
-                tried.judge(folder, queue, command, answer, f"calls at {kind_of(queue, command)}, {how} at {name} {place}")
-                shutil.rmtree(folder)
+        for answer, what in hurt_calls(tried, ready, folder, command, log, f"calls at {kind_of(queue, command)}"):
+            tried.counts["calls: failed or killed"] += 1
+            tried.judge(folder, queue, command, answer, what)
+
+
+def hurt_calls(tried, ready, folder, command, log, what):
+    """What a command answers on a copy of a folder where one of its calls of the system fails or is killed, for each of them."""
+    shutil.copytree(ready, folder)
+    found = traced(tried, folder, command, log)
+    shutil.rmtree(folder)
+    if "rename" not in [name for name, _ in found]:
+        tried.wrong.append(f"{what}: no rename was seen")
+    for name, place in found:
+        for how in ("error=EIO", "error=ENOSPC", "signal=KILL"):
+            shutil.copytree(ready, folder)
+            inject = ["strace", "-o", log, "-e", f"trace={name}", "-e", f"inject={name}:{how}:when={place}"]
+            answer = tried.run(folder, command, front=inject)
+            marks = ("(INJECTED)", "SIGKILL")
+            if not any(mark in open_bytes(log).decode(errors="replace") for mark in marks):
+                tried.wrong.append(f"{what}, {name} {place}: nothing was injected")
+            yield answer, f"{what}, {how} at {name} {place}"
+            shutil.rmtree(folder)
 
 
 def both(tried, folder, one, two):
@@ -421,12 +480,77 @@ def try_beside(tried, runs):
     try_readers(tried, 7 * runs)
 
 
-MODES = {"kills": try_kills, "device": try_device, "calls": try_calls, "beside": try_beside}
+def some_old_queue(dice):
+    """A queue of version 1 with several images, some of many pages and some without a message."""
+    queue, cycle = Queue(version=1), 0
+    for _ in range(dice.randint(2, CYCLES)):
+        queue.lists[cycle] = some_lines(dice) * dice.choice([0, 1, 1, 20])
+        cycle += dice.randint(1, 3)
+    queue.floor = dice.choice([0, dice.randint(0, max(queue.lists))])
+    queue.position = dice.choice([0, dice.choice(queue.messages() or [(0, b"")])[0]])
+    return queue
+
+
+def put(folder, queue):
+    """Makes a folder with the files of a queue."""
+    os.makedirs(folder)
+    for name, data in queue.files().items():
+        with open(os.path.join(folder, name), "wb") as file:
+            file.write(data)
+
+
+def judge_migration(tried, folder, queue, answer, what):
+    """Looks at a folder behind a `migrate` that was hurt, and at what one more makes of it."""
+    status, printed, said = answer
+    new = queue.migrated()
+    if status not in (0, 1, -9, 137) or printed or status == 0 and (said or held_in(folder) != new.files()):
+        tried.wrong.append(f"{what}: {status} {printed!r} {said!r}")
+    if status == 1 and not re.fullmatch(rb"cq: (folder fault|file fault: [^\n]+)\n", said):
+        tried.wrong.append(f"{what}: said {said!r}")
+    read = tried.asked("read", folder)
+    is_mixed = read[:2] == (1, b"") and re.fullmatch(rb"cq: \d{8}\.cqi: WrongStore at 0\n", read[2])
+    if read != (0, queue.read(), b"") and not is_mixed:
+        tried.wrong.append(f"{what}: read {read}")
+    tried.counts[f"{what.split(',')[0]}: {'not read' if is_mixed else 'read'} before the next"] += 1
+    again = tried.asked("migrate", folder)
+    if again != (0, b"", b"") or held_in(folder) != new.files():
+        tried.wrong.append(f"{what}: once more: {again}, {sorted(held_in(folder))}")
+    else:
+        tried.goes_on(folder, new, what)
+
+
+def try_migrations(tried, runs):
+    """Kills `migrate` at random moments, and has each of its calls fail."""
+    folder, command, times, killed = os.path.join(tried.room, "migrated"), ("migrate", 0, []), [], 0
+    while killed < runs:
+        queue = some_old_queue(tried.dice)
+        put(folder, queue)
+        is_alone = not times or tried.dice.random() < 0.05
+        moment = None if is_alone else tried.dice.uniform(0, 1.1 * statistics.median(times))
+        answer, took = killed_at(tried, folder, command, moment)
+        if is_alone:
+            times = [*times[-8:], took]
+        killed += answer[0] == -9
+        what = "migrate killed" if answer[0] == -9 else "migrate not killed"
+        judge_migration(tried, folder, queue, answer, f"{what}, kill {killed}")
+        shutil.rmtree(folder)
+    if shutil.which("strace") is None:
+        tried.untried.append("migrate, calls: strace is not there (apt-get install strace)")
+        return
+    ready, log = os.path.join(tried.room, "old"), os.path.join(tried.room, "migrate-log")
+    queue = Queue(version=1)
+    queue.lists = {0: [b"%0100d" % number for number in range(60)], 1: [], 2: [b"last"]}
+    put(ready, queue)
+    for answer, what in hurt_calls(tried, ready, folder, command, log, "migrate at a call"):
+        judge_migration(tried, folder, queue, answer, what)
+
+
+MODES = {"kills": try_kills, "device": try_device, "calls": try_calls, "beside": try_beside, "migrate": try_migrations}
 
 
 def main():
     words = argparse.ArgumentParser(description="Hurts folders of cq while commands work on them.")
-    words.add_argument("modes", nargs="*", metavar="MODE", help="kills, device, calls or beside")
+    words.add_argument("modes", nargs="*", metavar="MODE", help="kills, device, calls, beside or migrate")
     words.add_argument("--runs", type=int, default=100)
     words.add_argument("--seed", type=int, default=1)
     words.add_argument("--room", default=None)

@@ -65,9 +65,22 @@ NEXT = (["write", "D", "1728086400000"], b"a\n")
 FILE = "20241004.cqi"
 FIRST = [INIT, (["write", "D", "0"], b"hello\n"), (["write", "D", "86400000"], b"a\n")]
 
+# The files of a folder of version 1 with "hello" and "world".
+OLD = {
+    "queue.cqc": b"cq 1\nroll daily\nepoch 0\ncells 64\ncount 8\nspacing 1\ncycles 4\nname reader 0\n",
+    FILE: bytes.fromhex(
+        "180000404351494601000000204e0000080000000100000040000000"
+        "200000404000000000000000000000000000000000000000000000000000000000000000"
+        "200000406400000070000000000000000000000000000000000000000000000000000000"
+        "0500000068656c6c6f000000"
+        "05000000776f726c64000000"
+    ),
+}
+
 RACED = b"writer 0: 3 in order\nwriter 1: 3 in order\nreader 0: 6 read\nreader 1: 6 read\n"
 
-# What was done to the folder before, the bytes that are kept of the image, the command and its input, and its answer.
+# What was done to the folder before, or put into it, the bytes that are kept of the image, the command and its input, and its
+# answer.
 ROWS = [
     ([], None, (["echo"], b"hello\nworld\n"), b"0 hello\n1 world\n"),
     ([], None, (["cycle", "daily", "0", "1728000000000"], b""), b"20000 20241004 00004e2000000000\n"),
@@ -80,15 +93,18 @@ ROWS = [
     ([INIT, HELLO], None, (["check", "D"], b""), b"20241004.cqi: 2 messages, open\n"),
     ([INIT, HELLO], None, (["take", "D", "reader"], b""), b"00004e2000000000 hello\n"),
     ([INIT, HELLO], None, (["salvage", "D", FILE], b""), b"0 hello\n1 world\nwhole\n"),
-    ([INIT, HELLO], 115, (["salvage", "D", FILE], b""), b"0 hello\nCut at 112\n"),
-    ([INIT, HELLO], 28, (["salvage", "D", FILE], b""), b"Cut at 28\n"),
+    ([INIT, HELLO], 127, (["salvage", "D", FILE], b""), b"0 hello\nCut at 124\n"),
+    ([INIT, HELLO], 40, (["salvage", "D", FILE], b""), b"Cut at 40\n"),
     (
         FIRST,
         None,
         (["dump", "D", "19700101.cqi"], b""),
-        b"00000000 40000018 store 1 0 8 1 64\n0000001c 40000020 top 64 0 0 0 0 0 0 0\n"
-        b"00000040 40000020 table 0 100 0 0 0 0 0 0 0\n00000064 00000005 data 0 68656c6c6f\n00000070 c0000000 end\n",
+        b"00000000 40000024 store 2 0 8 1 64 0 86400000\n00000028 40000020 top 76 0 0 0 0 0 0 0\n"
+        b"0000004c 40000020 table 0 112 0 0 0 0 0 0 0\n00000070 00000005 data 0 68656c6c6f\n0000007c c0000000 end\n",
     ),
+    ([OLD], None, (["read", "D"], b""), b"00004e2000000000 hello\n00004e2000000001 world\n"),
+    ([OLD], None, (["migrate", "D"], b""), b""),
+    ([INIT, HELLO], None, (["migrate", "D"], b""), b""),
 ]
 WANT = b"cq: want of memory\n"
 
@@ -120,12 +136,22 @@ def held(folder):
     return files
 
 
+def put(folder, files):
+    """Puts files into a folder."""
+    for name, data in files.items():
+        with open(os.path.join(folder, name), "wb") as file:
+            file.write(data)
+
+
 def try_row(program, shim, room, row):
     before, keep, (words, given), answer = row
     first = os.path.join(room, "first")
     os.mkdir(first)
-    for old, old_input in before:
-        assert run(program, old, old_input, first)[0] == 0
+    for done in before:
+        if isinstance(done, dict):
+            put(first, done)
+        else:
+            assert run(program, *done, first)[0] == 0
     if keep is not None:
         os.truncate(os.path.join(first, FILE), keep)
     whole = os.path.join(room, "whole")
