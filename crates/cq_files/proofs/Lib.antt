@@ -7,3 +7,4 @@ pub mod WritingLemmas
 pub mod CheckLemmas
 pub mod ShownLemmas
 pub mod CountLemmas
+mod MovingLemmas

@@ -7,3 +7,4 @@ pub mod Dumped
 pub mod Counted
 pub mod Salvaged
 pub mod Shown
+pub mod Migrated

@@ -1,5 +1,5 @@
-//! The commands of the program `cq` on the files of a folder, which need no queue: `init`, `check`, `dump` and `salvage`; and
-//! how the images of a queue are read from its folder and saved there.
+//! The commands of the program `cq` on the files of a folder, which need no queue: `init`, `check`, `dump`, `salvage` and
+//! `migrate`; and how the images of a queue are read from its folder and saved there.
 #![tactic(auto)]
 
 mod checking;
@@ -7,6 +7,7 @@ mod dumping;
 mod files;
 mod given;
 mod initialising;
+mod migrating;
 mod names;
 mod opening;
 mod salvaging;
@@ -16,6 +17,7 @@ pub use checking::check;
 pub use dumping::dump;
 pub use files::{CONFIG_FILE, MOST_FILE_BYTES, has_name, write_file};
 pub use initialising::init;
+pub use migrating::migrate;
 pub use names::copied_names;
 pub use opening::{CycleImage, ImageFile, Kept, ReadQueue, SavedQueue, SeenMessages, open_queue};
 pub use salvaging::salvage;

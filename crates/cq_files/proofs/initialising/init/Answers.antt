@@ -1,8 +1,9 @@
-use Rattle.std.proofs.Common.{rules}
+use Rattle.std.proofs.Common.{◌≡◌, rules}
 use Rattle.std.proofs.lemmas.Result.{on_err_weaker}
 use Rattle.std.specs.Prelude.{codes}
+use Rattle.cq_text.specs.declared.fault.ToolFault.TheVariants.{OutOfMemory}
 use Rattle.cq_files.specs.Initialised.{IsInitialText}
-use Rattle.cq_files.proofs.WritingLemmas.{kept_or_wrote, scarce_behind}
+use Rattle.cq_files.proofs.WritingLemmas.{kept_behind, kept_or_wrote}
 use Rattle.cq_files.proofs.initialising.init.Goals as goal
 
 pub returns-clause-whole : goal.returns-clause-whole
@@ -17,5 +18,5 @@ returns-clause-whole g c =
 
 pub returns-clause-scarce : goal.returns-clause-scarce
 returns-clause-scarce g c =
-    scarce_behind (g.F.Folder.files c.args.folder.now) (g.F.Folder.files c.check_new.new.folder)
+    kept_behind (λ fault. fault ≡ OutOfMemory) (g.F.Folder.files c.args.folder.now) (g.F.Folder.files c.check_new.new.folder)
     (g.F.Folder.files c.write_file.new.folder) c.write_file.result c.in_ok-check_new.ensures.kept c.write_file.ensures.scarce
