@@ -6,11 +6,11 @@ use cq_folder::{Folder, MemoryFolder};
 use std::alloc::{AllocError, Global};
 use std::test::Fail;
 
-static KEPT: [(Step, &str); 8] = [
+static KEPT: [(Step, &str); 11] = [
     (Step::Queue(4), ""),
     (
         Step::Text("queue.cqc"),
-        "cq 1\nroll daily\nepoch 0\ncells 64\ncount 8\nspacing 1\ncycles 4\nname reader 0\n",
+        "cq 2\nroll daily\nepoch 0\ncells 64\ncount 8\nspacing 1\ncycles 4\nname reader 0\n",
     ),
     (Step::Read(false, None), ""),
     (Step::Check, ""),
@@ -18,60 +18,28 @@ static KEPT: [(Step, &str); 8] = [
         Step::Write(1_728_000_000_000, b"hello\nworld\n"),
         "00004e2000000000\n00004e2000000001\n",
     ),
-    (Step::Length("20241004.cqi"), "124"),
+    (Step::Length("20241004.cqi"), "136"),
     (
         Step::Read(false, None),
         "00004e2000000000 hello\n00004e2000000001 world\n",
     ),
     (Step::Check, "20241004.cqi: 2 messages, open\n"),
-];
-
-#[test]
-fn keeps_what_was_written(rt: HostRuntime) -> Result<(), Fail> {
-    expect(&rt, &KEPT)
-}
-
-/// A folder of version 2, and then an image of version 1 in it.
-static OF_VERSION_2: [(Step, &str); 11] = [
-    (
-        Step::Put(
-            "queue.cqc",
-            b"cq 2\nroll daily\nepoch 0\ncells 64\ncount 8\nspacing 1\ncycles 4\nname reader 0\n",
-        ),
-        "",
-    ),
-    (
-        Step::Write(1_728_000_000_000, b"hello\nworld\n"),
-        "00004e2000000000\n00004e2000000001\n",
-    ),
-    (Step::Length("20241004.cqi"), "136"),
     (
         Step::Dump("20241004.cqi"),
         "00000000 40000024 store 2 20000 8 1 64 0 86400000\n00000028 40000020 top 76 0 0 0 0 0 0 0\n\
-        0000004c 40000020 table 0 112 124 0 0 0 0 0 0\n00000070 00000005 data 0 68656c6c6f\n\
-        0000007c 00000005 data 1 776f726c64\n",
+0000004c 40000020 table 0 112 124 0 0 0 0 0 0\n00000070 00000005 data 0 68656c6c6f\n\
+0000007c 00000005 data 1 776f726c64\n",
     ),
     (Step::Take("reader"), "00004e2000000000 hello\n"),
     (
         Step::Text("queue.cqc"),
         "cq 2\nroll daily\nepoch 0\ncells 64\ncount 8\nspacing 1\ncycles 4\nname reader 85899345920001\n",
     ),
-    (
-        Step::Read(false, None),
-        "00004e2000000000 hello\n00004e2000000001 world\n",
-    ),
-    (Step::Check, "20241004.cqi: 2 messages, open\n"),
-    (Step::Patch("20241004.cqi", 0, &[0x18]), ""),
-    (
-        Step::Check,
-        "20241004.cqi: WrongStore at 0\ncq: images at fault",
-    ),
-    (Step::Read(false, None), "cq: 20241004.cqi: WrongStore at 0"),
 ];
 
 #[test]
-fn keeps_a_folder_of_version_2(rt: HostRuntime) -> Result<(), Fail> {
-    expect(&rt, &OF_VERSION_2)
+fn keeps_what_was_written(rt: HostRuntime) -> Result<(), Fail> {
+    expect(&rt, &KEPT)
 }
 
 static ROLLED: [(Step, &str); 8] = [
@@ -174,13 +142,13 @@ static DUMPED: [(Step, &str); 7] = [
     (Step::Write(DAY, b"a\n"), "0000000100000000\n"),
     (
         Step::Dump("19700101.cqi"),
-        "00000000 40000018 store 1 0 8 1 64\n0000001c 40000020 top 64 0 0 0 0 0 0 0\n\
-00000040 40000020 table 0 100 0 0 0 0 0 0 0\n00000064 00000005 data 0 68656c6c6f\n00000070 c0000000 end\n",
+        "00000000 40000024 store 2 0 8 1 64 0 86400000\n00000028 40000020 top 76 0 0 0 0 0 0 0\n\
+0000004c 40000020 table 0 112 0 0 0 0 0 0 0\n00000070 00000005 data 0 68656c6c6f\n0000007c c0000000 end\n",
     ),
     (
         Step::Dump("19700102.cqi"),
-        "00000000 40000018 store 1 1 8 1 64\n0000001c 40000020 top 64 0 0 0 0 0 0 0\n\
-00000040 40000020 table 0 100 0 0 0 0 0 0 0\n00000064 00000001 data 0 61\n",
+        "00000000 40000024 store 2 1 8 1 64 0 86400000\n00000028 40000020 top 76 0 0 0 0 0 0 0\n\
+0000004c 40000020 table 0 112 0 0 0 0 0 0 0\n00000070 00000001 data 0 61\n",
     ),
     (Step::Dump("19700103.cqi"), "cq: no such file: 19700103.cqi"),
     (Step::Dump("queue.cqc"), "cq: no such file: queue.cqc"),
@@ -204,6 +172,7 @@ enum Asked {
     Check,
     Dump(&'static str),
     Salvage(&'static str),
+    Migrate,
 }
 
 /// The order, for a folder without a name.
@@ -238,6 +207,9 @@ fn order_of(alloc: Global, asked: Asked) -> Result<Order, AllocError> {
         },
         Asked::Salvage(file) => Order::Salvage {
             file: String::from_str(alloc, file)?,
+            folder: String::new(alloc),
+        },
+        Asked::Migrate => Order::Migrate {
             folder: String::new(alloc),
         },
     })
@@ -294,7 +266,7 @@ fn ran_behind(alloc: Global, before: &[Step], asked: Asked) -> Result<String, Fa
 /// A queue with "hello" in cycle 1.
 const HELLO: &[Step] = &[Step::Queue(4), Step::Write(DAY, b"hello\n")];
 
-static ORDERS: [(&[Step], Asked, &str); 11] = [
+static ORDERS: [(&[Step], Asked, &str); 13] = [
     (&[], Asked::Echo, "0 hello\n|cq: no queue here"),
     (
         &[],
@@ -335,8 +307,8 @@ static ORDERS: [(&[Step], Asked, &str); 11] = [
     (
         HELLO,
         Asked::Dump("19700102.cqi"),
-        "00000000 40000018 store 1 1 8 1 64\n0000001c 40000020 top 64 0 0 0 0 0 0 0\n\
-00000040 40000020 table 0 100 0 0 0 0 0 0 0\n00000064 00000005 data 0 68656c6c6f\n|\
+        "00000000 40000024 store 2 1 8 1 64 0 86400000\n00000028 40000020 top 76 0 0 0 0 0 0 0\n\
+0000004c 40000020 table 0 112 0 0 0 0 0 0 0\n00000070 00000005 data 0 68656c6c6f\n|\
 19700102.cqi: 1 messages, open\n",
     ),
     (
@@ -344,6 +316,8 @@ static ORDERS: [(&[Step], Asked, &str); 11] = [
         Asked::Salvage("19700102.cqi"),
         "0 hello\nwhole\n|19700102.cqi: 1 messages, open\n",
     ),
+    (&[Step::OldQueue(4)], Asked::Write(DAY), "cq: OldVersion|"),
+    (HELLO, Asked::Migrate, "|19700102.cqi: 1 messages, open\n"),
 ];
 
 #[test]

@@ -4,7 +4,7 @@ use std::test::Fail;
 
 /// A floor above the last cycle, which is 20005.
 const FLOOR_20006: &[u8] =
-    b"cq 1\nroll daily\nepoch 0\ncells 64\ncount 8\nspacing 1\ncycles 4\nfloor 20006\n\
+    b"cq 2\nroll daily\nepoch 0\ncells 64\ncount 8\nspacing 1\ncycles 4\nfloor 20006\n\
 name reader 85920820756481\n";
 
 static RETAINED: [(Step, &str); 12] = [
@@ -21,13 +21,13 @@ static RETAINED: [(Step, &str); 12] = [
     (Step::Drop(20_009), "20005\n"),
     (
         Step::Text("queue.cqc"),
-        "cq 1\nroll daily\nepoch 0\ncells 64\ncount 8\nspacing 1\ncycles 4\nfloor 20005\nname reader 85899345920001\n",
+        "cq 2\nroll daily\nepoch 0\ncells 64\ncount 8\nspacing 1\ncycles 4\nfloor 20005\nname reader 85899345920001\n",
     ),
     (Step::Read(false, None), "00004e2500000000 new\n"),
     (Step::Take("reader"), "00004e2500000000 new\n"),
     (
         Step::Text("queue.cqc"),
-        "cq 1\nroll daily\nepoch 0\ncells 64\ncount 8\nspacing 1\ncycles 4\nfloor 20005\nname reader 85920820756481\n",
+        "cq 2\nroll daily\nepoch 0\ncells 64\ncount 8\nspacing 1\ncycles 4\nfloor 20005\nname reader 85920820756481\n",
     ),
     (
         Step::Check,
@@ -51,7 +51,7 @@ static RAISED: [(Step, &str); 21] = [
     (Step::Drop(0), "0\n"),
     (
         Step::Text("queue.cqc"),
-        "cq 1\nroll daily\nepoch 0\ncells 64\ncount 8\nspacing 1\ncycles 4\nname reader 0\n",
+        "cq 2\nroll daily\nepoch 0\ncells 64\ncount 8\nspacing 1\ncycles 4\nname reader 0\n",
     ),
     // No cycle 3 has begun.
     (Step::Drop(3), "3\n"),
@@ -80,7 +80,7 @@ static RAISED: [(Step, &str); 21] = [
     (Step::Drop(u64::MAX), "7\n"),
     (
         Step::Text("queue.cqc"),
-        "cq 1\nroll daily\nepoch 0\ncells 64\ncount 8\nspacing 1\ncycles 4\nfloor 7\nname reader 30064771073\n",
+        "cq 2\nroll daily\nepoch 0\ncells 64\ncount 8\nspacing 1\ncycles 4\nfloor 7\nname reader 30064771073\n",
     ),
     (
         Step::Check,
@@ -99,7 +99,7 @@ static NOTHING: [(Step, &str); 4] = [
     (Step::Drop(20_009), "0\n"),
     (
         Step::Text("queue.cqc"),
-        "cq 1\nroll daily\nepoch 0\ncells 64\ncount 8\nspacing 1\ncycles 4\nname reader 0\n",
+        "cq 2\nroll daily\nepoch 0\ncells 64\ncount 8\nspacing 1\ncycles 4\nname reader 0\n",
     ),
 ];
 
@@ -110,7 +110,7 @@ fn drops_nothing_where_nothing_is(rt: HostRuntime) -> Result<(), Fail> {
 
 /// A floor at cycle 1.
 const FLOOR_1: &[u8] =
-    b"cq 1\nroll daily\nepoch 0\ncells 64\ncount 8\nspacing 1\ncycles 4\nfloor 1\nname reader 0\n";
+    b"cq 2\nroll daily\nepoch 0\ncells 64\ncount 8\nspacing 1\ncycles 4\nfloor 1\nname reader 0\n";
 
 /// A floor without an image, and one above the last cycle: all commands that open a queue refuse them and leave all files as
 /// they were. The last cycle itself is one, and `check` looks at no floor.
@@ -127,7 +127,7 @@ static HELD: [(&[Step], &str); 3] = [
             Step::Length("19700101.cqi"),
         ],
         "cq: BadContentscq: BadContentscq: BadContentscq: BadContents\
-cq 1\nroll daily\nepoch 0\ncells 64\ncount 8\nspacing 1\ncycles 4\nfloor 1\nname reader 0\n0",
+cq 2\nroll daily\nepoch 0\ncells 64\ncount 8\nspacing 1\ncycles 4\nfloor 1\nname reader 0\n0",
     ),
     (
         &[
@@ -142,7 +142,7 @@ cq 1\nroll daily\nepoch 0\ncells 64\ncount 8\nspacing 1\ncycles 4\nfloor 1\nname
             Step::Check,
         ],
         "0000000000000000\ncq: BadContentscq: BadContentscq: BadContentscq: BadContents\
-cq 1\nroll daily\nepoch 0\ncells 64\ncount 8\nspacing 1\ncycles 4\nfloor 1\nname reader 0\n\
+cq 2\nroll daily\nepoch 0\ncells 64\ncount 8\nspacing 1\ncycles 4\nfloor 1\nname reader 0\n\
 19700101.cqi: 1 messages, open\n",
     ),
     (
@@ -165,11 +165,11 @@ fn opens_no_floor_that_a_queue_cannot_have(rt: HostRuntime) -> Result<(), Fail> 
 
 /// `queue.cqc` as long as nothing is dropped.
 const AT_START: &str =
-    "cq 1\nroll daily\nepoch 0\ncells 64\ncount 8\nspacing 1\ncycles 4\nname reader 0\n";
+    "cq 2\nroll daily\nepoch 0\ncells 64\ncount 8\nspacing 1\ncycles 4\nname reader 0\n";
 
 /// The same where reads begin at cycle 1.
 const FROM_1: &str =
-    "cq 1\nroll daily\nepoch 0\ncells 64\ncount 8\nspacing 1\ncycles 4\nfloor 1\nname reader 0\n";
+    "cq 2\nroll daily\nepoch 0\ncells 64\ncount 8\nspacing 1\ncycles 4\nfloor 1\nname reader 0\n";
 
 /// A queue with "hello" in cycle 0 and "a" in cycle 1.
 const TWO_CYCLES: &[Step] = &[

@@ -1,5 +1,6 @@
 //! A folder may list its names in any order: commands answer the same.
 use crate::falling::FallingFolder;
+use crate::images::{A, HELLO};
 use crate::steps::{DAY, Step, expect_each, said_by};
 use cq_folder::Folder;
 use std::process::Abort;
@@ -52,8 +53,8 @@ static THREE: [(&[Step], &str); 1] = [(
 19700101.cqi: 1 messages, ended\n19700102.cqi: 1 messages, ended\n19700103.cqi: 1 messages, open\n\
 0000000000000000 a\n0000000100000000 b\n0000000200000000 c\n\
 0000000200000000 c\n0000000100000000 b\n0000000000000000 a\n\
-00000000 40000018 store 1 1 8 1 64\n0000001c 40000020 top 64 0 0 0 0 0 0 0\n\
-00000040 40000020 table 0 100 0 0 0 0 0 0 0\n00000064 00000001 data 0 62\n0000006c c0000000 end\n\
+00000000 40000024 store 2 1 8 1 64 0 86400000\n00000028 40000020 top 76 0 0 0 0 0 0 0\n\
+0000004c 40000020 table 0 112 0 0 0 0 0 0 0\n00000070 00000001 data 0 62\n00000078 c0000000 end\n\
 0000000200000001\n\
 0000000000000000 a\n\
 19700101.cqi: 1 messages, ended\n19700102.cqi: 1 messages, ended\n19700103.cqi: 2 messages, open\n",
@@ -62,6 +63,26 @@ static THREE: [(&[Step], &str); 1] = [(
 #[test]
 fn answers_the_same_in_any_order(rt: HostRuntime) -> Result<(), Fail> {
     expect_in_any_order(&rt, &THREE)
+}
+
+/// A folder of version 1 with two images becomes one of version 2.
+static MIGRATED: [(&[Step], &str); 1] = [(
+    &[
+        Step::OldQueue(4),
+        Step::Put("19700101.cqi", HELLO),
+        Step::Put("19700102.cqi", A),
+        Step::Migrate,
+        Step::Length("19700101.cqi"),
+        Step::Check,
+        Step::Read(false, None),
+    ],
+    "12819700101.cqi: 1 messages, ended\n19700102.cqi: 1 messages, open\n\
+0000000000000000 hello\n0000000100000000 a\n",
+)];
+
+#[test]
+fn migrates_in_any_order(rt: HostRuntime) -> Result<(), Fail> {
+    expect_in_any_order(&rt, &MIGRATED)
 }
 
 /// An image that ended with no message.

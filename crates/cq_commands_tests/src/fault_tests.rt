@@ -1,4 +1,5 @@
 //! Which fault is answered, and what the folder holds then.
+use crate::images::{HELLO, NINE};
 use crate::steps::{
     DAY, Failing, MOST_BYTES, Step, Unprinted, expect, expect_each, expect_failing, said_by,
 };
@@ -6,16 +7,9 @@ use cq_folder::MemoryFolder;
 use std::alloc::Global;
 use std::test::Fail;
 
-/// The image of cycle 0 that ended with the message "hello".
-const IMAGE: &[u8] = b"\x18\0\0@CQIF\x01\0\0\0\0\0\0\0\x08\0\0\0\x01\0\0\0@\0\0\0\
-\x20\0\0@@\0\0\0\0\0\0\0\0\0\0\0\0\0\0\0\0\0\0\0\0\0\0\0\0\0\0\0\0\0\0\0\
-\x20\0\0@d\0\0\0\0\0\0\0\0\0\0\0\0\0\0\0\0\0\0\0\0\0\0\0\0\0\0\0\0\0\0\0\
-\x05\0\0\0hello\0\0\0\
-\0\0\0\xc0";
-
 static GOOD: [(Step, &str); 5] = [
-    (Step::Queue(4), ""),
-    (Step::Put("19700101.cqi", IMAGE), ""),
+    (Step::OldQueue(4), ""),
+    (Step::Put("19700101.cqi", HELLO), ""),
     (Step::Length("19700101.cqi"), "116"),
     (Step::Check, "19700101.cqi: 1 messages, ended\n"),
     (
@@ -47,8 +41,8 @@ static WRONG: [(usize, &[u8], &str); 10] = [
 /// What `check`, `dump` and `read` say where the image has these bytes.
 fn faults_of(alloc: Global, at: usize, bytes: &'static [u8]) -> Result<String, Fail> {
     let steps = [
-        Step::Queue(4),
-        Step::Put("19700101.cqi", IMAGE),
+        Step::OldQueue(4),
+        Step::Put("19700101.cqi", HELLO),
         Step::Patch("19700101.cqi", at, bytes),
         Step::Check,
         Step::Dump("19700101.cqi"),
@@ -72,8 +66,8 @@ fn tells_each_image_fault(rt: HostRuntime) -> Result<(), Fail> {
 static CUT: [(&[Step], &str); 3] = [
     (
         &[
-            Step::Queue(4),
-            Step::Put("19700101.cqi", IMAGE),
+            Step::OldQueue(4),
+            Step::Put("19700101.cqi", HELLO),
             Step::Cut("19700101.cqi", 110),
             Step::Check,
         ],
@@ -81,8 +75,8 @@ static CUT: [(&[Step], &str); 3] = [
     ),
     (
         &[
-            Step::Queue(4),
-            Step::Put("19700101.cqi", IMAGE),
+            Step::OldQueue(4),
+            Step::Put("19700101.cqi", HELLO),
             Step::Cut("19700101.cqi", 100),
             Step::Check,
         ],
@@ -90,8 +84,8 @@ static CUT: [(&[Step], &str); 3] = [
     ),
     (
         &[
-            Step::Queue(4),
-            Step::Put("19700101.cqi", IMAGE),
+            Step::OldQueue(4),
+            Step::Put("19700101.cqi", HELLO),
             Step::Cut("19700101.cqi", 112),
             Step::Check,
         ],
@@ -104,17 +98,11 @@ fn tells_where_an_image_is_cut(rt: HostRuntime) -> Result<(), Fail> {
     expect_each(&rt, &CUT)
 }
 
-static OVER: [(Step, &str); 6] = [
-    (Step::Queue(4), ""),
-    (
-        Step::Write(
-            0,
-            b"hello\nhello\nhello\nhello\nhello\nhello\nhello\nhello\nhello\n",
-        ),
-        "0000000000000000\n0000000000000001\n0000000000000002\n0000000000000003\n0000000000000004\n\
-0000000000000005\n0000000000000006\n0000000000000007\n0000000000000008\n",
-    ),
+static OVER: [(Step, &str); 7] = [
+    (Step::OldQueue(4), ""),
+    (Step::Put("19700101.cqi", NINE), ""),
     (Step::Length("19700101.cqi"), "244"),
+    (Step::Check, "19700101.cqi: 9 messages, open\n"),
     // One more "hello".
     (
         Step::Patch("19700101.cqi", 244, b"\x05\0\0\0hello\0\0\0"),
@@ -130,9 +118,36 @@ static OVER: [(Step, &str); 6] = [
     ),
 ];
 
+/// Of version 2, where a second index table stands before the ninth "hello".
+static OVER_2: [(Step, &str); 5] = [
+    (Step::Queue(4), ""),
+    (
+        Step::Write(
+            0,
+            b"hello\nhello\nhello\nhello\nhello\nhello\nhello\nhello\n",
+        ),
+        "0000000000000000\n0000000000000001\n0000000000000002\n0000000000000003\n0000000000000004\n\
+0000000000000005\n0000000000000006\n0000000000000007\n",
+    ),
+    (Step::Length("19700101.cqi"), "208"),
+    (
+        Step::Patch(
+            "19700101.cqi",
+            208,
+            b"\x20\0\0@\0\0\0\0\0\0\0\0\0\0\0\0\0\0\0\0\0\0\0\0\0\0\0\0\0\0\0\0\0\0\0\0\x05\0\0\0hello\0\0\0",
+        ),
+        "",
+    ),
+    (
+        Step::Check,
+        "19700101.cqi: OverShape at 244\ncq: images at fault",
+    ),
+];
+
 #[test]
 fn tells_what_fits_no_shape(rt: HostRuntime) -> Result<(), Fail> {
-    expect(&rt, &OVER)
+    expect(&rt, &OVER)?;
+    expect(&rt, &OVER_2)
 }
 
 /// Two faulty images, a bad name beside a faulty image, and a faulty image beside a wrong end. The images come before what
@@ -379,8 +394,8 @@ static FAILING_DUMP: Failing = Failing {
         (4, "cq: file fault: 19700102.cqi", BOTH),
         (
             5,
-            "00000000 40000018 store 1 1 8 1 64\n0000001c 40000020 top 64 0 0 0 0 0 0 0\n\
-00000040 40000020 table 0 100 0 0 0 0 0 0 0\n00000064 00000001 data 0 61\n",
+            "00000000 40000024 store 2 1 8 1 64 0 86400000\n00000028 40000020 top 76 0 0 0 0 0 0 0\n\
+0000004c 40000020 table 0 112 0 0 0 0 0 0 0\n00000070 00000001 data 0 61\n",
             BOTH,
         ),
     ],
@@ -457,11 +472,11 @@ static SAVED_WRITE: Failing = Failing {
 
 /// What is left of the folder as long as no image is written.
 const OPEN: &str = "19700101.cqi: 1 messages, open\n\
-keptcq 1\nroll daily\nepoch 0\ncells 64\ncount 8\nspacing 1\ncycles 4\nname reader 0\n";
+keptcq 2\nroll daily\nepoch 0\ncells 64\ncount 8\nspacing 1\ncycles 4\nname reader 0\n";
 
 /// What is left of it where both are.
 const ROLLED: &str = "19700101.cqi: 1 messages, ended\n19700102.cqi: 1 messages, open\n\
-keptcq 1\nroll daily\nepoch 0\ncells 64\ncount 8\nspacing 1\ncycles 4\nname reader 0\n";
+keptcq 2\nroll daily\nepoch 0\ncells 64\ncount 8\nspacing 1\ncycles 4\nname reader 0\n";
 
 #[test]
 fn write_saves_all_or_nothing(rt: HostRuntime) -> Result<(), Fail> {

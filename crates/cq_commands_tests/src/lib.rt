@@ -16,7 +16,11 @@ mod falling_tests;
 #[cfg(test)]
 mod fault_tests;
 #[cfg(test)]
+mod images;
+#[cfg(test)]
 mod limit_tests;
+#[cfg(test)]
+mod migrate_tests;
 #[cfg(test)]
 mod pair_tests;
 #[cfg(test)]
@@ -27,3 +31,5 @@ mod steps;
 mod streams;
 #[cfg(test)]
 mod take_tests;
+#[cfg(test)]
+mod version_tests;

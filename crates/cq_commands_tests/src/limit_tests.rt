@@ -6,19 +6,19 @@ use std::test::Fail;
 
 static FILLED: [(Step, &str); 6] = [
     (Step::Queue(4), ""),
-    // Nine times "hello" fit, and then one more line of four bytes.
+    // Eight times "hello" fit, and then one more line of four bytes.
     (
         Step::Write(
             0,
-            b"hello\nhello\nhello\nhello\nhello\nhello\nhello\nhello\nhello\n",
+            b"hello\nhello\nhello\nhello\nhello\nhello\nhello\nhello\n",
         ),
         "0000000000000000\n0000000000000001\n0000000000000002\n0000000000000003\n0000000000000004\n\
-0000000000000005\n0000000000000006\n0000000000000007\n0000000000000008\n",
+0000000000000005\n0000000000000006\n0000000000000007\n",
     ),
     (Step::Write(0, b"hello\n"), "cq: line 1: CycleFull"),
     (Step::Write(0, b"abcd\nz\n"), "cq: line 2: CycleFull"),
-    (Step::Check, "19700101.cqi: 9 messages, open\n"),
-    (Step::Write(0, b"abcd\n"), "0000000000000009\n"),
+    (Step::Check, "19700101.cqi: 8 messages, open\n"),
+    (Step::Write(0, b"abcd\n"), "0000000000000008\n"),
 ];
 
 #[test]

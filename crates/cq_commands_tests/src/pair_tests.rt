@@ -443,6 +443,177 @@ fn take_tells_the_first(rt: HostRuntime) -> Result<(), Fail> {
     expect_first(&rt, &TAKE)
 }
 
+/// More cycles than the settings of version 1 allow.
+const TOO_MANY_OLD: &[Step] = &[
+    Step::OldQueue(1),
+    Step::Put("19700101.cqi", ENDED),
+    Step::Put("19700102.cqi", b""),
+];
+
+/// Of a folder of version 1 that is to be changed: of `queue.cqc` before its version, and of all else behind it.
+static OLD: [Pair; 9] = [
+    Pair {
+        before: &[Step::OldQueue(4)],
+        failing: 2,
+        step: Step::Write(0, b"a\n"),
+        want: "cq: folder fault",
+    },
+    Pair {
+        before: &[Step::OldQueue(4)],
+        failing: 3,
+        step: Step::Take("reader"),
+        want: "cq: file fault: queue.cqc",
+    },
+    Pair {
+        before: &[Step::OldQueue(4), Step::Patch("queue.cqc", 5, b"x")],
+        failing: 0,
+        step: Step::Drop(0),
+        want: "cq: queue.cqc: line 2",
+    },
+    Pair {
+        before: &[Step::OldQueue(0)],
+        failing: 0,
+        step: Step::Write(0, b"a\n"),
+        want: "cq: BadConfig",
+    },
+    Pair {
+        before: &[Step::OldQueue(4), Step::Put("zzz.cqi", b"")],
+        failing: 0,
+        step: Step::Write(u64::MAX, b"\n"),
+        want: "cq: OldVersion",
+    },
+    Pair {
+        before: &[Step::OldQueue(4), Step::Put("19700101.cqi", b"x")],
+        failing: 4,
+        step: Step::Take("none"),
+        want: "cq: OldVersion",
+    },
+    Pair {
+        before: &[Step::OldQueue(4), Step::Put("19700101.cqi", ENDED)],
+        failing: 0,
+        step: Step::Drop(0),
+        want: "cq: OldVersion",
+    },
+    Pair {
+        before: TOO_MANY_OLD,
+        failing: 0,
+        step: Step::WriteBroken(u64::MAX, 0),
+        want: "cq: OldVersion",
+    },
+    Pair {
+        before: &[Step::OldQueue(4)],
+        failing: 0,
+        step: Step::WriteEmpty(0, MOST_BYTES + 1),
+        want: "cq: OldVersion",
+    },
+];
+
+#[test]
+fn the_version_comes_behind_the_configuration(rt: HostRuntime) -> Result<(), Fail> {
+    expect_first(&rt, &OLD)
+}
+
+/// Of `migrate`, which minds no contents that a queue cannot hold.
+static MIGRATE: [Pair; 12] = [
+    Pair {
+        before: &[Step::Put("zzz.cqi", b"")],
+        failing: 1,
+        step: Step::Migrate,
+        want: "cq: folder fault",
+    },
+    Pair {
+        before: &[Step::Put("zzz.cqi", b"")],
+        failing: 0,
+        step: Step::Migrate,
+        want: "cq: no queue here",
+    },
+    Pair {
+        before: &[Step::OldQueue(4), Step::Patch("queue.cqc", 5, b"x")],
+        failing: 0,
+        step: Step::Migrate,
+        want: "cq: queue.cqc: line 2",
+    },
+    Pair {
+        before: &[Step::OldQueue(0), Step::Put("zzz.cqi", b"")],
+        failing: 0,
+        step: Step::Migrate,
+        want: "cq: BadConfig",
+    },
+    Pair {
+        before: &[Step::OldCells(1_048_574, 4), Step::Put("zzz.cqi", b"")],
+        failing: 0,
+        step: Step::Migrate,
+        want: "cq: BadShape",
+    },
+    Pair {
+        before: &[Step::OldCells(65_534, 64), Step::Put("zzz.cqi", b"")],
+        failing: 0,
+        step: Step::Migrate,
+        want: "cq: BadConfig",
+    },
+    Pair {
+        before: &[
+            Step::OldQueue(4),
+            Step::Put("19700101.cqi", b"x"),
+            Step::Put("zzz.cqi", b""),
+        ],
+        failing: 4,
+        step: Step::Migrate,
+        want: "cq: zzz.cqi: bad cycle name",
+    },
+    Pair {
+        before: &[
+            Step::OldQueue(4),
+            Step::Put("19700101.cqi", b"x"),
+            Step::Fill("19700102.cqi", 0, MOST_BYTES + 1),
+        ],
+        failing: 0,
+        step: Step::Migrate,
+        want: "cq: 19700101.cqi: Cut at 0",
+    },
+    Pair {
+        before: &[
+            Step::OldQueue(4),
+            Step::Fill("19700101.cqi", 0, MOST_BYTES + 1),
+            Step::Put("19700102.cqi", b"x"),
+        ],
+        failing: 0,
+        step: Step::Migrate,
+        want: "cq: file too large: 19700101.cqi",
+    },
+    Pair {
+        before: &[
+            Step::OldQueue(4),
+            Step::Put("19700101.cqi", b""),
+            Step::Put("19700102.cqi", b"x"),
+        ],
+        failing: 0,
+        step: Step::Migrate,
+        want: "cq: 19700102.cqi: Cut at 0",
+    },
+    Pair {
+        before: &[
+            Step::OldQueue(4),
+            Step::Put("19700101.cqi", b""),
+            Step::Put("19700102.cqi", ENDED),
+        ],
+        failing: 6,
+        step: Step::Migrate,
+        want: "cq: 19700101.cqi: wrong end",
+    },
+    Pair {
+        before: TOO_MANY_OLD,
+        failing: 6,
+        step: Step::Migrate,
+        want: "cq: file fault: 19700101.cqi",
+    },
+];
+
+#[test]
+fn migrate_tells_the_first(rt: HostRuntime) -> Result<(), Fail> {
+    expect_first(&rt, &MIGRATE)
+}
+
 /// A line that fits into no cycle of 64 cells, behind an empty one.
 const EMPTY_AND_LONG: &[u8] =
     b"\naaaaaaaaaaaaaaaaaaaaaaaaaaaaaaaaaaaaaaaaaaaaaaaaaaaaaaaaaaaaaaaaaaaaaaaaaaaaaaaaaaaaaaaaaaaaaaaaaaaaaaaaaaaaaaaaaaaaaaaaaaaaaaaaaaaaaaaaaaaaaaaaaaaaaaaaaaaaaaaaaaaaaaaaaaaaaaaaaaaaaaaaaaaaaaaaaaaaaaaa\n";

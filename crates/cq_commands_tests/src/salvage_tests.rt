@@ -9,12 +9,12 @@ static CUT: [(Step, &str); 10] = [
         Step::Write(1_728_000_000_000, b"hello\nworld\n"),
         "00004e2000000000\n00004e2000000001\n",
     ),
-    (Step::Length("20241004.cqi"), "124"),
+    (Step::Length("20241004.cqi"), "136"),
     (Step::Salvage("20241004.cqi"), "0 hello\n1 world\nwhole\n"),
-    (Step::Cut("20241004.cqi", 115), ""),
-    (Step::Salvage("20241004.cqi"), "0 hello\nCut at 112\n"),
-    (Step::Check, "20241004.cqi: Cut at 112\ncq: images at fault"),
-    (Step::Length("20241004.cqi"), "115"),
+    (Step::Cut("20241004.cqi", 127), ""),
+    (Step::Salvage("20241004.cqi"), "0 hello\nCut at 124\n"),
+    (Step::Check, "20241004.cqi: Cut at 124\ncq: images at fault"),
+    (Step::Length("20241004.cqi"), "127"),
     (Step::Cut("20241004.cqi", 0), ""),
     (Step::Salvage("20241004.cqi"), "whole\n"),
 ];
@@ -85,11 +85,11 @@ const TWO_CYCLES: &[Step] = &[
     Step::Queue(4),
     Step::Write(0, b"hello\n"),
     Step::Write(DAY, b"a\n"),
-    Step::Cut("19700102.cqi", 107),
+    Step::Cut("19700102.cqi", 119),
 ];
 
 /// What `check` says of it.
-const BOTH: &str = "19700101.cqi: 1 messages, ended\n19700102.cqi: Cut at 100\ncq: images at fault";
+const BOTH: &str = "19700101.cqi: 1 messages, ended\n19700102.cqi: Cut at 112\ncq: images at fault";
 
 static FAILING: Failing = Failing {
     before: TWO_CYCLES,

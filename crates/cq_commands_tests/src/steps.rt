@@ -1,11 +1,12 @@
 //! Steps over a folder in memory, and what is said at each.
 use crate::streams::{Broken, BrokenBehind, said};
 use cq_commands::{
-    InitSettings, ToolFault, check, drop_before, dump, init, read, salvage, take, write,
+    InitSettings, ToolFault, check, drop_before, dump, init, migrate, read, salvage, take, write,
 };
 use cq_fixtures::push_missed;
 use cq_folder::{FailingFolder, Folder, FolderFault, MemoryFolder};
 use std::alloc::{AllocError, Global};
+use std::fmt::Write as _;
 use std::process::Abort;
 use std::test::Fail;
 
@@ -21,6 +22,10 @@ pub const MOST_BYTES: usize = 8_388_608;
 pub enum Step {
     /// `init` of a daily queue with epoch 0, 64 cells, so many cycles and the name "reader".
     Queue(u64),
+    /// Puts the `queue.cqc` of such a queue in a folder of version 1.
+    OldQueue(u64),
+    /// The same with so many cells and cycles.
+    OldCells(u64, u64),
     /// `init` with a roll, an epoch, cells, cycles and names.
     Init(&'static str, u64, u64, u64, &'static [&'static str]),
     /// `write` of an input at a moment.
@@ -43,6 +48,8 @@ pub enum Step {
     Dump(&'static str),
     /// `salvage` of a file.
     Salvage(&'static str),
+    /// `migrate`.
+    Migrate,
     /// Puts a file with these bytes.
     Put(&'static str, &'static [u8]),
     /// Puts a file of so many copies of a byte.
@@ -53,6 +60,8 @@ pub enum Step {
     Cut(&'static str, usize),
     /// Says the text of a file.
     Text(&'static str),
+    /// Says the bytes of a file in hexadecimal.
+    Bytes(&'static str),
     /// Says how many bytes a file has.
     Length(&'static str),
 }
@@ -76,6 +85,8 @@ pub enum Unprinted {
 pub fn said_at<F: Folder>(alloc: Global, folder: &mut F, step: &Step) -> Result<String, Fail> {
     match *step {
         Step::Queue(cycles) => made(alloc, folder, "daily", 0, 64, cycles, &["reader"]),
+        Step::OldQueue(cycles) => put_old(alloc, folder, 64, cycles),
+        Step::OldCells(cells, cycles) => put_old(alloc, folder, cells, cycles),
         Step::Init(roll, epoch, cells, cycles, names) => {
             made(alloc, folder, roll, epoch, cells, cycles, names)
         }
@@ -89,7 +100,9 @@ pub fn said_at<F: Folder>(alloc: Global, folder: &mut F, step: &Step) -> Result<
         Step::Check => checked(alloc, folder),
         Step::Dump(file) => dumped(alloc, folder, file),
         Step::Salvage(file) => salvaged(alloc, folder, file),
+        Step::Migrate => said(alloc, migrate(alloc, folder), &[]),
         Step::Text(file) => text_of(alloc, folder, file),
+        Step::Bytes(file) => digits_of(alloc, folder, file),
         Step::Length(file) => length_of(alloc, folder, file),
         Step::Put(file, bytes) => put(alloc, folder, file, bytes),
         Step::Fill(file, byte, count) => put(alloc, folder, file, &copies(alloc, byte, count)?),
@@ -118,6 +131,19 @@ fn made<F: Folder>(
         names: texts(alloc, names)?,
     };
     said(alloc, init(alloc, folder, &settings), &[])
+}
+
+/// Puts the `queue.cqc` of a queue in a folder of version 1.
+fn put_old<F: Folder>(
+    alloc: Global,
+    folder: &mut F,
+    cells: u64,
+    cycles: u64,
+) -> Result<String, Fail> {
+    let text = format!(in alloc;
+        "cq 1\nroll daily\nepoch 0\ncells {cells}\ncount 8\nspacing 1\ncycles {cycles}\nname reader 0\n"
+    )?;
+    put(alloc, folder, "queue.cqc", text.as_bytes())
 }
 
 /// Texts of their own.
@@ -242,6 +268,14 @@ fn bytes_of<F: Folder>(alloc: Global, folder: &mut F, file: &str) -> Result<Vec<
 
 fn text_of<F: Folder>(alloc: Global, folder: &mut F, file: &str) -> Result<String, Fail> {
     Ok(String::from_utf8(bytes_of(alloc, folder, file)?)?)
+}
+
+fn digits_of<F: Folder>(alloc: Global, folder: &mut F, file: &str) -> Result<String, Fail> {
+    let mut digits = String::new(alloc);
+    for byte in bytes_of(alloc, folder, file)?.iter() {
+        write!(digits, "{byte:02x}")?;
+    }
+    Ok(digits)
 }
 
 fn length_of<F: Folder>(alloc: Global, folder: &mut F, file: &str) -> Result<String, Fail> {

@@ -11,13 +11,13 @@ static ONCE: [(Step, &str); 8] = [
     (Step::Take("reader"), "00004e2000000000 hello\n"),
     (
         Step::Text("queue.cqc"),
-        "cq 1\nroll daily\nepoch 0\ncells 64\ncount 8\nspacing 1\ncycles 4\nname reader 85899345920001\n",
+        "cq 2\nroll daily\nepoch 0\ncells 64\ncount 8\nspacing 1\ncycles 4\nname reader 85899345920001\n",
     ),
     (Step::Take("reader"), "00004e2000000001 world\n"),
     (Step::Take("reader"), "not yet\n"),
     (
         Step::Text("queue.cqc"),
-        "cq 1\nroll daily\nepoch 0\ncells 64\ncount 8\nspacing 1\ncycles 4\nname reader 85899345920002\n",
+        "cq 2\nroll daily\nepoch 0\ncells 64\ncount 8\nspacing 1\ncycles 4\nname reader 85899345920002\n",
     ),
     (Step::Take("nobody"), "cq: NoSuchName"),
 ];
@@ -33,7 +33,7 @@ static NOTHING: [(Step, &str); 4] = [
     (Step::Take("nobody"), "cq: NoSuchName"),
     (
         Step::Text("queue.cqc"),
-        "cq 1\nroll daily\nepoch 0\ncells 64\ncount 8\nspacing 1\ncycles 4\nname reader 0\n",
+        "cq 2\nroll daily\nepoch 0\ncells 64\ncount 8\nspacing 1\ncycles 4\nname reader 0\n",
     ),
 ];
 
@@ -44,15 +44,15 @@ fn takes_nothing_where_nothing_is(rt: HostRuntime) -> Result<(), Fail> {
 
 /// A queue of four cycles whose name stands at position 1.
 const AT_1: &[u8] =
-    b"cq 1\nroll daily\nepoch 0\ncells 64\ncount 8\nspacing 1\ncycles 4\nname reader 1\n";
+    b"cq 2\nroll daily\nepoch 0\ncells 64\ncount 8\nspacing 1\ncycles 4\nname reader 1\n";
 
 /// The same at position 2.
 const AT_2: &[u8] =
-    b"cq 1\nroll daily\nepoch 0\ncells 64\ncount 8\nspacing 1\ncycles 4\nname reader 2\n";
+    b"cq 2\nroll daily\nepoch 0\ncells 64\ncount 8\nspacing 1\ncycles 4\nname reader 2\n";
 
 /// A queue of one cycle.
 const OF_1: &[u8] =
-    b"cq 1\nroll daily\nepoch 0\ncells 64\ncount 8\nspacing 1\ncycles 1\nname reader 0\n";
+    b"cq 2\nroll daily\nepoch 0\ncells 64\ncount 8\nspacing 1\ncycles 1\nname reader 0\n";
 
 /// A position without an image, one above the end, and more images than cycles: `write`, `read` and `take` all refuse them
 /// before what they were given is looked at, and leave all files as they were. The end itself is a position.
@@ -68,7 +68,7 @@ static HELD: [(&[Step], &str); 4] = [
             Step::Length("19700101.cqi"),
         ],
         "cq: BadContentscq: BadContentscq: BadContents\
-cq 1\nroll daily\nepoch 0\ncells 64\ncount 8\nspacing 1\ncycles 4\nname reader 1\n0",
+cq 2\nroll daily\nepoch 0\ncells 64\ncount 8\nspacing 1\ncycles 4\nname reader 1\n0",
     ),
     (
         &[
@@ -82,9 +82,9 @@ cq 1\nroll daily\nepoch 0\ncells 64\ncount 8\nspacing 1\ncycles 4\nname reader 1
             Step::Dump("19700101.cqi"),
         ],
         "0000000000000000\ncq: BadContentscq: BadContentscq: BadContents\
-cq 1\nroll daily\nepoch 0\ncells 64\ncount 8\nspacing 1\ncycles 4\nname reader 2\n\
-00000000 40000018 store 1 0 8 1 64\n0000001c 40000020 top 64 0 0 0 0 0 0 0\n\
-00000040 40000020 table 0 100 0 0 0 0 0 0 0\n00000064 00000001 data 0 61\n",
+cq 2\nroll daily\nepoch 0\ncells 64\ncount 8\nspacing 1\ncycles 4\nname reader 2\n\
+00000000 40000024 store 2 0 8 1 64 0 86400000\n00000028 40000020 top 76 0 0 0 0 0 0 0\n\
+0000004c 40000020 table 0 112 0 0 0 0 0 0 0\n00000070 00000001 data 0 61\n",
     ),
     (
         &[
@@ -99,9 +99,9 @@ cq 1\nroll daily\nepoch 0\ncells 64\ncount 8\nspacing 1\ncycles 4\nname reader 2
             Step::Dump("19700101.cqi"),
         ],
         "0000000000000000\n0000000100000000\ncq: BadContentscq: BadContentscq: BadContents\
-cq 1\nroll daily\nepoch 0\ncells 64\ncount 8\nspacing 1\ncycles 1\nname reader 0\n\
-00000000 40000018 store 1 0 8 1 64\n0000001c 40000020 top 64 0 0 0 0 0 0 0\n\
-00000040 40000020 table 0 100 0 0 0 0 0 0 0\n00000064 00000001 data 0 61\n0000006c c0000000 end\n",
+cq 2\nroll daily\nepoch 0\ncells 64\ncount 8\nspacing 1\ncycles 1\nname reader 0\n\
+00000000 40000024 store 2 0 8 1 64 0 86400000\n00000028 40000020 top 76 0 0 0 0 0 0 0\n\
+0000004c 40000020 table 0 112 0 0 0 0 0 0 0\n00000070 00000001 data 0 61\n00000078 c0000000 end\n",
     ),
     (
         &[
@@ -156,11 +156,11 @@ fn takes_by_two_names_over_several_days(rt: HostRuntime) -> Result<(), Fail> {
 
 /// `queue.cqc` as long as nothing is taken.
 const AT_START: &str =
-    "cq 1\nroll daily\nepoch 0\ncells 64\ncount 8\nspacing 1\ncycles 4\nname reader 0\n";
+    "cq 2\nroll daily\nepoch 0\ncells 64\ncount 8\nspacing 1\ncycles 4\nname reader 0\n";
 
 /// The same where "hello" is taken.
 const BEHIND_HELLO: &str =
-    "cq 1\nroll daily\nepoch 0\ncells 64\ncount 8\nspacing 1\ncycles 4\nname reader 1\n";
+    "cq 2\nroll daily\nepoch 0\ncells 64\ncount 8\nspacing 1\ncycles 4\nname reader 1\n";
 
 /// A queue with "hello" in cycle 0 and "a" in cycle 1.
 const TWO_CYCLES: &[Step] = &[
