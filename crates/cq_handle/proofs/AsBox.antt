@@ -6,16 +6,16 @@ use Rattle.std_alloc.proofs.BoxSteps.Form.{Bx}
 use Rattle.std_heap.specs.contracts.Global as Heap
 use Rattle.std_heap.specs.contracts.GlobalAllocator.TheImpl.{ghosts, dict}
 use Rattle.std_heap.proofs.Global.TheLaws as heap
-use Rattle.cq_endpoint.specs.contracts.endpoint.Endpoint as Endpoint
-use Rattle.cq_endpoint.proofs.endpoint.Endpoint.TheLaws as endpoint
+use Rattle.cq_handle.specs.contracts.held.Held as Held
+use Rattle.cq_handle.proofs.held.Held.TheLaws as held
 use Rattle.cq_handle.specs.contracts.parts.Parts as Parts
 use Rattle.cq_handle.specs.contracts.handle.Handle as Handle
 
 abbrev pub E : Bx
-E = record { row = Endpoint.the_row; laws = endpoint.the_row_laws; al = record { row = Heap.the_row; laws = heap.the_row_laws; g = ghosts; d = dict; drops = impl [] tnil dnil } }
+E = record { row = Held.the_row; laws = held.the_row_laws; al = record { row = Heap.the_row; laws = heap.the_row_laws; g = ghosts; d = dict; drops = impl [] tnil dnil } }
 
 abbrev pub FromParts : Slot 0
-FromParts = plain (λ _. Parts.the_row Endpoint.the_row Heap.the_row ghosts)
+FromParts = plain (λ _. Parts.the_row Held.the_row Heap.the_row ghosts)
 
 abbrev pub FromHandle : Slot 0
 FromHandle = plain (λ _. Handle.the_row)

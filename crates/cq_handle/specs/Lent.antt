@@ -1,6 +1,6 @@
--- A handle whose endpoint is another one.
+-- A handle that holds something else.
 use Rattle.cq_handle.specs.contracts.handle.Handle.{the_row}
-use Rattle.cq_endpoint.specs.contracts.endpoint.Endpoint.{the_row as endpoint_row}
+use Rattle.cq_handle.specs.contracts.held.Held.{the_row as held_row}
 
-abbrev pub with_endpoint : the_row.Denot → endpoint_row.Denot → the_row.Denot
-with_endpoint h x = record { at = h.at; alloc = h.alloc; endpoint = x }
+abbrev pub with_held : the_row.Denot → held_row.Denot → the_row.Denot
+with_held h x = record { at = h.at; alloc = h.alloc; held = x }

@@ -1,49 +1,49 @@
 ghost use Rattle.std.specs.Prelude.{◌≡◌, IfOk};
-ghost use Rattle.cq_endpoint.specs.declared.endpoint.Endpoint.{Endpoint};
-ghost use Rattle.cq_handle.specs.Handles.{handle_owns, endpoint_coded};
+ghost use Rattle.cq_handle.specs.declared.held.Held.{Held};
+ghost use Rattle.cq_handle.specs.Handles.{handle_owns, held_coded};
 
+use crate::held::Held;
 use crate::parts::Parts;
-use cq_endpoint::Endpoint;
 use std::alloc::{AllocError, Global};
 use std::marker::Model;
 
-/// An endpoint of which C sees no more than its address. One that is dropped keeps its memory.
+/// Something that the library holds, of which C sees no more than its address. One that is dropped keeps its memory.
 #[repr(C)]
 #[derive(Drop)]
 pub struct Handle {
     pub(crate) at: *mut u8,
     alloc: Global,
-    pub ghost endpoint: { Endpoint } by { endpoint_coded },
+    pub ghost held: { Held } by { held_coded },
 }
 
 impl Model for Handle {
-    ghost also_owns = { λ h. handle_owns h.alloc h.at h.endpoint };
+    ghost also_owns = { λ h. handle_owns h.alloc h.at h.held };
 }
 
 impl Handle {
-    /// The handle of an endpoint.
-    pub fn new(alloc: Global, endpoint: Endpoint) -> Result<Handle, AllocError>
-        ensures { IfOk result (λ handle. handle.endpoint ≡ endpoint) }
+    /// A handle of this.
+    pub fn new(alloc: Global, held: Held) -> Result<Handle, AllocError>
+        ensures { IfOk result (λ handle. handle.held ≡ held) }
     {
-        Ok(Handle::of(Box::new(alloc, endpoint)?))
+        Ok(Handle::of(Box::new(alloc, held)?))
     }
 
     /// The handle of a box.
-    pub fn of(endpoint: Box<Endpoint>) -> Handle
-        ensures { result.endpoint ≡ endpoint.value }
+    pub fn of(held: Box<Held>) -> Handle
+        ensures { result.held ≡ held.value }
     {
-        Handle::of_parts(Parts::of(endpoint))
+        Handle::of_parts(Parts::of(held))
     }
 
     /// The box of a handle.
-    pub fn into_box(self) -> Box<Endpoint>
-        ensures { result.value ≡ self.endpoint }
+    pub fn into_box(self) -> Box<Held>
+        ensures { result.value ≡ self.held }
     {
         self.into_parts().into_box()
     }
 
-    fn of_parts(parts: Parts<Endpoint, Global>) -> Handle
-        ensures { result.endpoint ≡ parts.value }
+    fn of_parts(parts: Parts<Held, Global>) -> Handle
+        ensures { result.held ≡ parts.value }
     {
         let Parts { ptr, alloc } = parts;
         Handle {
@@ -52,12 +52,12 @@ impl Handle {
         }
     }
 
-    fn into_parts(self) -> Parts<Endpoint, Global>
-        ensures { result.value ≡ self.endpoint }
+    fn into_parts(self) -> Parts<Held, Global>
+        ensures { result.value ≡ self.held }
     {
         let Handle { at, alloc } = self;
         Parts {
-            ptr: at as *mut Endpoint,
+            ptr: at as *mut Held,
             alloc,
         }
     }

@@ -1,4 +1,4 @@
--- `endpoint_mut` lends the endpoint, and the handle follows it. It is the walk of `Box::as_mut`, at a handle.
+-- `held_mut` lends what is held, and the handle follows it. It is the walk of `Box::as_mut`, at a handle.
 use mathlib.Core.Path.{◌≡◌, refl}
 use Prim.Native.Nat.{ℕ}
 use mathlib.Core.List.{List, [], ◌∷◌}
@@ -37,13 +37,13 @@ use Rattle.std_alloc.proofs.VecSteps.Shapes.{after}
 use Rattle.std_alloc.proofs.BoxSteps.Form.{R, B, D, τ, word, handle}
 use Rattle.std_alloc.proofs.BoxSteps.Steps.{box_out, box_in}
 use Rattle.cq_handle.proofs.AsBox.{E}
-use Rattle.cq_handle.specs.Lent.{with_endpoint}
+use Rattle.cq_handle.specs.Lent.{with_held}
 use Rattle.cq_handle.specs.contracts.handle.Handle.{the_row as Hd}
-use Rattle.cq_endpoint.specs.contracts.endpoint.Endpoint.{the_row as S}
-use Rattle.cq_handle.specs.contracts.handle.Handle.endpoint_mut as F
-use Rattle.cq_handle.specs.contracts.handle.Handle.endpoint_mut.Key.{name as #self}
-use Rattle.cq_handle.proofs.handle.Handle.endpoint_mut.Statement as stated
-use Rattle.cq_handle.proofs.handle.Handle.endpoint_mut.Code as code
+use Rattle.cq_handle.specs.contracts.held.Held.{the_row as S}
+use Rattle.cq_handle.specs.contracts.handle.Handle.held_mut as F
+use Rattle.cq_handle.specs.contracts.handle.Handle.held_mut.Key.{name as #self}
+use Rattle.cq_handle.proofs.handle.Handle.held_mut.Statement as stated
+use Rattle.cq_handle.proofs.handle.Handle.held_mut.Code as code
 
 abbrev stayed : Stays (F.ended).signature.params (F.ended).kept
 stayed = (stay_dropped (mut_ref_to (0 ∷ []) tt (plain (λ _. Hd))) no, tt)
@@ -61,22 +61,22 @@ module _ {M : Type 1} {𝓤 : Ura M} (𝓛 : Logic 𝓤) (at_mem : Memory → SP
   Post = (walk_of 𝓛 F.ended stayed (F.clauses 𝓛 at_mem run)).post bound
 
   module _ (b o : ℕ) (hv : Val) where
-    -- all of the handle but its endpoint
+    -- all of the handle but what it holds
     abbrev Rest : Fml
     Rest = fsep (fsep (token E.al h.alloc (bare (τ E)) (block_ptr b o)) (handle E h.alloc hv)) (cell_at full_share Hd.mir (word E hv b o ∷ []) rb ro)
 
-    back : h.at ≡ block_ptr b o → (w : S.Denot) → ent 𝓤 (sep 𝓤 (sem 𝓛 ((mem S).own_at w b o)) (sem 𝓛 Rest)) (sem 𝓛 ((mem Hd).own_at (with_endpoint h w) rb ro))
+    back : h.at ≡ block_ptr b o → (w : S.Denot) → ent 𝓤 (sep 𝓤 (sem 𝓛 ((mem S).own_at w b o)) (sem 𝓛 Rest)) (sem 𝓛 ((mem Hd).own_at (with_held h w) rb ro))
     unfolding part_of
     back at_b w =
         qed 𝓛 (‵ (part_at (R E) full_share w b o) ∷ ‵ Rest ∷ []) ∵ move ! (1 ∷ []) $ fsplit ! $ fsplit ! $ move ! (3 ∷ []) $
-        box_in E ! (as_box w) b o w at_b refl $ use1 𝓛 (‵ (Hd.own_val (with_endpoint h w) (word E hv b o ∷ []))) (id⊢ 𝓤 _) $ move ! (1 ∷ 0 ∷ []) $ fjoin ! $
-        fpack ! (List Val) (λ us. fsep (cell_at full_share Hd.mir us rb ro) (Hd.own_val (with_endpoint h w) us)) (word E hv b o ∷ []) $ done !
+        box_in E ! (as_box w) b o w at_b refl $ use1 𝓛 (‵ (Hd.own_val (with_held h w) (word E hv b o ∷ []))) (id⊢ 𝓤 _) $ move ! (1 ∷ 0 ∷ []) $ fjoin ! $
+        fpack ! (List Val) (λ us. fsep (cell_at full_share Hd.mir us rb ro) (Hd.own_val (with_held h w) us)) (word E hv b o ∷ []) $ done !
 
     exits : (γ' : GName)
-        → ent 𝓤 (sep 𝓤 (sem 𝓛 ((MutRef (named 0) κ S).own_val (record { ref_ptr = (b, o); ghost_name = γ'; now = h.endpoint }) (vptr b o ∷ []))) (sep 𝓤 (A.lft κ q) (sem 𝓛 (follows Hd S γ γ' (with_endpoint h))))) (Post (vptr b o))
+        → ent 𝓤 (sep 𝓤 (sem 𝓛 ((MutRef (named 0) κ S).own_val (record { ref_ptr = (b, o); ghost_name = γ'; now = h.held }) (vptr b o ∷ []))) (sep 𝓤 (A.lft κ q) (sem 𝓛 (follows Hd S γ γ' (with_held h))))) (Post (vptr b o))
     exits γ' =
-        qed 𝓛 (‵ ((MutRef (named 0) κ S).own_val (record { ref_ptr = (b, o); ghost_name = γ'; now = h.endpoint }) (vptr b o ∷ [])) ∷ ‵ (flft κ q) ∷ ‵ (follows Hd S γ γ' (with_endpoint h)) ∷ []) ∵
-        suffices ! _ (ends_at 𝓛 F.ended stayed (F.clauses 𝓛 at_mem run) bound (vptr b o) (record { ref_ptr = (b, o); ghost_name = γ'; now = h.endpoint }) (tt, tt) (tt, tt)) $
+        qed 𝓛 (‵ ((MutRef (named 0) κ S).own_val (record { ref_ptr = (b, o); ghost_name = γ'; now = h.held }) (vptr b o ∷ [])) ∷ ‵ (flft κ q) ∷ ‵ (follows Hd S γ γ' (with_held h)) ∷ []) ∵
+        suffices ! _ (ends_at 𝓛 F.ended stayed (F.clauses 𝓛 at_mem run) bound (vptr b o) (record { ref_ptr = (b, o); ghost_name = γ'; now = h.held }) (tt, tt) (tt, tt)) $
         nothing ! $ nothing ! $ fjoin ! $ join ! $ nothing ! $ move ! (2 ∷ 0 ∷ []) $ join ! $ join ! $ frame ! $ says ! refl $ done !
 
   module _ (C : Calls 𝓤 H) (Λ : Loops 𝓤 H) where
@@ -87,8 +87,8 @@ module _ {M : Type 1} {𝓤 : Ura M} (𝓛 : Logic 𝓤) (at_mem : Memory → SP
         alloc_all ! (λ l. pass_all ! refl ((tt, tt), tt) $
         let En : Env 𝓤 H = env (code.function).locals l in
         move ! (1 ∷ []) $ fsplit ! $ fsplit3 ! $ drop ! $ move ! (3 ∷ []) $ split ! $ move ! (2 ∷ 3 ∷ 0 ∷ []) $
-        opens ! tt Hd {h = h} rb ro (λ vs. move ! (1 ∷ []) $ use1 𝓛 (‵ ((B E).own_val (as_box h.endpoint) vs)) (id⊢ 𝓤 _) $
-        box_out E ! (as_box h.endpoint) vs (λ b o hv at_b ws fa. move ! (1 ∷ 2 ∷ []) $ fjoin ! $ move ! (1 ∷ []) $
+        opens ! tt Hd {h = h} rb ro (λ vs. move ! (1 ∷ []) $ use1 𝓛 (‵ ((B E).own_val (as_box h.held) vs)) (id⊢ 𝓤 _) $
+        box_out E ! (as_box h.held) vs (λ b o hv at_b ws fa. move ! (1 ∷ 2 ∷ []) $ fjoin ! $ move ! (1 ∷ []) $
         rewrite ! 2 (λ (us : List Val). ‵ (cell_at full_share Hd.mir us rb ro)) ws refl $
         first ! $ blocks ! $
         sets ! (of_opd ! (load ! (through ! refl (fld ! refl (stop !))) (look_in ! 2 (sub ! 0 refl (whole !))))) refl (tt, tt) $
@@ -97,14 +97,14 @@ module _ {M : Type 1} {𝓤 : Ura M} (𝓛 : Logic 𝓤) (at_mem : Memory → SP
         exec ! C Λ En (after 1 (code.function).body) (at_ret En Post) $
         sets ! (of_opd ! (get ! refl)) refl (tt, tt) $
         move ! (1 ∷ 2 ∷ []) $ fjoin ! $ move ! (2 ∷ 3 ∷ 4 ∷ 1 ∷ 0 ∷ []) $ group ! 5 $
-        use1 𝓛 (later (some (λ (γ' : GName). raw (Part 𝓛 Hd S (with_endpoint h) (named 0) κ q rb ro b o γ (sem 𝓛 (Rest b o hv)) (back b o hv at_b) h.endpoint γ'))))
-        (lends_Part 𝓛 Hd S (with_endpoint h) (named 0) κ q rb ro b o γ (sem 𝓛 (Rest b o hv)) (back b o hv at_b) (Hd.coded.code h) (Hd.coded.code h) h.endpoint) $ await ! tt $ pick ! (λ γ'.
+        use1 𝓛 (later (some (λ (γ' : GName). raw (Part 𝓛 Hd S (with_held h) (named 0) κ q rb ro b o γ (sem 𝓛 (Rest b o hv)) (back b o hv at_b) h.held γ'))))
+        (lends_Part 𝓛 Hd S (with_held h) (named 0) κ q rb ro b o γ (sem 𝓛 (Rest b o hv)) (back b o hv at_b) (Hd.coded.code h) (Hd.coded.code h) h.held) $ await ! tt $ pick ! (λ γ'.
         returns ! (look_at ! 0 refl) $ free_all ! refl $
         keep ! (0 ∷ []) $ by ! (exits b o hv γ')))))
 
-pub endpoint_mut_spec : {M : Type 1} → stated.statement M
+pub held_mut_spec : {M : Type 1} → stated.statement M
 unfolding tables_of
-endpoint_mut_spec 𝓤 𝓛 𝓜 𝓡 wired =
+held_mut_spec 𝓤 𝓛 𝓜 𝓡 wired =
     let 𝓣 : Tables 𝓤 𝓛.H = tables_of 𝓤 𝓛.H 𝓜 (tables 𝓤 𝓛.H 𝓜 𝓡 𝓡.env) in
     entered 𝓤 𝓛.H (triple_of 𝓛 F.signature (F.spec 𝓛 𝓜.mem 𝓡.returns)) 𝓣.C 𝓣.Λ #self code.function (code.unfolded 𝓤 𝓛.H 𝓜 𝓡 wired)
     (walk_Meets 𝓛 F.ended stayed (Goes-spent_ref 𝓛 1 (0 ∷ []) tt (plain (λ _. Hd)), tt) (F.clauses 𝓛 𝓜.mem 𝓡.returns) (WpFn 𝓤 𝓛.H 𝓣.C 𝓣.Λ code.function) (WpFn-mono 𝓤 𝓛.H 𝓛.laws 𝓣 code.function)
