@@ -1,0 +1,145 @@
+-- What the answers of calls are for C.
+use Rattle.std.specs.Prelude.{◌≡◌, ℕ, Bool, true, false, Option, Some, None, Result, Ok, Err}
+use Rattle.cq_endpoint.specs.declared.fault.AppendFault.{AppendFault}
+use Rattle.cq_endpoint.specs.declared.fault.AppendFault.TheVariants as refused
+use Rattle.cq_endpoint.specs.declared.fault.CompleteFault.{CompleteFault}
+use Rattle.cq_endpoint.specs.declared.fault.CompleteFault.TheVariants as incomplete
+use Rattle.cq_endpoint.specs.declared.fault.NotSeen.{NotSeen}
+use Rattle.cq_endpoint.specs.declared.fault.NotWriting.{NotWriting}
+use Rattle.cq_endpoint.specs.declared.fault.PutFault.{PutFault}
+use Rattle.cq_endpoint.specs.declared.fault.PutFault.TheVariants as unput
+use Rattle.cq_endpoint.specs.declared.fault.SeekFault.{SeekFault}
+use Rattle.cq_endpoint.specs.declared.fault.SeekFault.TheVariants as unsought
+use Rattle.cq_image.specs.declared.fault.FaultKind.{FaultKind}
+use Rattle.cq_image.specs.declared.fault.FaultKind.TheVariants as kind
+use Rattle.cq_layout.specs.declared.refusal.Refusal.{Refusal}
+use Rattle.cq_layout.specs.declared.refusal.Refusal.TheVariants as refusal
+use Rattle.cq_saved.specs.declared.fault.AddFault.{AddFault}
+use Rattle.cq_saved.specs.declared.fault.AddFault.TheVariants as unadded
+use Rattle.cq_saved.specs.declared.fault.NoSuchPlace.{NoSuchPlace}
+use Rattle.cq_tail.specs.declared.answers.Direction.{Direction}
+use Rattle.cq_tail.specs.declared.answers.Sought.{Sought}
+use Rattle.cq_tail.specs.declared.answers.Sought.TheVariants as sought
+use Rattle.cq_tail.specs.declared.error.NoSuchName.{NoSuchName}
+use Rattle.linnetshelf.specs.Statuses.{number}
+use Rattle.linnetshelf.specs.declared.answer.Answer.{Answer}
+use Rattle.linnetshelf.specs.declared.saving.ImageInto.{ImageInto}
+use Rattle.linnetshelf.specs.declared.saving.ImageInto.TheVariants as into
+use Rattle.linnetshelf.specs.declared.status.Status.{Status}
+use Rattle.linnetshelf.specs.declared.status.Status.TheVariants as status
+
+-- an answer of a status alone
+abbrev pub plain : Status → Answer
+plain how = record { index = 0; length = 0; status = number how }
+
+-- it is done, and tells a number
+abbrev pub done : ℕ → Answer
+done index = record { index = index; length = 0; status = number status.Done }
+
+-- some outcome of the call holds, and C is answered what stands for it
+pub record Tells {R A : Type 0} (Says : R → Type 0) (answer_of : R → A) (answer : A) : Type 0 where
+  pub outcome : R
+  pub says : Says outcome
+  pub answer_is : answer ≡ answer_of outcome
+
+-- why an appender is refused
+abbrev pub refusal_status : Refusal → Status
+refusal_status refusal.BadRoom = status.BadRoom
+refusal_status refusal.BadMoment = status.BadMoment
+refusal_status refusal.Busy = status.Busy
+refusal_status refusal.NoCycleLeft = status.NoCycleLeft
+refusal_status refusal.CycleFull = status.CycleFull
+
+-- why nothing was appended or begun
+abbrev pub append_status : AppendFault → Status
+append_status refused.Writing = status.Writing
+append_status (refused.Refused cause) = refusal_status cause
+
+-- what `append` and `advance` answer: an index or a cycle
+abbrev pub append_answer : Result ℕ AppendFault → Answer
+append_answer (Ok index) = done index
+append_answer (Err fault) = plain (append_status fault)
+
+-- what `begin` answers
+abbrev pub begin_answer : Result Unit AppendFault → ℕ
+begin_answer (Ok u) = number status.Done
+begin_answer (Err fault) = number (append_status fault)
+
+-- what `put` answers
+abbrev pub put_answer : Result Unit PutFault → ℕ
+put_answer (Ok u) = number status.Done
+put_answer (Err unput.NotWriting) = number status.NotWriting
+put_answer (Err unput.NoRoom) = number status.PastRoom
+
+-- what `complete` answers
+abbrev pub complete_answer : Result ℕ CompleteFault → Answer
+complete_answer (Ok index) = done index
+complete_answer (Err incomplete.NotWriting) = plain status.NotWriting
+complete_answer (Err incomplete.EmptyMessage) = plain status.EmptyMessage
+
+-- what `roll_back` answers
+abbrev pub roll_back_answer : Result Unit NotWriting → ℕ
+roll_back_answer (Ok u) = number status.Done
+roll_back_answer (Err e) = number status.NotWriting
+
+-- what `direction` answers
+abbrev pub direction_answer : Option Direction → ℕ
+direction_answer (Some turned) = number status.Done
+direction_answer None = number status.BadDirection
+
+-- what `move_to` answers
+abbrev pub move_answer : Bool → ℕ
+move_answer true = number status.Done
+move_answer false = number status.NoMessage
+
+-- what `drop_before` answers
+abbrev pub drop_answer : Result ℕ NotSeen → Answer
+drop_answer (Ok floor) = done floor
+drop_answer (Err e) = plain status.NotSeen
+
+-- what `position` answers
+abbrev pub position_answer : Result ℕ NoSuchName → Answer
+position_answer (Ok position) = done position
+position_answer (Err e) = plain status.NoSuchName
+
+-- a name stands at this position
+abbrev pub moved : ℕ → Answer
+moved position = record { index = position; length = 0; status = number status.Moved }
+
+-- what `seek` answers
+abbrev pub seek_answer : Result Sought SeekFault → Answer
+seek_answer (Ok sought.Done) = plain status.Done
+seek_answer (Ok (sought.Moved position)) = moved position
+seek_answer (Err unsought.NotSeen) = plain status.NotSeen
+seek_answer (Err unsought.NoSuchName) = plain status.NoSuchName
+
+-- what is wrong with an image
+abbrev pub kind_status : FaultKind → Status
+kind_status kind.Cut = status.Cut
+kind_status kind.BadHeader = status.BadHeader
+kind_status kind.Unfinished = status.Unfinished
+kind_status kind.WrongStore = status.WrongStore
+kind_status kind.WrongTable = status.WrongTable
+kind_status kind.BadPadding = status.BadPadding
+kind_status kind.AfterEnd = status.AfterEnd
+kind_status kind.OverShape = status.OverShape
+
+-- what `saved_add` answers: a fault of the image with its position
+abbrev pub add_answer : Result Unit AddFault → Answer
+add_answer (Ok u) = plain status.Done
+add_answer (Err unadded.BehindOpen) = plain status.BehindOpen
+add_answer (Err (unadded.Image fault)) =
+    record { index = fault.at; length = 0; status = number (kind_status fault.kind) }
+add_answer (Err unadded.OutOfMemory) = plain status.OutOfMemory
+
+-- what a call on the `k`th of something answers that tells a number
+abbrev pub number_answer : Result ℕ NoSuchPlace → Answer
+number_answer (Ok told) = done told
+number_answer (Err e) = plain status.NoSuchPlace
+
+-- what `saved_image` answers
+abbrev pub image_answer : ImageInto → Answer
+image_answer (into.Copied len) = record { index = 0; length = len; status = number status.Done }
+image_answer (into.NoRoom len) = record { index = 0; length = len; status = number status.NoRoom }
+image_answer into.NoSuchPlace = plain status.NoSuchPlace
+image_answer into.OutOfMemory = plain status.OutOfMemory

@@ -1,0 +1,7 @@
+pub mod Answers
+pub mod Asked
+pub mod Handles
+pub mod Makes
+pub mod Reads
+pub mod Saves
+pub mod Statuses

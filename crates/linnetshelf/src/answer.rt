@@ -1,0 +1,178 @@
+//! What calls answer to C.
+ghost use Rattle.std.specs.Prelude.{◌≡◌};
+ghost use Rattle.linnetshelf.specs.Answers.{append_answer, append_status, begin_answer, complete_answer, done, drop_answer, move_answer, moved, plain, position_answer, put_answer, roll_back_answer, seek_answer};
+
+use crate::status::Status;
+use cq_cycle::Index;
+use cq_endpoint::{
+    AppendFault, CompleteFault, NoSuchName, NotSeen, NotWriting, PutFault, SeekFault, Sought,
+};
+use cq_layout::Refusal;
+
+/// What a call answers that names a message, a position, a cycle or a length.
+#[repr(C)]
+#[derive(Clone, Copy)]
+pub struct Answer {
+    /// The index of a message, a position, a cycle or an end.
+    pub index: u64,
+    /// The length of a message in bytes.
+    pub length: u32,
+    /// How it went: the number of a `Status`.
+    pub status: u32,
+}
+
+/// An answer of a status alone.
+pub(crate) fn plain(status: Status) -> Answer
+    ensures { result ≡ plain status }
+{
+    Answer {
+        index: 0,
+        length: 0,
+        status: status.number(),
+    }
+}
+
+/// It is done, and tells a number.
+pub(crate) fn done(index: u64) -> Answer
+    ensures { result ≡ done index }
+{
+    Answer {
+        index,
+        length: 0,
+        status: Status::Done.number(),
+    }
+}
+
+/// What `append` answers.
+pub(crate) fn append_answer(said: Result<Index, AppendFault>) -> Answer
+    ensures { result ≡ append_answer said }
+{
+    match said {
+        Ok(index) => done(index.value()),
+        Err(fault) => plain(append_status(fault)),
+    }
+}
+
+/// What `advance` answers.
+pub(crate) fn advance_answer(said: Result<u32, AppendFault>) -> Answer
+    ensures { result ≡ append_answer said }
+{
+    match said {
+        Ok(cycle) => done(u64::from(cycle)),
+        Err(fault) => plain(append_status(fault)),
+    }
+}
+
+/// What `begin` answers.
+pub(crate) fn begin_answer(said: Result<(), AppendFault>) -> u32
+    ensures { result ≡ begin_answer said }
+{
+    let status = match said {
+        Ok(()) => Status::Done,
+        Err(fault) => append_status(fault),
+    };
+    status.number()
+}
+
+/// Why nothing was appended or begun.
+fn append_status(fault: AppendFault) -> Status
+    ensures { result ≡ append_status fault }
+{
+    match fault {
+        AppendFault::Writing => Status::Writing,
+        AppendFault::Refused(Refusal::BadRoom) => Status::BadRoom,
+        AppendFault::Refused(Refusal::BadMoment) => Status::BadMoment,
+        AppendFault::Refused(Refusal::Busy) => Status::Busy,
+        AppendFault::Refused(Refusal::NoCycleLeft) => Status::NoCycleLeft,
+        AppendFault::Refused(Refusal::CycleFull) => Status::CycleFull,
+    }
+}
+
+/// What `put` answers.
+pub(crate) fn put_answer(said: Result<(), PutFault>) -> u32
+    ensures { result ≡ put_answer said }
+{
+    let status = match said {
+        Ok(()) => Status::Done,
+        Err(PutFault::NotWriting) => Status::NotWriting,
+        Err(PutFault::NoRoom) => Status::PastRoom,
+    };
+    status.number()
+}
+
+/// What `complete` answers.
+pub(crate) fn complete_answer(said: Result<Index, CompleteFault>) -> Answer
+    ensures { result ≡ complete_answer said }
+{
+    match said {
+        Ok(index) => done(index.value()),
+        Err(CompleteFault::NotWriting) => plain(Status::NotWriting),
+        Err(CompleteFault::EmptyMessage) => plain(Status::EmptyMessage),
+    }
+}
+
+/// What `roll_back` answers.
+pub(crate) fn roll_back_answer(said: Result<(), NotWriting>) -> u32
+    ensures { result ≡ roll_back_answer said }
+{
+    let status = match said {
+        Ok(()) => Status::Done,
+        Err(NotWriting) => Status::NotWriting,
+    };
+    status.number()
+}
+
+/// What `move_to` answers.
+pub(crate) fn move_answer(stands: bool) -> u32
+    ensures { result ≡ move_answer stands }
+{
+    let status = if stands {
+        Status::Done
+    } else {
+        Status::NoMessage
+    };
+    status.number()
+}
+
+/// What `drop_before` answers.
+pub(crate) fn drop_answer(said: Result<u32, NotSeen>) -> Answer
+    ensures { result ≡ drop_answer said }
+{
+    match said {
+        Ok(floor) => done(u64::from(floor)),
+        Err(NotSeen) => plain(Status::NotSeen),
+    }
+}
+
+/// What `position` answers.
+pub(crate) fn position_answer(said: Result<u64, NoSuchName>) -> Answer
+    ensures { result ≡ position_answer said }
+{
+    match said {
+        Ok(position) => done(position),
+        Err(NoSuchName) => plain(Status::NoSuchName),
+    }
+}
+
+/// A name stands at this position.
+pub(crate) fn moved(position: u64) -> Answer
+    ensures { result ≡ moved position }
+{
+    Answer {
+        index: position,
+        length: 0,
+        status: Status::Moved.number(),
+    }
+}
+
+/// What `seek` answers.
+pub(crate) fn seek_answer(said: Result<Sought, SeekFault>) -> Answer
+    ensures { result ≡ seek_answer said }
+{
+    match said {
+        Ok(Sought::Done) => plain(Status::Done),
+        Ok(Sought::Moved(position)) => moved(position),
+        Err(SeekFault::NotSeen) => plain(Status::NotSeen),
+        Err(SeekFault::NoSuchName) => plain(Status::NoSuchName),
+    }
+}

@@ -1,0 +1,83 @@
+//! Queues are made, and endpoints of them handed out, split off and ended.
+ghost use Rattle.std.specs.Prelude.{◌≡◌, ◌≢◌};
+ghost use Rattle.linnetshelf.specs.Answers.{Tells};
+ghost use Rattle.linnetshelf.specs.Handles.{OnEndpoint};
+ghost use Rattle.linnetshelf.specs.Makes.{Creates, HandsOut, Makes, Splits};
+ghost use Rattle.linnetshelf.specs.Statuses.{number};
+ghost use Rattle.linnetshelf.specs.declared.status.Status.TheVariants.{WrongKind};
+
+use crate::settings::{Settings, config_of};
+use crate::status::Status;
+use cq_endpoint::Endpoint;
+use cq_handle::{Handle, Held};
+use cq_shown::CreateError;
+use std::alloc::Global;
+
+/// Hands out the first endpoint of a new queue, whose first cycle is that of `moment`, in milliseconds of Unix time. The names
+/// are a text with a line for each.
+#[unsafe(no_mangle)]
+pub extern "C" fn linnetshelf_create(
+    alloc: Global,
+    settings: &Settings,
+    names: &[u8],
+    moment: u64,
+    out: &mut Handle,
+) -> u32
+    ensures { Tells (Creates settings.now names.now moment out.old.held out.new.held) number result }
+{
+    let status = match create(alloc, settings, names, moment) {
+        Ok(endpoint) => hand_out(alloc, Held::Endpoint(endpoint), out),
+        Err(status) => status,
+    };
+    status.number()
+}
+
+/// The first endpoint of a new queue.
+fn create(alloc: Global, settings: &Settings, names: &[u8], moment: u64) -> Result<Endpoint, Status>
+    ensures { Makes settings.now names.now moment result }
+{
+    let config = config_of(alloc, settings, names)?;
+    match Endpoint::create(alloc, config, moment) {
+        Ok(endpoint) => Ok(endpoint),
+        Err(CreateError::BadMoment) => Err(Status::BadMoment),
+        Err(CreateError::OutOfMemory) => Err(Status::OutOfMemory),
+        Err(CreateError::BadContents) => unreachable!(),
+    }
+}
+
+/// Hands out what a handle is to hold. Answers `Done` or `OutOfMemory`; the handle stays as it was then.
+pub(crate) fn hand_out(alloc: Global, held: Held, out: &mut Handle) -> Status
+    ensures { HandsOut out.old.held held out.new.held result }
+{
+    match Handle::new(alloc, held) {
+        Ok(handle) => {
+            *out = handle;
+            Status::Done
+        }
+        Err(_) => Status::OutOfMemory,
+    }
+}
+
+/// Hands out another endpoint of the same queue, which may go to another thread: it has begun no message, and reads forwards
+/// from the start.
+#[unsafe(no_mangle)]
+pub extern "C" fn linnetshelf_split(alloc: Global, handle: &mut Handle, out: &mut Handle) -> u32
+    ensures { OnEndpoint handle.old.held handle.new.held
+        ((result ≡ number WrongKind) × (out.new.held ≡ out.old.held)) (λ old new.
+        Tells (Splits old new out.old.held out.new.held) number result) }
+{
+    let status = match handle.held_mut() {
+        Held::Endpoint(endpoint) => match endpoint.split() {
+            Ok(child) => hand_out(alloc, Held::Endpoint(child), out),
+            Err(_) => Status::OutOfMemory,
+        },
+        Held::Stopped(_) | Held::Saved(_) => Status::WrongKind,
+    };
+    status.number()
+}
+
+/// Ends what a handle holds. The last endpoint frees its queue.
+#[unsafe(no_mangle)]
+pub extern "C" fn linnetshelf_destroy(handle: Handle) {
+    drop(handle.into_box());
+}

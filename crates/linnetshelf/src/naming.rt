@@ -1,0 +1,57 @@
+//! Names, their positions, and takes. A name is the bytes of a text; others are no name of a queue.
+ghost use Rattle.std.specs.Prelude.{◌≡◌};
+ghost use Rattle.cq_endpoint.specs.Endpoints.{ChangesTailer};
+ghost use Rattle.linnetshelf.specs.Answers.{Tells, plain, position_answer, seek_answer};
+ghost use Rattle.linnetshelf.specs.Handles.{OnEndpoint};
+ghost use Rattle.linnetshelf.specs.Reads.{SeeksName, TellsName};
+ghost use Rattle.linnetshelf.specs.declared.status.Status.TheVariants.{WrongKind};
+
+use crate::answer::{Answer, plain, position_answer, seek_answer};
+use crate::status::Status;
+use cq_endpoint::{Endpoint, NoSuchName, SeekFault, Sought};
+use cq_handle::{Handle, Held};
+
+/// Tells the position of a name: the next message that is taken by it has this index or a later one.
+#[unsafe(no_mangle)]
+pub extern "C" fn linnetshelf_position(handle: &mut Handle, name: &[u8]) -> Answer
+    ensures { OnEndpoint handle.old.held handle.new.held (result ≡ plain WrongKind) (λ old new.
+        Tells (TellsName old new name.now) position_answer result × ChangesTailer old new) }
+{
+    match handle.held_mut() {
+        Held::Endpoint(endpoint) => position_answer(position(endpoint, name)),
+        Held::Stopped(_) | Held::Saved(_) => plain(Status::WrongKind),
+    }
+}
+
+fn position(endpoint: &mut Endpoint, name: &[u8]) -> Result<u64, NoSuchName>
+    ensures says { TellsName endpoint.old endpoint.new name.now result }
+    ensures rest { ChangesTailer endpoint.old endpoint.new }
+{
+    match str::from_utf8(name) {
+        Ok(name) => endpoint.position(name),
+        Err(_) => Err(NoSuchName),
+    }
+}
+
+/// Moves a name from position `from` to position `to`. Where it stands elsewhere, it is not moved: the answer is `Moved` with its
+/// position. Answers `NotSeen` where `to` lies behind the end that the endpoint has seen.
+#[unsafe(no_mangle)]
+pub extern "C" fn linnetshelf_seek(handle: &mut Handle, name: &[u8], from: u64, to: u64) -> Answer
+    ensures { OnEndpoint handle.old.held handle.new.held (result ≡ plain WrongKind) (λ old new.
+        Tells (SeeksName old new name.now from to) seek_answer result × ChangesTailer old new) }
+{
+    match handle.held_mut() {
+        Held::Endpoint(endpoint) => seek_answer(seek(endpoint, name, from, to)),
+        Held::Stopped(_) | Held::Saved(_) => plain(Status::WrongKind),
+    }
+}
+
+fn seek(endpoint: &mut Endpoint, name: &[u8], from: u64, to: u64) -> Result<Sought, SeekFault>
+    ensures says { SeeksName endpoint.old endpoint.new name.now from to result }
+    ensures rest { ChangesTailer endpoint.old endpoint.new }
+{
+    match str::from_utf8(name) {
+        Ok(name) => endpoint.seek(name, from, to),
+        Err(_) => Err(SeekFault::NoSuchName),
+    }
+}

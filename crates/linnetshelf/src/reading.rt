@@ -1,0 +1,111 @@
+//! The endpoint moves to where it reads, and old cycles are dropped.
+ghost use Rattle.std.specs.Prelude.{◌≡◌};
+ghost use Rattle.cq_endpoint.specs.Endpoints.{ChangesTailer};
+ghost use Rattle.cq_model.specs.declared.history.Answer.TheVariants.{Ends};
+ghost use Rattle.cq_model.specs.declared.history.Event.TheVariants.{End};
+ghost use Rattle.cq_tail.specs.Tailers.{Answered, MovesTo};
+ghost use Rattle.linnetshelf.specs.Answers.{Tells, direction_answer, done, drop_answer, move_answer, plain};
+ghost use Rattle.linnetshelf.specs.Handles.{OnEndpoint};
+ghost use Rattle.linnetshelf.specs.Reads.{Drops, Turns};
+ghost use Rattle.linnetshelf.specs.Statuses.{number};
+ghost use Rattle.linnetshelf.specs.declared.status.Status.TheVariants.{Done, WrongKind};
+
+use crate::answer::{Answer, done, drop_answer, move_answer, plain};
+use crate::status::Status;
+use cq_cycle::Index;
+use cq_endpoint::{Direction, Endpoint};
+use cq_handle::{Handle, Held};
+
+/// Tells the gap between messages at which the endpoint reads: an index, at or after which the next message stands.
+#[unsafe(no_mangle)]
+pub extern "C" fn linnetshelf_cursor(handle: &mut Handle) -> Answer
+    ensures { OnEndpoint handle.old.held handle.new.held (result ≡ plain WrongKind) (λ old new.
+        (result ≡ done old.tailer.cursor) × (new ≡ old)) }
+{
+    match handle.held_mut() {
+        Held::Endpoint(endpoint) => done(endpoint.cursor()),
+        Held::Stopped(_) | Held::Saved(_) => plain(Status::WrongKind),
+    }
+}
+
+/// Turns the endpoint: 0 forwards, 1 backwards. Answers `BadDirection` where no direction has this number.
+#[unsafe(no_mangle)]
+pub extern "C" fn linnetshelf_direction(handle: &mut Handle, way: u32) -> u32
+    ensures { OnEndpoint handle.old.held handle.new.held (result ≡ number WrongKind) (λ old new.
+        Tells (Turns old new way) direction_answer result) }
+{
+    match handle.held_mut() {
+        Held::Endpoint(endpoint) => turn(endpoint, way),
+        Held::Stopped(_) | Held::Saved(_) => Status::WrongKind.number(),
+    }
+}
+
+/// Turns an endpoint the way that has this number.
+fn turn(endpoint: &mut Endpoint, way: u32) -> u32
+    ensures { Tells (Turns endpoint.old endpoint.new way) direction_answer result }
+{
+    match way {
+        0 => {
+            endpoint.direction(Direction::Forwards);
+            Status::Done.number()
+        }
+        1 => {
+            endpoint.direction(Direction::Backwards);
+            Status::Done.number()
+        }
+        _ => Status::BadDirection.number(),
+    }
+}
+
+/// Goes before the first message.
+#[unsafe(no_mangle)]
+pub extern "C" fn linnetshelf_to_start(handle: &mut Handle) -> u32
+    ensures { OnEndpoint handle.old.held handle.new.held (result ≡ number WrongKind) (λ old new.
+        (result ≡ number Done) × (new ≡ record old { tailer = record old.tailer { cursor = 0 } })) }
+{
+    match handle.held_mut() {
+        Held::Endpoint(endpoint) => {
+            endpoint.to_start();
+            Status::Done.number()
+        }
+        Held::Stopped(_) | Held::Saved(_) => Status::WrongKind.number(),
+    }
+}
+
+/// Goes to the end of the queue, where the next message of the current cycle will stand, and tells it.
+#[unsafe(no_mangle)]
+pub extern "C" fn linnetshelf_to_end(handle: &mut Handle) -> Answer
+    ensures { OnEndpoint handle.old.held handle.new.held (result ≡ plain WrongKind) (λ old new.
+        Tells (λ end. Answered old.queue old.tailer new.tailer End (Ends end) end) done result × ChangesTailer old new) }
+{
+    match handle.held_mut() {
+        Held::Endpoint(endpoint) => done(endpoint.to_end()),
+        Held::Stopped(_) | Held::Saved(_) => plain(Status::WrongKind),
+    }
+}
+
+/// Goes to an index where a message stands there, in a cycle that is not dropped; where none does it answers `NoMessage` and
+/// stays where it is.
+#[unsafe(no_mangle)]
+pub extern "C" fn linnetshelf_move_to(handle: &mut Handle, index: u64) -> u32
+    ensures { OnEndpoint handle.old.held handle.new.held (result ≡ number WrongKind) (λ old new.
+        Tells (MovesTo old.queue old.tailer new.tailer index) move_answer result × ChangesTailer old new) }
+{
+    match handle.held_mut() {
+        Held::Endpoint(endpoint) => move_answer(endpoint.move_to(Index::of_value(index))),
+        Held::Stopped(_) | Held::Saved(_) => Status::WrongKind.number(),
+    }
+}
+
+/// Drops the cycles below this one: reads and takes of everybody pass over them from then on. Tells the floor, the least cycle
+/// that reads look at.
+#[unsafe(no_mangle)]
+pub extern "C" fn linnetshelf_drop_before(handle: &mut Handle, cycle: u32) -> Answer
+    ensures { OnEndpoint handle.old.held handle.new.held (result ≡ plain WrongKind) (λ old new.
+        Tells (Drops old new cycle) drop_answer result × ChangesTailer old new) }
+{
+    match handle.held_mut() {
+        Held::Endpoint(endpoint) => drop_answer(endpoint.drop_before(cycle)),
+        Held::Stopped(_) | Held::Saved(_) => plain(Status::WrongKind),
+    }
+}

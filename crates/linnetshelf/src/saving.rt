@@ -1,0 +1,356 @@
+//! Queues are stopped, and what they held is saved: an image for each cycle, a position for each name, and the floor. What was
+//! saved is put together again, and opened.
+ghost use Rattle.std.specs.Prelude.{◌≡◌, ◌^◌, ◌<◌, length};
+ghost use Rattle.linnetshelf.specs.Answers.{Tells, add_answer, done, image_answer, kind_status, number_answer, plain};
+ghost use Rattle.linnetshelf.specs.Handles.{OnSaved};
+ghost use Rattle.linnetshelf.specs.Makes.{Opens, Recovers, SavesNew, StopsHeld};
+ghost use Rattle.linnetshelf.specs.Saves.{Adds, CopiesImage, PlacesName, TellsCycle, TellsEnded, TellsImage, TellsPosition};
+ghost use Rattle.cq_saved.specs.Saved.{with_contents};
+ghost use Rattle.linnetshelf.specs.Statuses.{number};
+ghost use Rattle.linnetshelf.specs.declared.status.Status.TheVariants.{Done, WrongKind};
+
+use crate::answer::{Answer, done, plain};
+use crate::making::hand_out;
+use crate::settings::{Settings, config_of};
+use crate::status::Status;
+use core::mem::replace_with;
+use cq_handle::{Handle, Held};
+use cq_image::FaultKind;
+use cq_saved::{AddFault, NoSuchPlace, Saved};
+use cq_shown::{CreateError, Stopped};
+use std::alloc::Global;
+
+/// Stops the queue of an endpoint, which is the last one, and reads what it held out of it: the handle holds that then. A message
+/// that is begun is given up.
+///
+/// Answers `InUse` where other endpoints of the queue live; the endpoint is as it was. Where it answers `OutOfMemory` the queue is
+/// stopped, and the call can be made again.
+#[unsafe(no_mangle)]
+pub extern "C" fn linnetshelf_stop(alloc: Global, handle: &mut Handle) -> u32
+    ensures { Tells (StopsHeld handle.old.held handle.new.held) number result }
+{
+    let status = replace_with(handle.held_mut(), (), |held, _| stop(alloc, held));
+    status.number()
+}
+
+/// What is held once it is stopped and read.
+fn stop(alloc: Global, held: Held) -> (Held, Status)
+    ensures { StopsHeld held result.0 result.1 }
+{
+    match held {
+        Held::Endpoint(endpoint) => match endpoint.stop() {
+            Ok(stopped) => recover(alloc, stopped),
+            Err(endpoint) => (Held::Endpoint(endpoint), Status::InUse),
+        },
+        Held::Stopped(stopped) => recover(alloc, stopped),
+        Held::Saved(saved) => (Held::Saved(saved), Status::WrongKind),
+    }
+}
+
+/// What a stopped queue held, or the queue as it is.
+fn recover(alloc: Global, stopped: Stopped) -> (Held, Status)
+    ensures { Recovers stopped result.0 result.1 }
+{
+    match Saved::recovered(alloc, &stopped) {
+        Ok(saved) => (Held::Saved(saved), Status::Done),
+        Err(_) => (Held::Stopped(stopped), Status::OutOfMemory),
+    }
+}
+
+/// Hands out a queue of no cycle, with each name at 0 and the floor 0, to which what was saved is added.
+#[unsafe(no_mangle)]
+pub extern "C" fn linnetshelf_saved_new(
+    alloc: Global,
+    settings: &Settings,
+    names: &[u8],
+    out: &mut Handle,
+) -> u32
+    ensures { Tells (SavesNew settings.now names.now out.old.held out.new.held) number result }
+{
+    let status = match config_of(alloc, settings, names) {
+        Ok(config) => match Saved::new(alloc, config) {
+            Ok(saved) => hand_out(alloc, Held::Saved(saved), out),
+            Err(_) => Status::OutOfMemory,
+        },
+        Err(status) => status,
+    };
+    status.number()
+}
+
+/// Adds a cycle behind the others, from its image. A fault of the image is told with its position in bytes.
+#[unsafe(no_mangle)]
+pub extern "C" fn linnetshelf_saved_add(
+    alloc: Global,
+    handle: &mut Handle,
+    cycle: u32,
+    bytes: &[u8],
+) -> Answer
+    ensures { OnSaved handle.old.held handle.new.held (result ≡ plain WrongKind) (λ old new.
+        Tells (Adds old new cycle bytes.now) add_answer result) }
+{
+    match handle.held_mut() {
+        Held::Saved(saved) => add_answer(saved.add(alloc, cycle, bytes)),
+        Held::Endpoint(_) | Held::Stopped(_) => plain(Status::WrongKind),
+    }
+}
+
+/// What `add` answers.
+fn add_answer(said: Result<(), AddFault>) -> Answer
+    ensures { result ≡ add_answer said }
+{
+    match said {
+        Ok(()) => plain(Status::Done),
+        Err(AddFault::BehindOpen) => plain(Status::BehindOpen),
+        Err(AddFault::Image(fault)) => Answer {
+            index: fault.at,
+            length: 0,
+            status: kind_status(fault.kind).number(),
+        },
+        Err(AddFault::OutOfMemory) => plain(Status::OutOfMemory),
+    }
+}
+
+/// What is wrong with an image.
+fn kind_status(kind: FaultKind) -> Status
+    ensures { result ≡ kind_status kind }
+{
+    match kind {
+        FaultKind::Cut => Status::Cut,
+        FaultKind::BadHeader => Status::BadHeader,
+        FaultKind::Unfinished => Status::Unfinished,
+        FaultKind::WrongStore => Status::WrongStore,
+        FaultKind::WrongTable => Status::WrongTable,
+        FaultKind::BadPadding => Status::BadPadding,
+        FaultKind::AfterEnd => Status::AfterEnd,
+        FaultKind::OverShape => Status::OverShape,
+    }
+}
+
+/// Tells how many cycles there are.
+#[unsafe(no_mangle)]
+pub extern "C" fn linnetshelf_saved_count(handle: &mut Handle) -> Answer
+    ensures { OnSaved handle.old.held handle.new.held (result ≡ plain WrongKind) (λ old new.
+        (result ≡ done (length old.contents.lists)) × (new ≡ old)) }
+{
+    match handle.held_mut() {
+        Held::Saved(saved) => done(saved.len() as u64),
+        Held::Endpoint(_) | Held::Stopped(_) => plain(Status::WrongKind),
+    }
+}
+
+/// Tells the number of cycle `k`, counted from 0.
+#[unsafe(no_mangle)]
+pub extern "C" fn linnetshelf_saved_cycle(handle: &mut Handle, k: u32) -> Answer
+    ensures { OnSaved handle.old.held handle.new.held (result ≡ plain WrongKind) (λ old new.
+        Tells (TellsCycle old k) number_answer result × (new ≡ old)) }
+{
+    match handle.held_mut() {
+        Held::Saved(saved) => number_answer(cycle(saved, k)),
+        Held::Endpoint(_) | Held::Stopped(_) => plain(Status::WrongKind),
+    }
+}
+
+fn cycle(saved: &Saved, k: u32) -> Result<u64, NoSuchPlace>
+    ensures { TellsCycle saved.now k result }
+{
+    let k = k as usize;
+    if k >= saved.len() {
+        return Err(NoSuchPlace);
+    }
+    Ok(u64::from(saved.cycle(k)))
+}
+
+/// Tells 1 where cycle `k`, counted from 0, has ended, and 0 where it is open.
+#[unsafe(no_mangle)]
+pub extern "C" fn linnetshelf_saved_ended(handle: &mut Handle, k: u32) -> Answer
+    ensures { OnSaved handle.old.held handle.new.held (result ≡ plain WrongKind) (λ old new.
+        Tells (TellsEnded old k) number_answer result × (new ≡ old)) }
+{
+    match handle.held_mut() {
+        Held::Saved(saved) => number_answer(ended(saved, k)),
+        Held::Endpoint(_) | Held::Stopped(_) => plain(Status::WrongKind),
+    }
+}
+
+fn ended(saved: &Saved, k: u32) -> Result<u64, NoSuchPlace>
+    ensures { TellsEnded saved.now k result }
+{
+    let k = k as usize;
+    if k >= saved.len() {
+        return Err(NoSuchPlace);
+    }
+    Ok(u64::from(saved.has_ended(k)))
+}
+
+/// What a call on the `k`th of something answers that tells a number.
+fn number_answer(said: Result<u64, NoSuchPlace>) -> Answer
+    ensures { result ≡ number_answer said }
+{
+    match said {
+        Ok(told) => done(told),
+        Err(NoSuchPlace) => plain(Status::NoSuchPlace),
+    }
+}
+
+/// Copies the image of cycle `k`, counted from 0, to the front of a room, and tells its length. Where the room is smaller, it
+/// answers `NoRoom` with the length, and copies nothing.
+#[unsafe(no_mangle)]
+pub extern "C" fn linnetshelf_saved_image(
+    alloc: Global,
+    handle: &mut Handle,
+    k: u32,
+    room: &mut [u8],
+) -> Answer
+    ensures { OnSaved handle.old.held handle.new.held (result ≡ plain WrongKind) (λ old new.
+        Tells (TellsImage old k room.old room.new) image_answer result × (new ≡ old)) }
+{
+    match handle.held_mut() {
+        Held::Saved(saved) => image_answer(image_into(alloc, saved, k, room)),
+        Held::Endpoint(_) | Held::Stopped(_) => plain(Status::WrongKind),
+    }
+}
+
+/// How the copy of an image into a room came out.
+#[derive(Clone, Copy)]
+enum ImageInto {
+    /// An image of so many bytes: they are the first of the room.
+    Copied(u32),
+    /// The image has so many bytes, which is more than the room has.
+    NoRoom(u32),
+    /// There are not as many cycles.
+    NoSuchPlace,
+    /// There was no memory.
+    OutOfMemory,
+}
+
+fn image_into(alloc: Global, saved: &Saved, k: u32, room: &mut [u8]) -> ImageInto
+    ensures { TellsImage saved.now k room.old room.new result }
+{
+    let k = k as usize;
+    if k >= saved.len() {
+        return ImageInto::NoSuchPlace;
+    }
+    match saved.image(alloc, k) {
+        Ok(bytes) => copy_into(bytes.as_slice(), room),
+        Err(_) => ImageInto::OutOfMemory,
+    }
+}
+
+/// Copies some bytes to the front of a room that is large enough.
+fn copy_into(bytes: &[u8], room: &mut [u8]) -> ImageInto
+    requires { length bytes.now < 2 ^ 32 }
+    ensures { CopiesImage bytes.now room.old room.new result }
+{
+    let length = bytes.len();
+    if length > room.len() {
+        return ImageInto::NoRoom(length as u32);
+    }
+    room[..length].copy_from_slice(bytes);
+    ImageInto::Copied(length as u32)
+}
+
+/// What `saved_image` answers.
+fn image_answer(said: ImageInto) -> Answer
+    ensures { result ≡ image_answer said }
+{
+    let (length, status) = match said {
+        ImageInto::Copied(length) => (length, Status::Done),
+        ImageInto::NoRoom(length) => (length, Status::NoRoom),
+        ImageInto::NoSuchPlace => (0, Status::NoSuchPlace),
+        ImageInto::OutOfMemory => (0, Status::OutOfMemory),
+    };
+    Answer {
+        index: 0,
+        length,
+        status: status.number(),
+    }
+}
+
+/// Tells the position of the name that was declared as the `k`th, counted from 0.
+#[unsafe(no_mangle)]
+pub extern "C" fn linnetshelf_saved_position(handle: &mut Handle, k: u32) -> Answer
+    ensures { OnSaved handle.old.held handle.new.held (result ≡ plain WrongKind) (λ old new.
+        Tells (TellsPosition old k) number_answer result × (new ≡ old)) }
+{
+    match handle.held_mut() {
+        Held::Saved(saved) => number_answer(position(saved, k)),
+        Held::Endpoint(_) | Held::Stopped(_) => plain(Status::WrongKind),
+    }
+}
+
+fn position(saved: &Saved, k: u32) -> Result<u64, NoSuchPlace>
+    ensures { TellsPosition saved.now k result }
+{
+    match saved.position(k as usize) {
+        Some(position) => Ok(position),
+        None => Err(NoSuchPlace),
+    }
+}
+
+/// Places the name that was declared as the `k`th, counted from 0.
+#[unsafe(no_mangle)]
+pub extern "C" fn linnetshelf_saved_set_position(
+    alloc: Global,
+    handle: &mut Handle,
+    k: u32,
+    position: u64,
+) -> u32
+    ensures { OnSaved handle.old.held handle.new.held (result ≡ number WrongKind) (λ old new.
+        Tells (PlacesName old new k position) number result) }
+{
+    let status = match handle.held_mut() {
+        Held::Saved(saved) => match saved.set_position(alloc, k as usize, position) {
+            Ok(()) => Status::Done,
+            Err(NoSuchPlace) => Status::NoSuchPlace,
+        },
+        Held::Endpoint(_) | Held::Stopped(_) => Status::WrongKind,
+    };
+    status.number()
+}
+
+/// Tells the least cycle that reads look at.
+#[unsafe(no_mangle)]
+pub extern "C" fn linnetshelf_saved_floor(handle: &mut Handle) -> Answer
+    ensures { OnSaved handle.old.held handle.new.held (result ≡ plain WrongKind) (λ old new.
+        (result ≡ done old.contents.floor) × (new ≡ old)) }
+{
+    match handle.held_mut() {
+        Held::Saved(saved) => done(u64::from(saved.floor())),
+        Held::Endpoint(_) | Held::Stopped(_) => plain(Status::WrongKind),
+    }
+}
+
+/// Sets the least cycle that reads look at.
+#[unsafe(no_mangle)]
+pub extern "C" fn linnetshelf_saved_set_floor(handle: &mut Handle, floor: u32) -> u32
+    ensures { OnSaved handle.old.held handle.new.held (result ≡ number WrongKind) (λ old new.
+        (result ≡ number Done) × (new ≡ with_contents old (record old.contents { floor = floor }))) }
+{
+    match handle.held_mut() {
+        Held::Saved(saved) => {
+            saved.set_floor(floor);
+            Status::Done.number()
+        }
+        Held::Endpoint(_) | Held::Stopped(_) => Status::WrongKind.number(),
+    }
+}
+
+/// Hands out the first endpoint of a queue that holds what is saved, with the last of its cycles current. What is saved stays as
+/// it is. `Saved::open` says which contents are refused as `BadContents`.
+#[unsafe(no_mangle)]
+pub extern "C" fn linnetshelf_open(alloc: Global, handle: &mut Handle, out: &mut Handle) -> u32
+    ensures { OnSaved handle.old.held handle.new.held
+        ((result ≡ number WrongKind) × (out.new.held ≡ out.old.held)) (λ old new.
+        Tells (Opens old out.old.held out.new.held) number result × (new ≡ old)) }
+{
+    let status = match handle.held_mut() {
+        Held::Saved(saved) => match saved.open(alloc) {
+            Ok(endpoint) => hand_out(alloc, Held::Endpoint(endpoint), out),
+            Err(CreateError::BadContents) => Status::BadContents,
+            Err(CreateError::OutOfMemory) => Status::OutOfMemory,
+            Err(CreateError::BadMoment) => unreachable!(),
+        },
+        Held::Endpoint(_) | Held::Stopped(_) => Status::WrongKind,
+    };
+    status.number()
+}

@@ -1,0 +1,22 @@
+//! The texts of statuses.
+ghost use Rattle.std.specs.Prelude.{◌≡◌, length};
+
+use crate::status::Status;
+
+/// Copies the text of a status to the front of a room, with a zero byte behind it, where the room has the bytes for both. Tells the
+/// length of the text. A number that no status has gets a text too.
+#[unsafe(no_mangle)]
+pub extern "C" fn linnetshelf_text(status: u32, room: &mut [u8]) -> usize
+    ensures { length room.new ≡ length room.old }
+{
+    let text = match Status::of_number(status) {
+        Some(status) => status.text().as_bytes(),
+        None => b"no status has this number",
+    };
+    let length = text.len();
+    if length < room.len() {
+        room[..length].copy_from_slice(text);
+        room[length] = 0;
+    }
+    length
+}
