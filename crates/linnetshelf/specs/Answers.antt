@@ -17,9 +17,15 @@ use Rattle.cq_layout.specs.declared.refusal.Refusal.TheVariants as refusal
 use Rattle.cq_saved.specs.declared.fault.AddFault.{AddFault}
 use Rattle.cq_saved.specs.declared.fault.AddFault.TheVariants as unadded
 use Rattle.cq_saved.specs.declared.fault.NoSuchPlace.{NoSuchPlace}
+use Rattle.cq_tail.specs.declared.answers.AtInto.{AtInto}
+use Rattle.cq_tail.specs.declared.answers.AtInto.TheVariants as at
 use Rattle.cq_tail.specs.declared.answers.Direction.{Direction}
+use Rattle.cq_tail.specs.declared.answers.FoundInto.{FoundInto}
+use Rattle.cq_tail.specs.declared.answers.FoundInto.TheVariants as found
 use Rattle.cq_tail.specs.declared.answers.Sought.{Sought}
 use Rattle.cq_tail.specs.declared.answers.Sought.TheVariants as sought
+use Rattle.cq_tail.specs.declared.answers.TakeInto.{TakeInto}
+use Rattle.cq_tail.specs.declared.answers.TakeInto.TheVariants as take
 use Rattle.cq_tail.specs.declared.error.NoSuchName.{NoSuchName}
 use Rattle.linnetshelf.specs.Statuses.{number}
 use Rattle.linnetshelf.specs.declared.answer.Answer.{Answer}
@@ -143,3 +149,38 @@ image_answer (into.Copied len) = record { index = 0; length = len; status = numb
 image_answer (into.NoRoom len) = record { index = 0; length = len; status = number status.NoRoom }
 image_answer into.NoSuchPlace = plain status.NoSuchPlace
 image_answer into.OutOfMemory = plain status.OutOfMemory
+
+-- a message of this length was read
+abbrev pub read : ℕ → ℕ → Answer
+read index len = record { index = index; length = len; status = number status.Done }
+
+-- a message of this length was not read: the room is too small
+abbrev pub too_long : ℕ → Answer
+too_long len = record { index = 0; length = len; status = number status.NoRoom }
+
+-- what `next` answers
+abbrev pub found_answer : FoundInto → Answer
+found_answer (found.Message index len) = read index len
+found_answer (found.NoRoom len) = too_long len
+found_answer found.NotYet = plain status.NotYet
+found_answer found.BeforeStart = plain status.BeforeStart
+
+-- what `read_at` answers
+abbrev pub at_answer : AtInto → Answer
+at_answer (at.Message len) = read 0 len
+at_answer (at.NoRoom len) = too_long len
+at_answer at.NotYet = plain status.NotYet
+at_answer at.Never = plain status.Never
+at_answer at.Gone = plain status.Gone
+
+-- what a take by a name that the queue declares answers
+abbrev pub took_answer : TakeInto → Answer
+took_answer (take.Taken index len) = read index len
+took_answer (take.NoRoom len) = too_long len
+took_answer take.NotYet = plain status.NotYet
+took_answer (take.Moved position) = moved position
+
+-- what `take` answers
+abbrev pub take_answer : Result TakeInto NoSuchName → Answer
+take_answer (Ok took) = took_answer took
+take_answer (Err e) = plain status.NoSuchName

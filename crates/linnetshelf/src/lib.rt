@@ -11,6 +11,7 @@ mod layout;
 mod making;
 mod naming;
 mod reading;
+mod rooms;
 mod saving;
 mod settings;
 mod status;

@@ -16,9 +16,9 @@ pub enum Status {
     Gone,
     /// No message stands at this index, or its cycle was dropped; the endpoint stays where it is.
     NoMessage,
-    /// The room is too small. The answer has the length that is needed, and nothing else happened.
+    /// The room is too small; the answer has the length that is needed.
     NoRoom,
-    /// The name stands elsewhere, and was not moved. The answer has its position.
+    /// The name stands elsewhere and was not moved; the answer has its position.
     Moved,
     /// Another endpoint is writing.
     Busy,
@@ -175,10 +175,9 @@ impl Status {
             Status::Gone => "reads pass over the cycle of this index, which was dropped",
             Status::NoMessage =>
                 "no message stands at this index, or its cycle was dropped; the endpoint stays where it is",
-            Status::NoRoom =>
-                "the room is too small. The answer has the length that is needed, and nothing else happened",
+            Status::NoRoom => "the room is too small; the answer has the length that is needed",
             Status::Moved =>
-                "the name stands elsewhere, and was not moved. The answer has its position",
+                "the name stands elsewhere and was not moved; the answer has its position",
             Status::Busy => "another endpoint is writing",
             Status::CycleFull =>
                 "a message of this length does not fit behind those of the current cycle",

@@ -1,0 +1,136 @@
+//! Messages are read and taken into rooms, which are bytes of the caller. No memory is needed for it.
+ghost use Rattle.std.specs.Prelude.{◌≡◌};
+ghost use Rattle.cq_endpoint.specs.Endpoints.{ChangesTailer};
+ghost use Rattle.cq_tail.specs.Rooms.{ReadsAtInto, ReadsInto};
+ghost use Rattle.linnetshelf.specs.Answers.{Tells, at_answer, found_answer, plain, read, take_answer, too_long, took_answer};
+ghost use Rattle.linnetshelf.specs.Handles.{OnEndpoint};
+ghost use Rattle.linnetshelf.specs.Reads.{TakesName};
+ghost use Rattle.linnetshelf.specs.declared.status.Status.TheVariants.{WrongKind};
+
+use crate::answer::{Answer, moved, plain};
+use crate::status::Status;
+use cq_cycle::Index;
+use cq_endpoint::{AtInto, Endpoint, FoundInto, NoSuchName, TakeInto};
+use cq_handle::{Handle, Held};
+
+/// Reads the next message in the endpoint's direction into a room, tells its index and its length, and goes behind it, or backwards
+/// before it. Where the room has fewer bytes, it answers `NoRoom` with the length, and reads nothing.
+#[unsafe(no_mangle)]
+pub extern "C" fn linnetshelf_next(handle: &mut Handle, room: &mut [u8]) -> Answer
+    ensures { OnEndpoint handle.old.held handle.new.held ((result ≡ plain WrongKind) × (room.new ≡ room.old)) (λ old new.
+        Tells (ReadsInto old.queue old.tailer new.tailer room.old room.new) found_answer result × ChangesTailer old new) }
+{
+    match handle.held_mut() {
+        Held::Endpoint(endpoint) => found_answer(endpoint.next_into(room)),
+        Held::Stopped(_) | Held::Saved(_) => plain(Status::WrongKind),
+    }
+}
+
+/// Reads the message with this index into a room, tells its length, and stays where it is. Where the room has fewer bytes, it answers
+/// `NoRoom` with the length, and reads nothing.
+#[unsafe(no_mangle)]
+pub extern "C" fn linnetshelf_read_at(handle: &mut Handle, index: u64, room: &mut [u8]) -> Answer
+    ensures { OnEndpoint handle.old.held handle.new.held ((result ≡ plain WrongKind) × (room.new ≡ room.old)) (λ old new.
+        Tells (ReadsAtInto old.queue old.tailer new.tailer index room.old room.new) at_answer result
+        × ChangesTailer old new) }
+{
+    match handle.held_mut() {
+        Held::Endpoint(endpoint) => {
+            at_answer(endpoint.read_at_into(Index::of_value(index), room))
+        }
+        Held::Stopped(_) | Held::Saved(_) => plain(Status::WrongKind),
+    }
+}
+
+/// Takes the next message of a name into a room, and tells its index and its length. Where the room has fewer bytes, it answers `NoRoom`
+/// with the length, and takes nothing. Where another endpoint has moved the name meanwhile, it takes nothing and answers `Moved` with
+/// the position that it found.
+#[unsafe(no_mangle)]
+pub extern "C" fn linnetshelf_take(handle: &mut Handle, name: &[u8], room: &mut [u8]) -> Answer
+    ensures { OnEndpoint handle.old.held handle.new.held ((result ≡ plain WrongKind) × (room.new ≡ room.old)) (λ old new.
+        Tells (TakesName old new name.now room.old room.new) take_answer result × ChangesTailer old new) }
+{
+    match handle.held_mut() {
+        Held::Endpoint(endpoint) => take_answer(take(endpoint, name, room)),
+        Held::Stopped(_) | Held::Saved(_) => plain(Status::WrongKind),
+    }
+}
+
+fn take(endpoint: &mut Endpoint, name: &[u8], room: &mut [u8]) -> Result<TakeInto, NoSuchName>
+    ensures says { TakesName endpoint.old endpoint.new name.now room.old room.new result }
+    ensures rest { ChangesTailer endpoint.old endpoint.new }
+{
+    match str::from_utf8(name) {
+        Ok(name) => endpoint.take_into(name, room),
+        Err(_) => Err(NoSuchName),
+    }
+}
+
+/// A message of this length was read.
+fn read(index: u64, length: u32) -> Answer
+    ensures { result ≡ read index length }
+{
+    Answer {
+        index,
+        length,
+        status: Status::Done.number(),
+    }
+}
+
+/// A message of this length was not read: the room is too small.
+fn too_long(length: u32) -> Answer
+    ensures { result ≡ too_long length }
+{
+    Answer {
+        index: 0,
+        length,
+        status: Status::NoRoom.number(),
+    }
+}
+
+/// What `next` answers.
+fn found_answer(said: FoundInto) -> Answer
+    ensures { result ≡ found_answer said }
+{
+    match said {
+        FoundInto::Message(index, length) => read(index.value(), length),
+        FoundInto::NoRoom(length) => too_long(length),
+        FoundInto::NotYet => plain(Status::NotYet),
+        FoundInto::BeforeStart => plain(Status::BeforeStart),
+    }
+}
+
+/// What `read_at` answers.
+fn at_answer(said: AtInto) -> Answer
+    ensures { result ≡ at_answer said }
+{
+    match said {
+        AtInto::Message(length) => read(0, length),
+        AtInto::NoRoom(length) => too_long(length),
+        AtInto::NotYet => plain(Status::NotYet),
+        AtInto::Never => plain(Status::Never),
+        AtInto::Gone => plain(Status::Gone),
+    }
+}
+
+/// What `take` answers.
+fn take_answer(said: Result<TakeInto, NoSuchName>) -> Answer
+    ensures { result ≡ take_answer said }
+{
+    match said {
+        Ok(took) => took_answer(took),
+        Err(NoSuchName) => plain(Status::NoSuchName),
+    }
+}
+
+/// What a take by a name that the queue declares answers.
+fn took_answer(took: TakeInto) -> Answer
+    ensures { result ≡ took_answer took }
+{
+    match took {
+        TakeInto::Taken(index, length) => read(index.value(), length),
+        TakeInto::NoRoom(length) => too_long(length),
+        TakeInto::NotYet => plain(Status::NotYet),
+        TakeInto::Moved(position) => moved(position),
+    }
+}
