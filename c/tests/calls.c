@@ -1,0 +1,319 @@
+/* Each call once and more, on one thread: what it answers, and what it refuses. */
+#include "check.h"
+#include <stdlib.h>
+
+static linnetshelf_handle queue_of(const char *names, uint64_t moment) {
+    linnetshelf_handle queue = {0};
+    CHECK(linnetshelf_create(&SMALL, names, strlen(names), moment, &queue) == STATUS(DONE));
+    return queue;
+}
+
+static int is_message(linnetshelf_answer answer, uint64_t index, const char *room, const char *text) {
+    return answer.status == STATUS(DONE) && answer.index == index && answer.length == strlen(text) &&
+           memcmp(room, text, answer.length) == 0;
+}
+
+static void settings_are_tested(void) {
+    linnetshelf_handle out = {0};
+    for (int field = 0; field < 6; field++) {
+        linnetshelf_settings bad = SMALL;
+        switch (field) {
+        case 0: bad.epoch = UINT64_MAX; break;
+        case 1: bad.cells = 10; break;
+        case 2: bad.index_count = 9; break;
+        case 3: bad.index_spacing = 3; break;
+        case 4: bad.cycles = 65; break;
+        case 5: bad.roll = 3; break;
+        }
+        CHECK(linnetshelf_create(&bad, "a", 1, 0, &out) == STATUS(BAD_SETTINGS));
+        CHECK(linnetshelf_saved_new(&bad, "a", 1, &out) == STATUS(BAD_SETTINGS));
+    }
+    CHECK(linnetshelf_create(&SMALL, "a\na", 3, 0, &out) == STATUS(BAD_SETTINGS));
+    CHECK(linnetshelf_create(&SMALL, "a b", 3, 0, &out) == STATUS(BAD_SETTINGS));
+    CHECK(linnetshelf_create(&SMALL, "\xff", 1, 0, &out) == STATUS(BAD_SETTINGS));
+    CHECK(linnetshelf_create(&SMALL, "a\n\nb", 4, 0, &out) == STATUS(BAD_SETTINGS));
+    linnetshelf_settings later = SMALL;
+    later.epoch = 10 * DAY;
+    CHECK(linnetshelf_create(&later, "a", 1, DAY, &out) == STATUS(BAD_MOMENT));
+    CHECK(out.at == NULL);
+    CHECK(linnetshelf_create(&SMALL, "", 0, 0, &out) == STATUS(DONE));
+    linnetshelf_destroy(out);
+}
+
+static void messages_are_appended_and_read(void) {
+    linnetshelf_handle queue = queue_of("reader\n", 5 * DAY);
+    char room[64];
+    CHECK(linnetshelf_next(&queue, room, sizeof room).status == STATUS(NOT_YET));
+    CHECK(linnetshelf_append(&queue, 5 * DAY, "", 0).status == STATUS(BAD_ROOM));
+    CHECK(linnetshelf_append(&queue, UINT64_MAX, "a", 1).status == STATUS(BAD_MOMENT));
+    linnetshelf_answer answer = linnetshelf_append(&queue, 5 * DAY, "hello", 5);
+    CHECK(answer.status == STATUS(DONE) && answer.index == 5ull << 32 && answer.length == 0);
+    CHECK(linnetshelf_append(&queue, 0, "world", 5).index == (5ull << 32) + 1);
+    CHECK(linnetshelf_append(&queue, 7 * DAY, "later", 5).index == 7ull << 32);
+
+    answer = linnetshelf_next(&queue, room, 4);
+    CHECK(answer.status == STATUS(NO_ROOM) && answer.length == 5);
+    CHECK(linnetshelf_next(&queue, room, 0).status == STATUS(NO_ROOM));
+    CHECK(is_message(linnetshelf_next(&queue, room, 5), 5ull << 32, room, "hello"));
+    room[5] = '!';
+    CHECK(is_message(linnetshelf_next(&queue, room, sizeof room), (5ull << 32) + 1, room, "world"));
+    CHECK(room[5] == '!');
+    CHECK(linnetshelf_cursor(&queue).index == (5ull << 32) + 2);
+    CHECK(is_message(linnetshelf_next(&queue, room, sizeof room), 7ull << 32, room, "later"));
+    CHECK(linnetshelf_next(&queue, room, sizeof room).status == STATUS(NOT_YET));
+
+    CHECK(linnetshelf_direction(&queue, 2) == STATUS(BAD_DIRECTION));
+    CHECK(linnetshelf_direction(&queue, LINNETSHELF_BACKWARDS) == STATUS(DONE));
+    CHECK(is_message(linnetshelf_next(&queue, room, sizeof room), 7ull << 32, room, "later"));
+    CHECK(is_message(linnetshelf_next(&queue, room, sizeof room), (5ull << 32) + 1, room, "world"));
+    CHECK(linnetshelf_next(&queue, room, 4).status == STATUS(NO_ROOM));
+    CHECK(is_message(linnetshelf_next(&queue, room, sizeof room), 5ull << 32, room, "hello"));
+    CHECK(linnetshelf_next(&queue, room, sizeof room).status == STATUS(BEFORE_START));
+    CHECK(linnetshelf_direction(&queue, LINNETSHELF_FORWARDS) == STATUS(DONE));
+
+    CHECK(linnetshelf_move_to(&queue, 7ull << 32) == STATUS(DONE));
+    CHECK(is_message(linnetshelf_next(&queue, room, sizeof room), 7ull << 32, room, "later"));
+    CHECK(linnetshelf_move_to(&queue, 6ull << 32) == STATUS(NO_MESSAGE));
+    CHECK(linnetshelf_to_start(&queue) == STATUS(DONE));
+    CHECK(linnetshelf_cursor(&queue).index == 0);
+    CHECK(linnetshelf_to_end(&queue).index == (7ull << 32) + 1);
+    CHECK(linnetshelf_cursor(&queue).index == (7ull << 32) + 1);
+
+    answer = linnetshelf_read_at(&queue, (5ull << 32) + 1, room, sizeof room);
+    CHECK(answer.status == STATUS(DONE) && answer.length == 5 && memcmp(room, "world", 5) == 0);
+    answer = linnetshelf_read_at(&queue, (5ull << 32) + 1, room, 1);
+    CHECK(answer.status == STATUS(NO_ROOM) && answer.length == 5);
+    CHECK(linnetshelf_read_at(&queue, (5ull << 32) + 2, room, sizeof room).status == STATUS(NEVER));
+    CHECK(linnetshelf_read_at(&queue, (7ull << 32) + 1, room, sizeof room).status == STATUS(NOT_YET));
+
+    CHECK(linnetshelf_drop_before(&queue, 8).status == STATUS(NOT_SEEN));
+    CHECK(linnetshelf_drop_before(&queue, 7).index == 7);
+    CHECK(linnetshelf_drop_before(&queue, 6).index == 7);
+    CHECK(linnetshelf_read_at(&queue, 5ull << 32, room, sizeof room).status == STATUS(GONE));
+    CHECK(linnetshelf_to_start(&queue) == STATUS(DONE));
+    CHECK(is_message(linnetshelf_next(&queue, room, sizeof room), 7ull << 32, room, "later"));
+
+    CHECK(linnetshelf_advance(&queue, 8 * DAY).index == 8);
+    CHECK(linnetshelf_advance(&queue, 1).index == 8);
+    CHECK(linnetshelf_advance(&queue, 9 * DAY).index == 9);
+    CHECK(linnetshelf_advance(&queue, 10 * DAY).status == STATUS(NO_CYCLE_LEFT));
+    linnetshelf_destroy(queue);
+}
+
+static void a_cycle_gets_full(void) {
+    linnetshelf_settings tiny = SMALL;
+    tiny.cells = 64;
+    tiny.index_count = 8;
+    linnetshelf_handle queue = {0};
+    char message[200];
+    memset(message, 'x', sizeof message);
+    CHECK(linnetshelf_create(&tiny, "", 0, 0, &queue) == STATUS(DONE));
+    CHECK(linnetshelf_append(&queue, 0, message, sizeof message).status == STATUS(CYCLE_FULL));
+    CHECK(linnetshelf_append(&queue, 0, message, 100).status == STATUS(DONE));
+    CHECK(linnetshelf_append(&queue, 0, message, 100).status == STATUS(CYCLE_FULL));
+    CHECK(linnetshelf_append(&queue, DAY, message, 100).status == STATUS(DONE));
+    linnetshelf_destroy(queue);
+}
+
+static void messages_are_put_in_parts(void) {
+    linnetshelf_handle one = queue_of("", 0), other = {0};
+    char room[64];
+    CHECK(linnetshelf_split(&one, &other) == STATUS(DONE));
+    CHECK(linnetshelf_put(&one, "a", 1) == STATUS(NOT_WRITING));
+    CHECK(linnetshelf_complete(&one).status == STATUS(NOT_WRITING));
+    CHECK(linnetshelf_roll_back(&one) == STATUS(NOT_WRITING));
+    CHECK(linnetshelf_begin(&one, 0, 0) == STATUS(BAD_ROOM));
+    CHECK(linnetshelf_begin(&one, 0, 8) == STATUS(DONE));
+    CHECK(linnetshelf_begin(&one, 0, 8) == STATUS(WRITING));
+    CHECK(linnetshelf_append(&one, 0, "a", 1).status == STATUS(WRITING));
+    CHECK(linnetshelf_advance(&one, DAY).status == STATUS(WRITING));
+    CHECK(linnetshelf_append(&other, 0, "a", 1).status == STATUS(BUSY));
+    CHECK(linnetshelf_complete(&one).status == STATUS(EMPTY_MESSAGE));
+    CHECK(linnetshelf_put(&one, "", 0) == STATUS(DONE));
+    CHECK(linnetshelf_put(&one, "hello", 5) == STATUS(DONE));
+    CHECK(linnetshelf_put(&one, "world", 5) == STATUS(PAST_ROOM));
+    CHECK(linnetshelf_put(&one, "you", 3) == STATUS(DONE));
+    CHECK(linnetshelf_next(&other, room, sizeof room).status == STATUS(NOT_YET));
+    CHECK(linnetshelf_complete(&one).index == 0);
+    CHECK(is_message(linnetshelf_next(&other, room, sizeof room), 0, room, "helloyou"));
+    CHECK(linnetshelf_begin(&one, 0, 8) == STATUS(DONE));
+    CHECK(linnetshelf_put(&one, "never", 5) == STATUS(DONE));
+    CHECK(linnetshelf_roll_back(&one) == STATUS(DONE));
+    CHECK(linnetshelf_append(&other, 0, "next", 4).index == 1);
+    CHECK(is_message(linnetshelf_next(&other, room, sizeof room), 1, room, "next"));
+    linnetshelf_destroy(one);
+    linnetshelf_destroy(other);
+}
+
+static void names_take(void) {
+    linnetshelf_handle one = queue_of("reader\nother", 0), two = {0};
+    char room[64];
+    CHECK(linnetshelf_split(&one, &two) == STATUS(DONE));
+    CHECK(linnetshelf_take(&one, "reader", 6, room, sizeof room).status == STATUS(NOT_YET));
+    linnetshelf_append(&one, 0, "first", 5);
+    linnetshelf_append(&one, 0, "second", 6);
+    CHECK(linnetshelf_take(&one, "nobody", 6, room, sizeof room).status == STATUS(NO_SUCH_NAME));
+    CHECK(linnetshelf_take(&one, "\xff\xfe", 2, room, sizeof room).status == STATUS(NO_SUCH_NAME));
+    CHECK(linnetshelf_take(&one, "", 0, room, sizeof room).status == STATUS(NO_SUCH_NAME));
+    linnetshelf_answer answer = linnetshelf_take(&one, "reader", 6, room, 4);
+    CHECK(answer.status == STATUS(NO_ROOM) && answer.length == 5);
+    CHECK(is_message(linnetshelf_take(&two, "reader", 6, room, sizeof room), 0, room, "first"));
+    CHECK(is_message(linnetshelf_take(&one, "reader", 6, room, sizeof room), 1, room, "second"));
+    CHECK(linnetshelf_take(&two, "reader", 6, room, sizeof room).status == STATUS(NOT_YET));
+    CHECK(is_message(linnetshelf_take(&two, "other", 5, room, sizeof room), 0, room, "first"));
+    CHECK(linnetshelf_position(&one, "reader", 6).index == 2);
+    CHECK(linnetshelf_position(&one, "nobody", 6).status == STATUS(NO_SUCH_NAME));
+    CHECK(linnetshelf_seek(&one, "nobody", 6, 0, 0).status == STATUS(NO_SUCH_NAME));
+    CHECK(linnetshelf_seek(&one, "reader", 6, 2, 99).status == STATUS(NOT_SEEN));
+    answer = linnetshelf_seek(&one, "reader", 6, 1, 0);
+    CHECK(answer.status == STATUS(MOVED) && answer.index == 2);
+    CHECK(linnetshelf_seek(&one, "reader", 6, 2, 1).status == STATUS(DONE));
+    CHECK(is_message(linnetshelf_take(&one, "reader", 6, room, sizeof room), 1, room, "second"));
+    linnetshelf_destroy(one);
+    linnetshelf_destroy(two);
+}
+
+/* Three endpoints are ended in each order; the ones that are left go on. */
+static void endpoints_end_in_each_order(void) {
+    static const int orders[6][3] = {{0, 1, 2}, {0, 2, 1}, {1, 0, 2}, {1, 2, 0}, {2, 0, 1}, {2, 1, 0}};
+    for (int k = 0; k < 6; k++) {
+        linnetshelf_handle ends[3] = {queue_of("", 0), {0}, {0}};
+        char room[8];
+        CHECK(linnetshelf_split(&ends[0], &ends[1]) == STATUS(DONE));
+        CHECK(linnetshelf_split(&ends[1], &ends[2]) == STATUS(DONE));
+        for (int gone = 0; gone < 3; gone++) {
+            for (int j = gone; j < 3; j++) {
+                linnetshelf_handle *end = &ends[orders[k][j]];
+                CHECK(linnetshelf_append(end, 0, "x", 1).status == STATUS(DONE));
+                CHECK(linnetshelf_next(end, room, sizeof room).status == STATUS(DONE));
+            }
+            linnetshelf_destroy(ends[orders[k][gone]]);
+        }
+    }
+}
+
+/* Copies the images, positions and floor of what is saved into a new one. */
+static linnetshelf_handle copy_of(linnetshelf_handle *saved, const char *names, int positions) {
+    linnetshelf_handle copy = {0};
+    CHECK(linnetshelf_saved_new(&SMALL, names, strlen(names), &copy) == STATUS(DONE));
+    for (uint32_t k = 0; k < linnetshelf_saved_count(saved).index; k++) {
+        linnetshelf_answer answer = linnetshelf_saved_image(saved, k, "", 0);
+        CHECK(answer.status == STATUS(NO_ROOM) || (answer.status == STATUS(DONE) && answer.length == 0));
+        char *image = malloc(answer.length + 1);
+        answer = linnetshelf_saved_image(saved, k, image, answer.length);
+        CHECK(answer.status == STATUS(DONE));
+        CHECK(linnetshelf_saved_add(&copy, (uint32_t)linnetshelf_saved_cycle(saved, k).index, image, answer.length).status ==
+              STATUS(DONE));
+        free(image);
+    }
+    for (int k = 0; k < positions; k++)
+        CHECK(linnetshelf_saved_set_position(&copy, k, linnetshelf_saved_position(saved, k).index) == STATUS(DONE));
+    CHECK(linnetshelf_saved_set_floor(&copy, (uint32_t)linnetshelf_saved_floor(saved).index) == STATUS(DONE));
+    return copy;
+}
+
+static void a_queue_is_saved_and_opened(void) {
+    linnetshelf_handle queue = queue_of("reader\nother", 5 * DAY), other = {0}, again = {0};
+    char room[64];
+    linnetshelf_append(&queue, 5 * DAY, "one", 3);
+    linnetshelf_append(&queue, 5 * DAY, "two", 3);
+    linnetshelf_append(&queue, 6 * DAY, "three", 5);
+    CHECK(linnetshelf_take(&queue, "other", 5, room, sizeof room).status == STATUS(DONE));
+    CHECK(linnetshelf_drop_before(&queue, 6).status == STATUS(NOT_SEEN)); /* it appended there, and did not look */
+    CHECK(linnetshelf_to_end(&queue).index == (6ull << 32) + 1);
+    CHECK(linnetshelf_drop_before(&queue, 6).status == STATUS(DONE));
+    CHECK(linnetshelf_split(&queue, &other) == STATUS(DONE));
+    CHECK(linnetshelf_stop(&queue) == STATUS(IN_USE));
+    CHECK(linnetshelf_append(&queue, 0, "four", 4).status == STATUS(DONE));
+    linnetshelf_destroy(other);
+    CHECK(linnetshelf_begin(&queue, 0, 8) == STATUS(DONE));
+    CHECK(linnetshelf_put(&queue, "never", 5) == STATUS(DONE));
+    CHECK(linnetshelf_stop(&queue) == STATUS(DONE));
+    CHECK(linnetshelf_stop(&queue) == STATUS(WRONG_KIND));
+    CHECK(linnetshelf_append(&queue, 0, "a", 1).status == STATUS(WRONG_KIND));
+    CHECK(linnetshelf_next(&queue, room, sizeof room).status == STATUS(WRONG_KIND));
+    CHECK(linnetshelf_split(&queue, &other) == STATUS(WRONG_KIND));
+
+    CHECK(linnetshelf_saved_count(&queue).index == 2);
+    CHECK(linnetshelf_saved_cycle(&queue, 0).index == 5 && linnetshelf_saved_cycle(&queue, 1).index == 6);
+    CHECK(linnetshelf_saved_cycle(&queue, 2).status == STATUS(NO_SUCH_PLACE));
+    CHECK(linnetshelf_saved_ended(&queue, 0).index == 1 && linnetshelf_saved_ended(&queue, 1).index == 0);
+    CHECK(linnetshelf_saved_ended(&queue, 2).status == STATUS(NO_SUCH_PLACE));
+    CHECK(linnetshelf_saved_image(&queue, 2, room, sizeof room).status == STATUS(NO_SUCH_PLACE));
+    CHECK(linnetshelf_saved_position(&queue, 0).index == 0);
+    CHECK(linnetshelf_saved_position(&queue, 1).index == (5ull << 32) + 1);
+    CHECK(linnetshelf_saved_position(&queue, 2).status == STATUS(NO_SUCH_PLACE));
+    CHECK(linnetshelf_saved_floor(&queue).index == 6);
+
+    linnetshelf_handle copy = copy_of(&queue, "reader\nother", 2);
+    CHECK(linnetshelf_saved_set_position(&copy, 2, 0) == STATUS(NO_SUCH_PLACE));
+    CHECK(linnetshelf_saved_add(&copy, 9, "", 0).status == STATUS(BEHIND_OPEN));
+    CHECK(linnetshelf_open(&copy, &again) == STATUS(DONE));
+    CHECK(linnetshelf_open(&again, &other) == STATUS(WRONG_KIND));
+    CHECK(linnetshelf_saved_count(&again).status == STATUS(WRONG_KIND));
+    CHECK(is_message(linnetshelf_next(&again, room, sizeof room), 6ull << 32, room, "three"));
+    CHECK(is_message(linnetshelf_next(&again, room, sizeof room), (6ull << 32) + 1, room, "four"));
+    CHECK(linnetshelf_next(&again, room, sizeof room).status == STATUS(NOT_YET));
+    CHECK(is_message(linnetshelf_take(&again, "other", 5, room, sizeof room), 6ull << 32, room, "three"));
+    CHECK(linnetshelf_append(&again, 0, "five", 4).index == (6ull << 32) + 2);
+    CHECK(linnetshelf_stop(&again) == STATUS(DONE));
+    CHECK(linnetshelf_saved_position(&again, 1).index == (6ull << 32) + 1);
+
+    CHECK(linnetshelf_saved_set_position(&copy, 0, UINT64_MAX) == STATUS(DONE));
+    CHECK(linnetshelf_open(&copy, &other) == STATUS(BAD_CONTENTS));
+    linnetshelf_destroy(copy);
+    linnetshelf_destroy(again);
+    linnetshelf_destroy(queue);
+}
+
+static void images_are_tested(void) {
+    linnetshelf_handle queue = queue_of("", 0), saved = {0}, out = {0};
+    static char image[16384];
+    linnetshelf_append(&queue, 0, "hello", 5);
+    CHECK(linnetshelf_stop(&queue) == STATUS(DONE));
+    linnetshelf_answer answer = linnetshelf_saved_image(&queue, 0, image, sizeof image);
+    CHECK(answer.status == STATUS(DONE) && answer.length > 4);
+    CHECK(linnetshelf_saved_new(&SMALL, "", 0, &saved) == STATUS(DONE));
+    CHECK(linnetshelf_open(&saved, &out) == STATUS(BAD_CONTENTS));
+    CHECK(linnetshelf_saved_add(&saved, 0, image, answer.length - 1).status == STATUS(CUT));
+    CHECK(linnetshelf_saved_add(&saved, 1, image, answer.length).status == STATUS(WRONG_STORE));
+    image[answer.length - 1] = 1;
+    linnetshelf_answer refused = linnetshelf_saved_add(&saved, 0, image, answer.length);
+    CHECK(refused.status == STATUS(BAD_PADDING) && refused.index == answer.length - 1u);
+    image[answer.length - 1] = 0;
+    CHECK(linnetshelf_saved_count(&saved).index == 0);
+    CHECK(linnetshelf_saved_add(&saved, 0, image, answer.length).status == STATUS(DONE));
+    CHECK(linnetshelf_saved_count(&saved).index == 1);
+    CHECK(linnetshelf_open(&saved, &out) == STATUS(DONE));
+    linnetshelf_destroy(out);
+    linnetshelf_destroy(saved);
+    linnetshelf_destroy(queue);
+}
+
+static void statuses_have_texts(void) {
+    char room[128], other[128];
+    for (uint32_t status = 0; status <= STATUS(OUT_OF_MEMORY); status++) {
+        size_t length = linnetshelf_text(status, room, sizeof room);
+        CHECK(length > 0 && length < sizeof room && strlen(room) == length);
+        for (uint32_t before = 0; before < status; before++) {
+            linnetshelf_text(before, other, sizeof other);
+            CHECK(strcmp(room, other) != 0);
+        }
+    }
+    CHECK(linnetshelf_text(STATUS(OUT_OF_MEMORY) + 1, room, sizeof room) == strlen("no status has this number"));
+    room[0] = '!';
+    CHECK(linnetshelf_text(STATUS(DONE), room, linnetshelf_text(STATUS(DONE), other, sizeof other)) > 0 && room[0] == '!');
+}
+
+int main(void) {
+    settings_are_tested();
+    messages_are_appended_and_read();
+    a_cycle_gets_full();
+    messages_are_put_in_parts();
+    names_take();
+    endpoints_end_in_each_order();
+    a_queue_is_saved_and_opened();
+    images_are_tested();
+    statuses_have_texts();
+    return failures != 0;
+}

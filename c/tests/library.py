@@ -1,0 +1,69 @@
+"""The calls of the library that the tests from Python make, by ctypes."""
+import ctypes
+import sys
+
+library = ctypes.CDLL(sys.argv[1])
+
+
+class Handle(ctypes.Structure):
+    _fields_ = [("at", ctypes.c_void_p)]
+
+
+class Settings(ctypes.Structure):
+    _fields_ = [("epoch", ctypes.c_uint64), ("cells", ctypes.c_uint32), ("index_count", ctypes.c_uint32),
+                ("index_spacing", ctypes.c_uint32), ("cycles", ctypes.c_uint32), ("roll", ctypes.c_uint32)]
+
+
+class Answer(ctypes.Structure):
+    _fields_ = [("index", ctypes.c_uint64), ("length", ctypes.c_uint32), ("status", ctypes.c_uint32)]
+
+
+DONE, NOT_YET, BUSY = 0, 1, 8
+HANDLE, BYTES, SIZE = ctypes.POINTER(Handle), ctypes.c_char_p, ctypes.c_size_t
+WORD, LONG = ctypes.c_uint32, ctypes.c_uint64
+CALLS = {
+    "create": (WORD, ctypes.POINTER(Settings), BYTES, SIZE, LONG, HANDLE),
+    "split": (WORD, HANDLE, HANDLE),
+    "destroy": (None, Handle),
+    "append": (Answer, HANDLE, LONG, BYTES, SIZE),
+    "next": (Answer, HANDLE, BYTES, SIZE),
+    "take": (Answer, HANDLE, BYTES, SIZE, BYTES, SIZE),
+    "stop": (WORD, HANDLE),
+    "saved_count": (Answer, HANDLE),
+    "saved_cycle": (Answer, HANDLE, WORD),
+    "saved_image": (Answer, HANDLE, WORD, BYTES, SIZE),
+    "saved_position": (Answer, HANDLE, WORD),
+    "saved_floor": (Answer, HANDLE),
+    "saved_new": (WORD, ctypes.POINTER(Settings), BYTES, SIZE, HANDLE),
+    "saved_add": (Answer, HANDLE, WORD, BYTES, SIZE),
+    "saved_set_position": (WORD, HANDLE, WORD, LONG),
+    "saved_set_floor": (WORD, HANDLE, WORD),
+    "open": (WORD, HANDLE, HANDLE),
+    "size": (SIZE, WORD),
+}
+
+
+def call(name, *arguments):
+    function = getattr(library, "linnetshelf_" + name)
+    function.restype, *function.argtypes = CALLS[name]
+    return function(*arguments)
+
+
+assert [call("size", k) for k in range(3)] == [ctypes.sizeof(it) for it in (Handle, Settings, Answer)]
+
+
+def images_of(saved):
+    """The number and the image of each cycle that is saved."""
+    for k in range(call("saved_count", saved).index):
+        image = ctypes.create_string_buffer(call("saved_image", saved, k, b"", 0).length or 1)
+        answer = call("saved_image", saved, k, image, len(image))
+        assert answer.status == DONE
+        yield call("saved_cycle", saved, k).index, image.raw[:answer.length]
+
+
+def messages_of(endpoint):
+    """The messages that an endpoint reads from where it is, each with its index."""
+    room = ctypes.create_string_buffer(4096)
+    while (answer := call("next", endpoint, room, len(room))).status != NOT_YET:
+        assert answer.status == DONE
+        yield answer.index, room.raw[:answer.length]

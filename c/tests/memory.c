@@ -1,0 +1,79 @@
+/* Nothing is left of a queue once its last endpoint is ended, and each allocation that is refused in turn is answered, and leaves
+ * nothing behind. malloc, realloc and free are counted here: link with --wrap for each. */
+#include "check.h"
+#include <stdlib.h>
+
+void *__real_malloc(size_t size);
+void *__real_realloc(void *at, size_t size);
+void __real_free(void *at);
+
+static long blocks;     /* that are not freed */
+static long left = -1;  /* how many allocations succeed before one is refused; all do where it is negative */
+
+static int is_refused(void) {
+    return left >= 0 && left-- == 0;
+}
+
+void *__wrap_malloc(size_t size) {
+    void *at = is_refused() ? NULL : __real_malloc(size);
+    blocks += at != NULL;
+    return at;
+}
+
+void *__wrap_realloc(void *old, size_t size) {
+    void *at = is_refused() ? NULL : __real_realloc(old, size);
+    blocks += at != NULL && old == NULL;
+    return at;
+}
+
+void __wrap_free(void *at) {
+    blocks -= at != NULL;
+    __real_free(at);
+}
+
+/* Makes a queue, uses it, stops it, and opens it again; answers whether all was done. Where memory is refused it ends what there
+ * is. */
+static int use_queue(void) {
+    linnetshelf_handle queue = {0}, other = {0}, saved = {0}, again = {0};
+    static char image[65536];
+    char room[16];
+    int is_done = 0;
+    if (linnetshelf_create(&SMALL, "reader", 6, 0, &queue) != STATUS(DONE))
+        return 0;
+    if (linnetshelf_split(&queue, &other) == STATUS(DONE)) {
+        CHECK(linnetshelf_append(&other, 0, "hello", 5).status == STATUS(DONE));
+        CHECK(linnetshelf_next(&queue, room, sizeof room).status == STATUS(DONE));
+        CHECK(linnetshelf_take(&queue, "reader", 6, room, sizeof room).status == STATUS(DONE));
+        linnetshelf_destroy(other);
+    }
+    uint32_t stopped = linnetshelf_stop(&queue);
+    if (stopped == STATUS(OUT_OF_MEMORY))
+        stopped = linnetshelf_stop(&queue); /* it is read at the second try */
+    CHECK(stopped == STATUS(DONE));
+    linnetshelf_answer answer = linnetshelf_saved_image(&queue, 0, image, sizeof image);
+    if (answer.status == STATUS(DONE) && linnetshelf_saved_new(&SMALL, "reader", 6, &saved) == STATUS(DONE)) {
+        if (linnetshelf_saved_add(&saved, 0, image, answer.length).status == STATUS(DONE) &&
+            linnetshelf_open(&saved, &again) == STATUS(DONE)) {
+            is_done = linnetshelf_next(&again, room, sizeof room).status == STATUS(DONE);
+            linnetshelf_destroy(again);
+        }
+        linnetshelf_destroy(saved);
+    }
+    linnetshelf_destroy(queue);
+    return is_done;
+}
+
+int main(void) {
+    CHECK(use_queue());
+    CHECK(blocks == 0);
+    for (long refused = 0; refused < 1000; refused++) {
+        left = refused;
+        use_queue();
+        CHECK(blocks == 0);
+        if (left >= 0)
+            return failures != 0; /* fewer allocations are made than would be let through */
+        left = -1;
+    }
+    CHECK(!"it allocates more than a thousand times");
+    return 1;
+}
