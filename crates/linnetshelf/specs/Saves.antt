@@ -1,5 +1,5 @@
 -- What the calls say on what is saved of a queue.
-use Rattle.std.specs.Prelude.{◌≡◌, ◌↔◌, ℕ, ◌<◌, ◌≤◌, ◌++◌, List, Option, Some, None, Result, Ok, Err, drop, length, slice_get, slice_set}
+use Rattle.std.specs.Prelude.{◌≡◌, ◌↔◌, ℕ, ◌<◌, ◌≤◌, ◌++◌, List, Some, None, Result, Ok, Err, drop, length, slice_get, slice_set}
 use Rattle.cq_model.specs.declared.contents.CycleList.{CycleList}
 use Rattle.cq_saved.specs.Saved.{AddsImage, HasEnded, IsImageAt, RefusesImage, SavedFacts, with_contents}
 use Rattle.cq_saved.specs.declared.fault.AddFault.{AddFault}

@@ -1,5 +1,5 @@
 //! Queues are made, and endpoints of them handed out, split off and ended.
-ghost use Rattle.std.specs.Prelude.{◌≡◌, ◌≢◌};
+ghost use Rattle.std.specs.Prelude.{◌≡◌};
 ghost use Rattle.linnetshelf.specs.Answers.{Tells};
 ghost use Rattle.linnetshelf.specs.Handles.{OnEndpoint};
 ghost use Rattle.linnetshelf.specs.Makes.{Creates, HandsOut, Makes, Splits};
