@@ -11,7 +11,12 @@ use std::rt::Files;
 use std::thread::Threads;
 
 /// The words of each start, behind the program's name.
-const STARTS: [&[&str]; 16] = [
+const STARTS: [&[&str]; 21] = [
+    &["read", "."],
+    &["take", ".", "reader"],
+    &["migrate", "."],
+    &["migrate", "."],
+    &["dump", ".", "20241004.cqi"],
     &["check", "."],
     &["write", ".", "1728086400000"],
     &["write", ".", "253402300800000"],
