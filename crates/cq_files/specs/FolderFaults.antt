@@ -147,17 +147,22 @@ pub record HoldsBefore (files : Files) (file : List ℕ) (P : Settings → List 
   pub lawful : IsLawfulSettings settings
   pub before : (other : List ℕ) → IsImageFile files other → name_cmp other file ≡ Less → P settings other
 
--- what is looked at before the file is as it must be: nothing is before `queue.cqc`; before an image are the names of all
--- images, and the images before it in the order of names, of which this must hold
+-- the file is looked at, and what is looked at before it is as it must be: nothing is before `queue.cqc`; before an image
+-- file are the names of all images, and the images before it in the order of names, of which this must hold
 abbrev pub IsReached : (Files → Settings → List ℕ → Type 0) → Files → List ℕ → Type 0
-IsReached P files file = (file ≡ codes "queue.cqc") ⊎ (NameCycles files × HoldsBefore files file (P files))
+IsReached P files file =
+    (file ≡ codes "queue.cqc") ⊎ (IsImageFile files file × NameCycles files × HoldsBefore files file (P files))
+
+-- the name of an image file is looked at, and those before it name cycles
+abbrev pub IsNameReached : Files → List ℕ → Type 0
+IsNameReached files file = IsImageFile files file × HoldsBefore files file NamesCycle
 
 -- a fault is the first one, where this must hold of each image before the next one is looked at
 abbrev pub IsFirstFault : (Files → Settings → List ℕ → Type 0) → Files → ToolFault → Type 0
 IsFirstFault P files (FileFault file) = IsReached P files (string_bytes file)
 IsFirstFault P files (FileTooLarge file) = IsReached P files (string_bytes file)
 IsFirstFault P files (FaultyImage file fault) = IsReached P files (string_bytes file)
-IsFirstFault P files (BadCycleName file) = HoldsBefore files (string_bytes file) NamesCycle
+IsFirstFault P files (BadCycleName file) = IsNameReached files (string_bytes file)
 IsFirstFault P files _ = ⊤
 
 -- a fault that is found before any image is looked at
@@ -181,7 +186,7 @@ MindsVersion files (Err fault) = IsFolderFault fault ⊎ ((fault ≡ OldVersion)
 -- a fault of the names of images: the first one that names no cycle
 abbrev pub IsNamingFault : Files → ToolFault → Type 0
 IsNamingFault files OutOfMemory = ⊤
-IsNamingFault files (BadCycleName file) = HoldsBefore files (string_bytes file) NamesCycle
+IsNamingFault files (BadCycleName file) = IsNameReached files (string_bytes file)
 IsNamingFault files _ = ⊥
 
 -- a fault of the image with this name
