@@ -1,9 +1,16 @@
-//! Tests of endpoints: their calls in turn, endpoints in threads, and the last one of a queue.
+//! Tests of endpoints: their calls in turn, reads into rooms, endpoints that meet, endpoints in threads, and the last one of a
+//! queue.
 #![tactic(auto)]
 
 #[cfg(test)]
 mod calls;
 #[cfg(test)]
 mod life_tests;
+#[cfg(test)]
+mod meeting_tests;
+#[cfg(test)]
+mod room_calls;
+#[cfg(test)]
+mod room_tests;
 #[cfg(test)]
 mod thread_tests;

@@ -1,0 +1,88 @@
+//! Calls of endpoints that read into rooms, and what they answer, as text: the answer, and then the whole room.
+use crate::calls::Call;
+use cq_cycle::Index;
+use cq_endpoint::{AtInto, Endpoint, FoundInto, TakeInto};
+use std::alloc::{AllocError, Global};
+use std::fmt::Debug;
+use std::test::Fail;
+
+/// A call of an endpoint, of which some are given a room of so many dots.
+#[derive(Clone, Copy)]
+pub enum Step {
+    /// A call without one.
+    Plain(Call),
+    /// Reads the next message into a room.
+    NextInto(usize),
+    /// Reads the message at an index into a room.
+    ReadAtInto(u64, usize),
+    /// Takes a message by a name into a room.
+    TakeInto(&'static str, usize),
+}
+
+/// What is read next.
+fn push_found(found: &FoundInto, out: &mut String) -> Result<(), AllocError> {
+    match found {
+        FoundInto::Message(index, len) => write!(out, "{} {len}", index.value()),
+        FoundInto::NoRoom(len) => write!(out, "NoRoom {len}"),
+        FoundInto::NotYet => out.push_str("NotYet"),
+        FoundInto::BeforeStart => out.push_str("BeforeStart"),
+    }
+}
+
+/// What is read at an index.
+fn push_at(at: &AtInto, out: &mut String) -> Result<(), AllocError> {
+    match at {
+        AtInto::Message(len) => write!(out, "{len}"),
+        AtInto::NoRoom(len) => write!(out, "NoRoom {len}"),
+        AtInto::NotYet => out.push_str("NotYet"),
+        AtInto::Never => out.push_str("Never"),
+        AtInto::Gone => out.push_str("Gone"),
+    }
+}
+
+/// What is taken.
+fn push_taken<E: Debug>(taken: &Result<TakeInto, E>, out: &mut String) -> Result<(), AllocError> {
+    match taken {
+        Ok(TakeInto::Taken(index, len)) => write!(out, "{} {len}", index.value()),
+        Ok(TakeInto::NoRoom(len)) => write!(out, "NoRoom {len}"),
+        Ok(TakeInto::NotYet) => out.push_str("NotYet"),
+        Ok(TakeInto::Moved(position)) => write!(out, "Moved {position}"),
+        Err(fault) => write!(out, "{fault:?}"),
+    }
+}
+
+/// A room, behind what was answered.
+fn push_room(room: &[u8], out: &mut String) -> Result<(), Fail> {
+    let text = str::from_utf8(room)?;
+    Ok(write!(out, " [{text}]")?)
+}
+
+impl Step {
+    /// What this call of an endpoint answers.
+    pub fn push_answer(
+        self,
+        alloc: Global,
+        endpoint: &mut Endpoint,
+        out: &mut String,
+    ) -> Result<(), Fail> {
+        match self {
+            Step::Plain(call) => call.push_answer(alloc, endpoint, out),
+            Step::NextInto(size) => {
+                let mut room = Vec::from_elem(alloc, b'.', size)?;
+                push_found(&endpoint.next_into(room.as_mut_slice()), out)?;
+                push_room(room.as_slice(), out)
+            }
+            Step::ReadAtInto(index, size) => {
+                let mut room = Vec::from_elem(alloc, b'.', size)?;
+                let index = Index::of_value(index);
+                push_at(&endpoint.read_at_into(index, room.as_mut_slice()), out)?;
+                push_room(room.as_slice(), out)
+            }
+            Step::TakeInto(name, size) => {
+                let mut room = Vec::from_elem(alloc, b'.', size)?;
+                push_taken(&endpoint.take_into(name, room.as_mut_slice()), out)?;
+                push_room(room.as_slice(), out)
+            }
+        }
+    }
+}

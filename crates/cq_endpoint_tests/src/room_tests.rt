@@ -1,0 +1,135 @@
+//! Reads into rooms.
+use crate::calls::Call;
+use crate::room_calls::Step;
+use cq_endpoint::{Direction, Endpoint};
+use cq_fixtures::{DAY, small_config};
+use std::alloc::Global;
+use std::test::Fail;
+
+/// A new queue with four cycles of 64 cells, each of a day, and the name "reader": calls of its endpoint, and what they answer.
+struct Rooms {
+    steps: &'static [Step],
+    answers: &'static str,
+}
+
+static ROOMS: [Rooms; 4] = [
+    // Rooms that are too small, of the very length, and longer, both ways. Where there was no room, it reads the same again.
+    Rooms {
+        steps: &[
+            Step::Plain(Call::Append(0, "hello")),
+            Step::Plain(Call::Append(0, "ab")),
+            Step::Plain(Call::Append(0, "four")),
+            Step::NextInto(4),
+            Step::NextInto(0),
+            Step::NextInto(5),
+            Step::NextInto(6),
+            Step::NextInto(4),
+            Step::NextInto(3),
+            Step::Plain(Call::Turn(Direction::Backwards)),
+            Step::NextInto(3),
+            Step::NextInto(7),
+            Step::NextInto(1),
+            Step::Plain(Call::Stands),
+            Step::NextInto(2),
+            Step::NextInto(9),
+            Step::NextInto(2),
+        ],
+        answers: "0; 1; 2; NoRoom 5 [....]; NoRoom 5 []; 0 5 [hello]; 1 2 [ab....]; 2 4 [four]; NotYet [...]; turned; \
+NoRoom 4 [...]; 2 4 [four...]; NoRoom 2 [.]; (2, 3); 1 2 [ab]; 0 5 [hello....]; BeforeStart [..]; ",
+    },
+    // What stands at an index.
+    Rooms {
+        steps: &[
+            Step::Plain(Call::Append(0, "hello")),
+            Step::ReadAtInto(0, 4),
+            Step::ReadAtInto(0, 5),
+            Step::ReadAtInto(0, 8),
+            Step::ReadAtInto(1, 2),
+            Step::Plain(Call::Advance(DAY)),
+            Step::ReadAtInto(1, 2),
+            Step::Plain(Call::ToEnd),
+            Step::Plain(Call::DropBefore(1)),
+            Step::ReadAtInto(0, 5),
+            Step::ReadAtInto(1, 2),
+        ],
+        answers: "0; NoRoom 5 [....]; 5 [hello]; 5 [hello...]; NotYet [..]; 1; Never [..]; 4294967296; 1; Gone [hello]; Gone [..]; ",
+    },
+    // Where the message that comes first was dropped, the room may have bytes of it behind those of the one that is read.
+    Rooms {
+        steps: &[
+            Step::Plain(Call::Append(0, "hello")),
+            Step::Plain(Call::Append(DAY, "c")),
+            Step::Plain(Call::ToEnd),
+            Step::Plain(Call::DropBefore(1)),
+            Step::Plain(Call::ToStart),
+            Step::NextInto(7),
+            Step::NextInto(7),
+            Step::Plain(Call::Turn(Direction::Backwards)),
+            Step::NextInto(1),
+            Step::NextInto(6),
+        ],
+        answers: "0; 4294967296; 4294967297; 1; start; 4294967296 1 [cello..]; NotYet [.......]; turned; 4294967296 1 [c]; \
+BeforeStart [hello.]; ",
+    },
+    // Where there is no room, the name stays.
+    Rooms {
+        steps: &[
+            Step::TakeInto("reader", 4),
+            Step::Plain(Call::Append(0, "hello")),
+            Step::TakeInto("reader", 4),
+            Step::Plain(Call::Position("reader")),
+            Step::TakeInto("reader", 6),
+            Step::Plain(Call::Position("reader")),
+            Step::TakeInto("reader", 6),
+            Step::TakeInto("other", 6),
+        ],
+        answers: "NotYet [....]; 0; NoRoom 5 [....]; 0; 0 5 [hello.]; 1; NotYet [......]; NoSuchName [......]; ",
+    },
+];
+
+/// What the calls answer.
+fn answers(alloc: Global, steps: &[Step]) -> Result<String, Fail> {
+    let mut out = String::new(alloc);
+    let mut endpoint = Endpoint::create(alloc, small_config(alloc, 4)?, 0)?;
+    for step in steps {
+        step.push_answer(alloc, &mut endpoint, &mut out)?;
+        out.push_str("; ")?;
+    }
+    Ok(out)
+}
+
+#[test]
+fn endpoints_read_into_rooms(rt: HostRuntime) -> Result<(), Fail> {
+    let alloc = rt.alloc();
+    for rooms in &ROOMS {
+        assert_eq!(rt; answers(alloc, rooms.steps)?.as_str(), rooms.answers);
+    }
+    Ok(())
+}
+
+/// The lengths that are read backwards into one room, of as many messages as a cycle holds, with places that are kept and that
+/// are not.
+fn lengths(alloc: Global) -> Result<String, Fail> {
+    let mut out = String::new(alloc);
+    let mut endpoint = Endpoint::create(alloc, small_config(alloc, 4)?, 0)?;
+    for text in ["a", "ab", "abc", "abcd", "abcde", "abcdef"] {
+        let _index = endpoint.append(0, text.as_bytes())?;
+    }
+    let _end = endpoint.to_end();
+    endpoint.direction(Direction::Backwards);
+    for _ in 0..7 {
+        Step::NextInto(6).push_answer(alloc, &mut endpoint, &mut out)?;
+        Step::Plain(Call::Stands).push_answer(alloc, &mut endpoint, &mut out)?;
+    }
+    Ok(out)
+}
+
+#[test]
+fn messages_are_read_backwards_one_after_the_other(rt: HostRuntime) -> Result<(), Fail> {
+    assert_eq!(rt;
+        lengths(rt.alloc())?.as_str(),
+        "5 6 [abcdef](5, 6)4 5 [abcde.](4, 6)3 4 [abcd..](3, 6)2 3 [abc...](2, 6)\
+1 2 [ab....](1, 6)0 1 [a.....](0, 6)BeforeStart [......](0, 6)"
+    );
+    Ok(())
+}
