@@ -4,11 +4,12 @@ ghost use Rattle.std.specs.Prelude.{◌≡◌, None};
 ghost use Rattle.cq_words.specs.Values.{IsOf};
 
 use crate::{
-    append_beside, append_then_read, append_written, copied, drop_old, next_message, reopened,
-    sent, take_next,
+    append_beside, append_then_read, append_written, copied, drop_old, next_message, read_in,
+    reopened, sent, take_next,
 };
 use cq_append::Appender;
 use cq_cycle::Index;
+use cq_endpoint::Endpoint;
 use cq_fixtures::{DAY, message_text, small_config};
 use cq_model::Message;
 use cq_tail::Tailer;
@@ -39,6 +40,27 @@ fn a_message_is_sent_by_an_endpoint(rt: HostRuntime) -> Result<(), Fail> {
     let alloc = rt.alloc();
     let read = sent(alloc, small_config(alloc, 4)?, 0, b"hello")?;
     assert_eq!(rt; answer_text(alloc, read)?.as_str(), "0 hello");
+    Ok(())
+}
+
+/// What is read of a new queue into rooms of so many bytes, one after the other.
+fn read_in_rooms(alloc: Global, sizes: &[usize]) -> Result<String, Fail> {
+    let mut out = String::new(alloc);
+    let mut endpoint = Endpoint::create(alloc, small_config(alloc, 4)?, 0)?;
+    let _index = endpoint.append(0, b"hello")?;
+    for size in sizes {
+        let mut room = Vec::from_elem(alloc, 0u8, *size)?;
+        match read_in(&mut endpoint, room.as_mut_slice()) {
+            Some(message) => out.push_str(str::from_utf8(message)?)?,
+            None => out.push_str("none ")?,
+        }
+    }
+    Ok(out)
+}
+
+#[test]
+fn a_message_is_read_into_a_room(rt: HostRuntime) -> Result<(), Fail> {
+    assert_eq!(rt; read_in_rooms(rt.alloc(), &[4, 8])?.as_str(), "none hello");
     Ok(())
 }
 
