@@ -369,7 +369,8 @@ def traced(tried, folder, command, log):
         for line in file:
             name = line.split("(")[0]
             counts[name] += 1
-            is_there = is_there or folder in line
+            # The words of the command name the folder too.
+            is_there = is_there or folder in line and name != "execve"
             if is_there and name in CALLS:
                 found.append((name, counts[name]))
     return found
@@ -503,7 +504,10 @@ def judge_migration(tried, folder, queue, answer, what):
     """Looks at a folder behind a `migrate` that was hurt, and at what one more makes of it."""
     status, printed, said = answer
     new = queue.migrated()
-    if status not in (0, 1, -9, 137) or printed or status == 0 and (said or held_in(folder) != new.files()):
+    held = held_in(folder)
+    # Once its record stands a save is done, and the next command that writes finishes what it left.
+    is_saved = held == new.files() or "queue.save" in held
+    if status not in (0, 1, -9, 137) or printed or status == 0 and (said or not is_saved):
         tried.wrong.append(f"{what}: {status} {printed!r} {said!r}")
     if status == 1 and not re.fullmatch(rb"cq: (folder fault|file fault: [^\n]+)\n", said):
         tried.wrong.append(f"{what}: said {said!r}")

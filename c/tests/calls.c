@@ -192,6 +192,42 @@ static void endpoints_end_in_each_order(void) {
     }
 }
 
+/* What one endpoint has seen of the end, the other has once they met; both stay where they read. */
+static void endpoints_meet(void) {
+    linnetshelf_handle one = queue_of("reader", 0), two = {0}, three = {0};
+    char room[8];
+    CHECK(linnetshelf_split(&one, &two) == STATUS(DONE) && linnetshelf_split(&two, &three) == STATUS(DONE));
+    CHECK(linnetshelf_append(&one, 3 * DAY, "x", 1).index == 3ull << 32);
+    CHECK(linnetshelf_drop_before(&two, 3).status == STATUS(NOT_SEEN));
+    CHECK(linnetshelf_meet(&two, &three) == STATUS(DONE));
+    CHECK(linnetshelf_drop_before(&two, 3).status == STATUS(NOT_SEEN));
+    CHECK(linnetshelf_seek(&two, "reader", 6, 0, 3ull << 32).status == STATUS(NOT_SEEN));
+    CHECK(linnetshelf_meet(&one, &two) == STATUS(DONE));
+    CHECK(linnetshelf_cursor(&two).index == 0);
+    CHECK(linnetshelf_seek(&two, "reader", 6, 0, 3ull << 32).status == STATUS(DONE));
+    CHECK(linnetshelf_drop_before(&two, 3).index == 3);
+    CHECK(linnetshelf_drop_before(&three, 3).status == STATUS(NOT_SEEN));
+    CHECK(linnetshelf_meet(&three, &two) == STATUS(DONE));
+    CHECK(linnetshelf_drop_before(&three, 3).index == 3);
+
+    CHECK(linnetshelf_begin(&one, 0, 8) == STATUS(DONE));
+    CHECK(linnetshelf_meet(&one, &three) == STATUS(DONE));
+    CHECK(linnetshelf_put(&one, "y", 1) == STATUS(DONE));
+    CHECK(linnetshelf_complete(&one).index == (3ull << 32) + 1);
+    CHECK(is_message(linnetshelf_next(&three, room, sizeof room), 3ull << 32, room, "x"));
+
+    linnetshelf_destroy(two);
+    linnetshelf_destroy(three);
+    CHECK(linnetshelf_stop(&one) == STATUS(DONE));
+    two = queue_of("", 0);
+    CHECK(linnetshelf_meet(&one, &two) == STATUS(WRONG_KIND));
+    CHECK(linnetshelf_meet(&two, &one) == STATUS(WRONG_KIND));
+    CHECK(linnetshelf_saved_count(&one).index == 2);
+    CHECK(linnetshelf_append(&two, 0, "x", 1).index == 0);
+    linnetshelf_destroy(one);
+    linnetshelf_destroy(two);
+}
+
 /* Copies the images, positions and floor of what is saved into a new one. */
 static linnetshelf_handle copy_of(linnetshelf_handle *saved, const char *names, int positions) {
     linnetshelf_handle copy = {0};
@@ -312,6 +348,7 @@ int main(void) {
     messages_are_put_in_parts();
     names_take();
     endpoints_end_in_each_order();
+    endpoints_meet();
     a_queue_is_saved_and_opened();
     images_are_tested();
     statuses_have_texts();

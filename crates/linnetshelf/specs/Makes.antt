@@ -92,8 +92,9 @@ abbrev pub SavesNew : Settings → List ℕ → Held → Held → Status → Typ
 SavesNew s text old new how =
     ((how ≡ status.Done) × HandsOutSaved s text new) ⊎ (IsNotMade s text how × (new ≡ old))
 
--- the first endpoint of a queue that holds what is saved was handed out
+-- the first endpoint of a queue that holds what is saved was handed out, which can be opened
 pub record HandsOutOpened (saved : SavedFacts) (new : Held) : Type 0 where
+  pub can : ¬ ¬ CanOpen saved
   pub endpoint : EndpointFacts
   pub first : IsFirst saved.settings (reopened saved.contents) endpoint
   pub new_is : new ≡ held.Endpoint endpoint

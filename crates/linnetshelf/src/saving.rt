@@ -344,13 +344,20 @@ pub extern "C" fn linnetshelf_open(alloc: Global, handle: &mut Handle, out: &mut
         Tells (Opens old out.old.held out.new.held) number result × (new ≡ old)) }
 {
     let status = match handle.held_mut() {
-        Held::Saved(saved) => match saved.open(alloc) {
-            Ok(endpoint) => hand_out(alloc, Held::Endpoint(endpoint), out),
-            Err(CreateError::BadContents) => Status::BadContents,
-            Err(CreateError::OutOfMemory) => Status::OutOfMemory,
-            Err(CreateError::BadMoment) => unreachable!(),
-        },
+        Held::Saved(saved) => open(alloc, saved, out),
         Held::Endpoint(_) | Held::Stopped(_) => Status::WrongKind,
     };
     status.number()
+}
+
+/// Hands out the first endpoint of a queue that holds what is saved.
+fn open(alloc: Global, saved: &Saved, out: &mut Handle) -> Status
+    ensures { Opens saved.now out.old.held out.new.held result }
+{
+    match saved.open(alloc) {
+        Ok(endpoint) => hand_out(alloc, Held::Endpoint(endpoint), out),
+        Err(CreateError::BadContents) => Status::BadContents,
+        Err(CreateError::OutOfMemory) => Status::OutOfMemory,
+        Err(CreateError::BadMoment) => unreachable!(),
+    }
 }
