@@ -134,8 +134,8 @@ uint32_t linnetshelf_create(const linnetshelf_settings *settings, const void *na
 uint32_t linnetshelf_split(linnetshelf_handle *endpoint, linnetshelf_handle *out);
 
 /* Lets two endpoints of one queue meet: afterwards each has seen what the other had, so that one may drop cycles or move names up
- * to the end that the other was told. Both read on where they are, and a message that one has begun stays begun. Both have to be
- * of one queue, as endpoints are of which one was split off the other, and nothing tells where they are not; and they are two
+ * to the end that the other was told. Both read on where they are. A message that one has begun stays begun, and what that one saw
+ * as it appended is not brought along then. Both have to be of one queue, as endpoints are of which one was split off the other, and nothing tells where they are not; and they are two
  * handles and not the same one. */
 uint32_t linnetshelf_meet(linnetshelf_handle *endpoint, linnetshelf_handle *other);
 
