@@ -4,6 +4,7 @@ use crate::fault::BenchFault;
 use crate::growing::{Growth, print_growth};
 use crate::pings::print_pings;
 use crate::random::print_random_reads;
+use crate::reading::Reading;
 use crate::saving::{print_reopen, print_save};
 use crate::settings::Settings;
 use std::rt::Clock;
@@ -16,6 +17,8 @@ pub enum Case {
     Append,
     /// Tailers read a full cycle, each all of it.
     Read,
+    /// The same into rooms of theirs.
+    ReadInto,
     /// Appenders fill a cycle while tailers read it.
     Flow,
     /// Messages go from one to another, one at a time.
@@ -33,9 +36,10 @@ pub enum Case {
 }
 
 /// The word of each case, and what it measures.
-pub const CASES: [(&str, Case, &str); 9] = [
+pub const CASES: [(&str, Case, &str); 10] = [
     ("append", Case::Append, "1, 2 and 4 appenders fill a cycle"),
     ("read", Case::Read, "1, 2 and 4 tailers read a full cycle"),
+    ("read_into", Case::ReadInto, "the same into rooms of theirs"),
     ("flow", Case::Flow, "tailers read while appenders append"),
     ("ping", Case::Ping, "from an append to another's read of it"),
     ("read_at", Case::ReadAt, "reads by index here and there"),
@@ -49,9 +53,22 @@ const LENGTHS: [u32; 5] = [8, 64, 256, 1024, 4096];
 
 const FLOW_LENGTHS: [u32; 2] = [64, 1024];
 
-/// A crew of so many appenders and tailers.
+/// A crew of so many appenders and tailers, which read owned copies.
 const fn crew(appenders: u32, tailers: u32) -> Crew {
-    Crew { appenders, tailers }
+    Crew {
+        appenders,
+        tailers,
+        reading: Reading::Copies,
+    }
+}
+
+/// A crew of so many tailers, which read into rooms.
+const fn crew_into(tailers: u32) -> Crew {
+    Crew {
+        appenders: 0,
+        tailers,
+        reading: Reading::Into,
+    }
 }
 
 /// The case of a word, if there is one.
@@ -89,6 +106,10 @@ pub fn print_case<R: AllocGlobal + Clock + Print + Threads + Sync>(
         Case::Read => {
             let crews = [crew(0, 1), crew(0, 2), crew(0, 4)];
             print_crews(rt, settings, "read", &LENGTHS, &crews)
+        }
+        Case::ReadInto => {
+            let crews = [crew_into(1), crew_into(2), crew_into(4)];
+            print_crews(rt, settings, "read_into", &LENGTHS, &crews)
         }
         Case::Flow => {
             let crews = [crew(1, 1), crew(1, 3), crew(3, 1)];

@@ -3,6 +3,7 @@ use crate::appending::MOST_TRIES;
 use crate::fault::BenchFault;
 use crate::figures::{Figure, Label, print_line};
 use crate::queues::{SharedQueue, message_count};
+use crate::reading::{Reading, Target};
 use crate::running::{Job, time_of};
 use crate::settings::Settings;
 use cq_layout::Shape;
@@ -11,11 +12,12 @@ use std::rt::Clock;
 use std::thread::Threads;
 use std::time::Duration;
 
-/// How many of each share a queue. Where there is no appender the queue is full before.
+/// How many of each share a queue, and how the tailers read. Where there is no appender the queue is full before.
 #[derive(Clone, Copy)]
 pub struct Crew {
     pub appenders: u32,
     pub tailers: u32,
+    pub reading: Reading,
 }
 
 /// How many messages each appender appends, and how many each tailer reads.
@@ -51,7 +53,11 @@ impl Crew {
 
     /// How it is called in a line.
     fn name(self, alloc: Global) -> Result<String, AllocError> {
-        let Crew { appenders, tailers } = self;
+        let Crew {
+            appenders,
+            tailers,
+            reading: _,
+        } = self;
         if appenders == 0 {
             return format!(in alloc; "{tailers}");
         }
@@ -75,7 +81,8 @@ impl Crew {
         // Where nobody appends, a message that is not there will not come.
         let looks = if self.appenders == 0 { 1 } else { MOST_TRIES };
         for _ in 0..self.tailers {
-            jobs.push(Job::Read(shared.tailer()?, share.all, looks))?;
+            let target = Target::new(alloc, self.reading)?;
+            jobs.push(Job::Read(shared.tailer()?, target, share.all, looks))?;
         }
         Ok(jobs)
     }

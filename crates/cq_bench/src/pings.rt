@@ -3,7 +3,7 @@ use crate::appending::{MOST_TRIES, append_one};
 use crate::fault::BenchFault;
 use crate::figures::{Figure, Label, print_line};
 use crate::queues::{SharedAppender, SharedQueue, SharedTailer, message_count};
-use crate::reading::read_one;
+use crate::reading::{Target, read_one};
 use crate::running::{Gate, now};
 use crate::settings::Settings;
 use cq_layout::Shape;
@@ -59,9 +59,10 @@ fn receive<R: AllocGlobal + Clock>(
 ) -> Result<Vec<Instant>, BenchFault> {
     let SharedTailer { queue, mut tailer } = shared;
     let mut received = Vec::with_capacity(rt.alloc(), count as usize)?;
+    let mut target = Target::Copies(rt.alloc());
     read.come();
     for _ in 0..count {
-        read_one(rt.alloc(), &queue, &mut tailer, MOST_TRIES)?;
+        read_one(&mut target, &queue, &mut tailer, MOST_TRIES)?;
         let end = now(rt)?;
         read.come();
         if received.push(end).is_err() {

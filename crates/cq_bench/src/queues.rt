@@ -1,11 +1,12 @@
 //! The queues that are measured: one cycle each, and no names.
 ghost use Rattle.std.specs.Prelude.{◌≡◌, ◌+◌, ◌≤◌, IfOk, None, OnOk};
 ghost use Rattle.std.specs.Arc.{arc_value};
-ghost use Rattle.cq_bench.specs.Counts.{messages_appended};
+ghost use Rattle.cq_bench.specs.Counts.{messages_appended, messages_read};
 ghost use Rattle.cq_words.specs.Values.{IsOf};
 
 use crate::appending::{MOMENT, append_all};
 use crate::fault::BenchFault;
+use crate::reading::{Target, read_all};
 use cq_append::Appender;
 use cq_cycle::Roll;
 use cq_layout::{Shape, record_cells, store_size};
@@ -97,4 +98,18 @@ pub struct SharedTailer {
     pub queue: Arc<Queue>,
     pub tailer: Tailer,
     ghost of: { IsOf (arc_value queue) tailer.caller },
+}
+
+impl SharedTailer {
+    /// Reads so many messages. Where the next one has not come it looks again, so many times for each.
+    pub fn read_all(
+        &mut self,
+        target: &mut Target,
+        count: u32,
+        tries: u32,
+    ) -> Result<(), BenchFault>
+        ensures { OnOk result (messages_read self.old.tailer.caller + count ≤ messages_read self.new.tailer.caller) }
+    {
+        read_all(target, &self.queue, &mut self.tailer, count, tries)
+    }
 }

@@ -1,17 +1,88 @@
 //! Messages are read from a queue that others may write to.
-ghost use Rattle.std.specs.Prelude.{◌≡◌, ◌+◌, ◌≤◌, OnOk};
-ghost use Rattle.cq_bench.specs.Counts.{messages_read};
+ghost use Rattle.std.specs.Prelude.{◌≡◌, ◌+◌, ◌≤◌, IfOk, OnOk};
+ghost use Rattle.cq_bench.specs.Counts.{messages_read, of_a_look};
 ghost use Rattle.cq_words.specs.Values.{IsOf};
 
 use crate::fault::BenchFault;
-use cq_tail::{Found, Tailer};
+use cq_tail::{Found, FoundInto, Tailer};
 use cq_words::Queue;
-use std::alloc::Global;
+use std::alloc::{AllocError, Global};
 use std::hint::spin_loop;
 
-/// Reads the next message, an owned copy of it. Where none has come it looks again, so many times altogether.
+/// The bytes of a room: as many as the longest messages have that are measured.
+const ROOM: usize = 4096;
+
+/// How messages are read.
+#[derive(Clone, Copy)]
+pub enum Reading {
+    /// As owned copies.
+    Copies,
+    /// Into a room of the tailer's own.
+    Into,
+}
+
+/// What a tailer reads messages to.
+#[derive(Drop)]
+pub enum Target {
+    /// To owned copies, which take memory.
+    Copies(Global),
+    /// To this room, one after the other, which takes none.
+    Room(Vec<u8>),
+}
+
+impl Target {
+    /// A target for messages that are read so.
+    pub fn new(alloc: Global, reading: Reading) -> Result<Target, AllocError> {
+        match reading {
+            Reading::Copies => Ok(Target::Copies(alloc)),
+            Reading::Into => Ok(Target::Room(Vec::from_elem(alloc, 0, ROOM)?)),
+        }
+    }
+
+    /// Reads the next message, if it has come, and answers whether it has.
+    fn look(&mut self, queue: &Queue, tailer: &mut Tailer) -> Result<bool, BenchFault>
+        requires { IsOf queue.now tailer.old.caller }
+        ensures of { IsOf queue.now tailer.new.caller }
+        ensures read { IfOk result (λ come.
+            messages_read tailer.old.caller + of_a_look come ≤ messages_read tailer.new.caller) }
+    {
+        match self {
+            Target::Copies(alloc) => look_for_copy(*alloc, queue, tailer),
+            Target::Room(room) => look_into(queue, tailer, room.as_mut_slice()),
+        }
+    }
+}
+
+/// Reads the next message, if it has come, as an owned copy, and answers whether it has.
+fn look_for_copy(alloc: Global, queue: &Queue, tailer: &mut Tailer) -> Result<bool, BenchFault>
+    requires { IsOf queue.now tailer.old.caller }
+    ensures of { IsOf queue.now tailer.new.caller }
+    ensures read { IfOk result (λ come.
+        messages_read tailer.old.caller + of_a_look come ≤ messages_read tailer.new.caller) }
+{
+    match tailer.next(alloc, queue)? {
+        Found::Message(_index, _message) => Ok(true),
+        Found::NotYet | Found::BeforeStart => Ok(false),
+    }
+}
+
+/// Reads the next message, if it has come, into a room, and answers whether it has.
+fn look_into(queue: &Queue, tailer: &mut Tailer, room: &mut [u8]) -> Result<bool, BenchFault>
+    requires { IsOf queue.now tailer.old.caller }
+    ensures of { IsOf queue.now tailer.new.caller }
+    ensures read { IfOk result (λ come.
+        messages_read tailer.old.caller + of_a_look come ≤ messages_read tailer.new.caller) }
+{
+    match tailer.next_into(queue, room) {
+        FoundInto::Message(_index, _len) => Ok(true),
+        FoundInto::NotYet | FoundInto::BeforeStart => Ok(false),
+        FoundInto::NoRoom(_len) => Err(BenchFault::Missing),
+    }
+}
+
+/// Reads the next message. Where none has come it looks again, so many times altogether.
 pub fn read_one(
-    alloc: Global,
+    target: &mut Target,
     queue: &Queue,
     tailer: &mut Tailer,
     tries: u32,
@@ -21,17 +92,17 @@ pub fn read_one(
     ensures read { OnOk result (messages_read tailer.old.caller + 1 ≤ messages_read tailer.new.caller) }
 {
     for _ in 0..tries {
-        match tailer.next(alloc, queue)? {
-            Found::Message(_index, _message) => return Ok(()),
-            Found::NotYet | Found::BeforeStart => spin_loop(),
+        if target.look(queue, tailer)? {
+            return Ok(());
         }
+        spin_loop();
     }
     Err(BenchFault::Missing)
 }
 
 /// Reads so many messages. Where the next one has not come it looks again, so many times for each.
 pub fn read_all(
-    alloc: Global,
+    target: &mut Target,
     queue: &Queue,
     tailer: &mut Tailer,
     count: u32,
@@ -42,7 +113,7 @@ pub fn read_all(
     ensures read { OnOk result (messages_read tailer.old.caller + count ≤ messages_read tailer.new.caller) }
 {
     for _ in 0..count {
-        read_one(alloc, queue, tailer, tries)?;
+        read_one(target, queue, tailer, tries)?;
     }
     Ok(())
 }

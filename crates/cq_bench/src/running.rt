@@ -1,8 +1,7 @@
 //! Callers on threads that share a queue, and the time that they take together.
-use crate::appending::append_all;
 use crate::fault::BenchFault;
 use crate::queues::{SharedAppender, SharedTailer};
-use crate::reading::read_all;
+use crate::reading::Target;
 use std::hint::spin_loop;
 use std::rt::Clock;
 use std::sync::atomic::{AtomicU64, Ordering};
@@ -48,8 +47,8 @@ impl Gate {
 pub enum Job {
     /// Appends so many messages.
     Append(SharedAppender, u32),
-    /// Reads so many messages, with so many looks for each.
-    Read(SharedTailer, u32, u32),
+    /// Reads so many messages to a target, with so many looks for each.
+    Read(SharedTailer, Target, u32, u32),
 }
 
 /// From when to when a thread was at work.
@@ -68,7 +67,7 @@ pub fn now(clock: &impl Clock) -> Result<Instant, BenchFault> {
 }
 
 /// Does a job, once all threads have come.
-fn span_of<R: AllocGlobal + Clock>(
+fn span_of<R: Clock>(
     rt: &R,
     gate: &Gate,
     all: u64,
@@ -79,18 +78,12 @@ fn span_of<R: AllocGlobal + Clock>(
     let _ = gate.wait(all);
     let start = now(rt)?;
     match job {
-        Job::Append(
-            SharedAppender {
-                queue,
-                mut appender,
-            },
+        Job::Append(mut shared, count) => shared.append_all(bytes, count)?,
+        Job::Read(mut shared, mut target, count, looks) => shared.read_all(
+            &mut target,
             count,
-        ) => {
-            append_all(&queue, &mut appender, bytes, count)?;
-        }
-        Job::Read(SharedTailer { queue, mut tailer }, count, looks) => {
-            read_all(rt.alloc(), &queue, &mut tailer, count, looks)?;
-        }
+            looks,
+        )?,
     }
     let end = now(rt)?;
     Ok(Span { start, end })

@@ -6,7 +6,7 @@ use crate::appending::append_all;
 use crate::fault::BenchFault;
 use crate::figures::{Figure, Label, print_line};
 use crate::queues::{config_of, message_count, new_queue};
-use crate::reading::read_all;
+use crate::reading::{Target, read_all};
 use crate::running::now;
 use crate::settings::Settings;
 use cq_append::Appender;
@@ -86,7 +86,8 @@ fn reopen_time<R: AllocGlobal + Clock>(
     let contents = contents_of(rt.alloc(), messages_of(rt.alloc(), shape, image)?)?;
     let (queue, caller) = Queue::reopen(rt.alloc(), config_of(rt.alloc(), shape)?, &contents)?;
     let mut tailer = Tailer::new(caller);
-    read_all(rt.alloc(), &queue, &mut tailer, count, 1)?;
+    let mut target = Target::Copies(rt.alloc());
+    read_all(&mut target, &queue, &mut tailer, count, 1)?;
     Ok(now(rt)?.duration_since(start))
 }
 
