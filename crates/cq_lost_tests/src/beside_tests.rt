@@ -272,7 +272,30 @@ fn told_beside(alloc: Global, call: Call, steps: u32, middle: Middle) -> Result<
     Ok(out)
 }
 
-/// The same beside one that is lost before any message, where the other caller looks at the tail or meets.
+/// What a caller is answered before any message, which looks at the tail or meets, and then what it reads.
+fn push_beside_first(
+    alloc: Global,
+    queue: &Queue,
+    mut reader: Caller,
+    mut writer: Caller,
+    loss: &Loss,
+    middle: Middle,
+    out: &mut String,
+) -> Result<(), AllocError>
+    requires of { IsOf queue.now reader × IsOf queue.now writer }
+    requires idle { (reader.view.claim ≡ None) × (writer.view.claim ≡ None) }
+    requires trail { IsTrail (settings_in queue.now.plan) writer.view loss.now.trail × IsTrail (settings_in queue.now.plan) reader.view loss.now.trail }
+{
+    match middle {
+        Middle::Look => reader = push_look(alloc, queue, reader, &mut writer, loss, out)?,
+        Middle::Meet => push_meet(queue, &mut reader, &mut writer, loss, out)?,
+        Middle::Copy | Middle::Take => out.push_str("no message")?,
+    }
+    out.push_str("; ")?;
+    push_reads(alloc, queue, reader, out)
+}
+
+/// The same beside one that is lost before any message.
 fn told_beside_first(
     alloc: Global,
     call: Call,
@@ -283,22 +306,9 @@ fn told_beside_first(
     let (queue, mut writer) = new_queue(alloc, MEASURES)?;
     let other = queue.split(&mut writer);
     if let Some(trail) = append_first(&queue, &mut writer, 0) {
-        let mut reader = queue.split(&mut writer);
+        let reader = queue.split(&mut writer);
         let loss = Loss { call, steps, trail };
-        match middle {
-            Middle::Look => reader = push_look(
-                alloc,
-                &queue,
-                reader,
-                &mut writer,
-                &loss,
-                &mut out,
-            )?,
-            Middle::Meet => push_meet(&queue, &mut reader, &mut writer, &loss, &mut out)?,
-            Middle::Copy | Middle::Take => out.push_str("no message")?,
-        }
-        out.push_str("; ")?;
-        push_reads(alloc, &queue, reader, &mut out)?;
+        push_beside_first(alloc, &queue, reader, writer, &loss, middle, &mut out)?;
     }
     out.push_str("; ")?;
     out.push_str(left_text(alloc, MEASURES, &queue.stop(other))?.as_str())?;
