@@ -130,6 +130,18 @@ fn push_copy(
     write!(out, "cell {cell:08x}, floor {floor}")
 }
 
+/// What a read at an index answers.
+fn push_at(found: At, out: &mut String) -> Result<(), AllocError> {
+    match found {
+        At::Message(message) => {
+            out.push_str(str::from_utf8(message.as_slice()).unwrap_or("no text"))
+        }
+        At::NotYet => out.push_str("NotYet"),
+        At::Never => out.push_str("Never"),
+        At::Gone => out.push_str("Gone"),
+    }
+}
+
 /// A caller reads the message behind the last one that it has seen.
 fn push_look(
     alloc: Global,
@@ -151,14 +163,8 @@ fn push_look(
     write!(out, "header {header}, ")?;
     let index = Index::new(loss.trail.cycle, loss.trail.walker.sequence());
     let mut tailer = Tailer::new(reader);
-    match tailer.read_at(alloc, queue, index)? {
-        At::Message(message) => out.push_str(str::from_utf8(message.as_slice()).unwrap_or(
-            "no text",
-        ))?,
-        At::NotYet => out.push_str("NotYet")?,
-        At::Never => out.push_str("Never")?,
-        At::Gone => out.push_str("Gone")?,
-    }
+    let found = tailer.read_at(alloc, queue, index)?;
+    push_at(found, out)?;
     Ok(tailer.into_caller())
 }
 
