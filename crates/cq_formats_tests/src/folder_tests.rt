@@ -1,4 +1,5 @@
 //! Folders and their files.
+use crate::noted_folder::NotedFolder;
 use crate::wanted::{expect, expect_text};
 use cq_folder::{Access, FailingFolder, Folder, FolderFault, MemoryFolder, NewFile, RealFolder};
 use std::alloc::{AllocError, Global};
@@ -92,13 +93,13 @@ fn changes(alloc: Global, files: &[(&str, &[u8])]) -> Result<Vec<NewFile>, Alloc
 /// What coming in, the list, a write, a read and a save of a folder answer, and how many calls failed, as text.
 fn calls_text<F: Folder>(alloc: Global, folder: &mut F) -> Result<String, AllocError> {
     let begun = folder.begin(alloc, Access::Alone);
-    let names = folder.names(alloc).is_ok();
+    let names = folder.names(alloc).map(|_names| ());
     let write = folder.write("a", b"new".as_slice());
     let read = read_text(alloc, folder, "b", 0)?;
     let saved = folder.save(changes(alloc, &[("b", b"1"), ("c", b"2")])?.as_slice());
     folder.end();
     let failures = folder.failures();
-    format!(in alloc; "{begun:?}, {names}, {write:?}, {read}, {saved:?}, {failures} failed")
+    format!(in alloc; "{begun:?}, {names:?}, {write:?}, {read}, {saved:?}, {failures} failed")
 }
 
 /// What the files `a`, `b` and `c` hold, as text.
@@ -112,49 +113,52 @@ fn three_text<F: Folder>(alloc: Global, folder: &mut F) -> Result<String, AllocE
 /// Fails where the calls of a folder answer otherwise than wanted, or its files hold something else then.
 fn expect_failing(
     alloc: Global,
-    mut folder: FailingFolder<MemoryFolder>,
+    mut folder: FailingFolder<NotedFolder>,
     calls: &str,
     held: &str,
 ) -> Result<(), Fail> {
-    expect_text(calls_text(alloc, &mut folder)?, calls)?;
-    expect_text(three_text(alloc, &mut folder.into_inner())?, held)
+    let answers = calls_text(alloc, &mut folder)?;
+    let mut within = folder.into_inner();
+    within.written?;
+    expect_text(answers, calls)?;
+    expect_text(three_text(alloc, &mut within)?, held)
 }
 
 /// The number of the call that fails and does nothing, beside what `calls_text` says, and what the files hold then.
 static FAILURES: [(u64, &str, &str); 7] = [
     (
         0,
-        "Ok(()), true, Ok(()), [], Ok(()), 0 failed",
+        "Ok(()), Ok(()), Ok(()), [], Ok(()), 0 failed",
         "[110, 101, 119] [49] [50]",
     ),
     (
         1,
-        "Err(Device), true, Ok(()), [], Ok(()), 1 failed",
+        "Err(Device), Ok(()), Ok(()), [], Ok(()), 1 failed",
         "[110, 101, 119] [49] [50]",
     ),
     (
         2,
-        "Ok(()), false, Ok(()), [], Ok(()), 1 failed",
+        "Ok(()), Err(Device), Ok(()), [], Ok(()), 1 failed",
         "[110, 101, 119] [49] [50]",
     ),
     (
         3,
-        "Ok(()), true, Err(Device), [], Ok(()), 1 failed",
+        "Ok(()), Ok(()), Err(Device), [], Ok(()), 1 failed",
         "[97, 98, 99] [49] [50]",
     ),
     (
         4,
-        "Ok(()), true, Ok(()), Device, Ok(()), 1 failed",
+        "Ok(()), Ok(()), Ok(()), Device, Ok(()), 1 failed",
         "[110, 101, 119] [49] [50]",
     ),
     (
         5,
-        "Ok(()), true, Ok(()), [], Err(Device), 1 failed",
+        "Ok(()), Ok(()), Ok(()), [], Err(Device), 1 failed",
         "[110, 101, 119] [] Device",
     ),
     (
         6,
-        "Ok(()), true, Ok(()), [], Ok(()), 0 failed",
+        "Ok(()), Ok(()), Ok(()), [], Ok(()), 0 failed",
         "[110, 101, 119] [49] [50]",
     ),
 ];
@@ -162,7 +166,7 @@ static FAILURES: [(u64, &str, &str); 7] = [
 #[test]
 fn each_call_can_fail_once(rt: HostRuntime) -> Result<(), Fail> {
     for &(number, calls, held) in &FAILURES {
-        let folder = FailingFolder::new(two_files(rt.alloc())?, number);
+        let folder = FailingFolder::new(NotedFolder::new(two_files(rt.alloc())?), number);
         expect_failing(rt.alloc(), folder, calls, held)?;
     }
     Ok(())
@@ -172,12 +176,12 @@ fn each_call_can_fail_once(rt: HostRuntime) -> Result<(), Fail> {
 static DONE: [(u64, &str, &str); 2] = [
     (
         3,
-        "Ok(()), true, Err(Device), [], Ok(()), 1 failed",
+        "Ok(()), Ok(()), Err(Device), [], Ok(()), 1 failed",
         "[110, 101, 119] [49] [50]",
     ),
     (
         5,
-        "Ok(()), true, Ok(()), [], Err(Device), 1 failed",
+        "Ok(()), Ok(()), Ok(()), [], Err(Device), 1 failed",
         "[110, 101, 119] [49] [50]",
     ),
 ];
@@ -185,7 +189,7 @@ static DONE: [(u64, &str, &str); 2] = [
 #[test]
 fn a_call_that_fails_can_be_done(rt: HostRuntime) -> Result<(), Fail> {
     for &(number, calls, held) in &DONE {
-        let folder = FailingFolder::written(two_files(rt.alloc())?, number);
+        let folder = FailingFolder::written(NotedFolder::new(two_files(rt.alloc())?), number);
         expect_failing(rt.alloc(), folder, calls, held)?;
     }
     Ok(())
@@ -196,7 +200,7 @@ fn a_missing_folder_is_a_device_fault(rt: HostRuntime) -> Result<(), Fail> {
     let text = real_calls_text(&rt, "/no/such/folder")?;
     expect_text(
         text,
-        "Err(Device), false, Err(Device), Device, Err(Device), 5 failed",
+        "Err(Device), Err(Device), Err(Device), Device, Err(Device), 5 failed",
     )
 }
 

@@ -21,6 +21,8 @@ mod layout_tests;
 #[cfg(test)]
 mod model_tests;
 #[cfg(test)]
+mod noted_folder;
+#[cfg(test)]
 mod plain_cycle_tests;
 #[cfg(test)]
 mod real_folder_tests;
