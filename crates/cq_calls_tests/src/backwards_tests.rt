@@ -65,8 +65,8 @@ fn append_all(queue: &Queue, appender: &mut Appender) -> bool
 }
 
 /// The message that was found, if one was.
-fn message_in(found: &Result<Found, AllocError>) -> Option<ReadMessage> {
-    let Ok(Found::Message(index, message)) = found else {
+fn message_in(found: &Found) -> Option<ReadMessage> {
+    let Found::Message(index, message) = found else {
         return None;
     };
     match message.as_slice() {
@@ -79,11 +79,15 @@ fn message_in(found: &Result<Found, AllocError>) -> Option<ReadMessage> {
 }
 
 /// The next message that is read.
-fn read(alloc: Global, queue: &Queue, tailer: &mut Tailer) -> Option<ReadMessage>
+fn read(
+    alloc: Global,
+    queue: &Queue,
+    tailer: &mut Tailer,
+) -> Result<Option<ReadMessage>, AllocError>
     requires { IsOf queue.now tailer.old.caller }
     ensures { IsOf queue.now tailer.new.caller }
 {
-    message_in(&tailer.next(alloc, queue))
+    Ok(message_in(&tailer.next(alloc, queue)?))
 }
 
 /// All messages from the start on.
@@ -97,7 +101,7 @@ fn read_all(
 {
     let mut all = Vec::new(alloc);
     for _ in 0..4 * EACH {
-        match read(alloc, queue, tailer) {
+        match read(alloc, queue, tailer)? {
             Some(message) => all.push(message)?,
             None => return Ok(all),
         }
@@ -106,15 +110,20 @@ fn read_all(
 }
 
 /// Whether the tailer, which has read this message backwards, reads it again forwards and then backwards.
-fn turns(alloc: Global, queue: &Queue, tailer: &mut Tailer, last: ReadMessage) -> bool
+fn turns(
+    alloc: Global,
+    queue: &Queue,
+    tailer: &mut Tailer,
+    last: ReadMessage,
+) -> Result<bool, AllocError>
     requires { IsOf queue.now tailer.old.caller }
     ensures { IsOf queue.now tailer.new.caller }
 {
     tailer.direction(Direction::Forwards);
-    let forwards = read(alloc, queue, tailer);
+    let forwards = read(alloc, queue, tailer)?;
     tailer.direction(Direction::Backwards);
-    let backwards = read(alloc, queue, tailer);
-    forwards == Some(last) && backwards == Some(last)
+    let backwards = read(alloc, queue, tailer)?;
+    Ok(forwards == Some(last) && backwards == Some(last))
 }
 
 /// Behind each 50th message that was read backwards, reads it again and appends another. Answers whether all is well.
@@ -125,19 +134,19 @@ fn is_well_between(
     tailer: &mut Tailer,
     count: u32,
     last: ReadMessage,
-) -> bool
+) -> Result<bool, AllocError>
     requires writer { IsOf queue.now appender.old }
     requires reader { IsOf queue.now tailer.old.caller }
     ensures writer { IsOf queue.now appender.new }
     ensures reader { IsOf queue.now tailer.new.caller }
 {
     if count % BETWEEN != 0 {
-        return true;
+        return Ok(true);
     }
-    if !turns(alloc, queue, tailer, last) {
-        return false;
+    if !turns(alloc, queue, tailer, last)? {
+        return Ok(false);
     }
-    append(queue, appender, 6 * DAY, count)
+    Ok(append(queue, appender, 6 * DAY, count))
 }
 
 /// How many messages the tailer reads backwards that are those that were read, from the last one down.
@@ -147,7 +156,7 @@ fn count_back(
     appender: &mut Appender,
     tailer: &mut Tailer,
     mut all: Vec<ReadMessage>,
-) -> u32
+) -> Result<u32, AllocError>
     requires writer { IsOf queue.now appender.old }
     requires reader { IsOf queue.now tailer.old.caller }
     ensures { IsOf queue.now tailer.new.caller }
@@ -155,16 +164,16 @@ fn count_back(
     tailer.direction(Direction::Backwards);
     for count in 0..4 * EACH {
         let Some(last) = all.pop() else {
-            return count;
+            return Ok(count);
         };
-        if read(alloc, queue, tailer) != Some(last) {
-            return count;
+        if read(alloc, queue, tailer)? != Some(last) {
+            return Ok(count);
         }
-        if !is_well_between(alloc, queue, appender, tailer, count, last) {
-            return count;
+        if !is_well_between(alloc, queue, appender, tailer, count, last)? {
+            return Ok(count);
         }
     }
-    0
+    Ok(0)
 }
 
 /// How many messages are read forwards and how many of them backwards, and what comes before them.
@@ -177,7 +186,7 @@ fn back_text(alloc: Global, queue: &Queue, mut caller: Caller) -> Result<String,
     let mut tailer = Tailer::new(caller);
     let all = read_all(alloc, queue, &mut tailer)?;
     let forwards = all.len();
-    let backwards = count_back(alloc, queue, &mut appender, &mut tailer, all);
+    let backwards = count_back(alloc, queue, &mut appender, &mut tailer, all)?;
     let before = tailer.next(alloc, queue)?;
     Ok(format!(in alloc; "{appended} {forwards} {backwards} {before:?}")?)
 }

@@ -12,7 +12,7 @@ use std::alloc::{AllocError, Global};
 use std::sync::Wait;
 use std::sync::atomic::{AtomicU64, Ordering};
 use std::test::Fail;
-use std::thread::{Threads, join, yield_now};
+use std::thread::{Threads, join, scope, scope_env, yield_now};
 
 /// How often a thread looks for what another one does, before it gives up.
 const TURNS: u32 = 10_000_000;
@@ -74,90 +74,96 @@ fn write_hello(queue: &Queue, appender: Appender, stage: &AtomicU64) -> Option<u
 }
 
 /// Whether no message is there.
-fn reads_nothing(alloc: Global, queue: &Queue, tailer: &mut Tailer) -> bool
+fn reads_nothing(alloc: Global, queue: &Queue, tailer: &mut Tailer) -> Result<bool, AllocError>
     requires { IsOf queue.now tailer.old.caller }
     ensures { IsOf queue.now tailer.new.caller }
 {
-    matches!(tailer.next(alloc, queue), Ok(Found::NotYet))
+    Ok(matches!(tailer.next(alloc, queue)?, Found::NotYet))
 }
 
 /// The index of "hello", where that was read.
-fn index_of_hello(found: &Result<Found, AllocError>) -> Option<u64> {
+fn index_of_hello(found: &Found) -> Option<u64> {
     match found {
-        Ok(Found::Message(index, message)) => {
+        Found::Message(index, message) => {
             if message.as_slice() == b"hello".as_slice() {
                 return Some(index.value());
             }
             None
         }
-        Ok(_) | Err(_) => None,
+        _ => None,
     }
 }
 
 /// The index of "hello", where that is read.
-fn read_hello(alloc: Global, queue: &Queue, tailer: &mut Tailer) -> Option<u64>
+fn read_hello(alloc: Global, queue: &Queue, tailer: &mut Tailer) -> Result<Option<u64>, AllocError>
     requires { IsOf queue.now tailer.old.caller }
 {
-    index_of_hello(&tailer.next(alloc, queue))
+    Ok(index_of_hello(&tailer.next(alloc, queue)?))
 }
 
-/// Whether no message is there while "hello" is begun, and the index of "hello" once it was completed.
-fn read_beside(
-    alloc: Global,
-    queue: &Queue,
-    mut tailer: Tailer,
-    stage: &AtomicU64,
-) -> (bool, Option<u64>)
+/// Whether no message was there while "hello" was begun, and the index of "hello" once it was completed.
+type Beside = Result<(bool, Option<u64>), AllocError>;
+
+/// What a reader beside "hello" finds.
+fn read_beside(alloc: Global, queue: &Queue, mut tailer: Tailer, stage: &AtomicU64) -> Beside
     requires { IsOf queue.now tailer.caller }
 {
     if !has_come(stage, BEGUN) {
-        return (false, None);
+        return Ok((false, None));
     }
-    let is_nothing = reads_nothing(alloc, queue, &mut tailer);
+    // The writer goes on also where there was no memory.
+    let looked = reads_nothing(alloc, queue, &mut tailer);
     stage.store(SEEN, Ordering::SeqCst);
+    let is_nothing = looked?;
     if !has_come(stage, COMPLETED) {
-        return (is_nothing, None);
+        return Ok((is_nothing, None));
     }
-    (is_nothing, read_hello(alloc, queue, &mut tailer))
+    Ok((is_nothing, read_hello(alloc, queue, &mut tailer)?))
 }
 
-/// What the writer of "hello" and a reader beside it answer.
-fn beside_claim<R: Threads + Sync>(
+/// What the writer of "hello" and a reader beside it answer. Answers `AllocError` where no thread could be made.
+fn beside_claim<R: Threads + Wait + Sync>(
     rt: &R,
     alloc: Global,
     queue: &Queue,
     appender: Appender,
     tailer: Tailer,
     stage: &AtomicU64,
-) -> (Option<u64>, (bool, Option<u64>))
+) -> Result<(Option<u64>, Beside), AllocError>
     requires appender { IsOf queue.now appender }
     requires tailer { IsOf queue.now tailer.caller }
 {
-    join(
+    scope(
+        scope_env(),
         rt,
-        move || -> Option<u64>
-            requires { IsOf queue.now appender }
-        { write_hello(queue, appender, stage) },
-        move || -> (bool, Option<u64>)
-            requires { IsOf queue.now tailer.caller }
-        { read_beside(alloc, queue, tailer, stage) },
+        move |scope| -> Result<(Option<u64>, Beside), AllocError>
+            requires { IsOf queue.now appender × IsOf queue.now tailer.caller }
+        {
+            let reader = scope.spawn(
+                move || -> Beside
+                    requires { IsOf queue.now tailer.caller }
+                { read_beside(alloc, queue, tailer, stage) },
+            )?;
+            let written = write_hello(queue, appender, stage);
+            Ok((written, reader.join(rt)))
+        },
     )
 }
 
 /// The same of a new queue, as text.
-fn beside_claim_text<R: Threads + Sync>(rt: &R, alloc: Global) -> Result<String, Fail> {
+fn beside_claim_text<R: Threads + Wait + Sync>(rt: &R, alloc: Global) -> Result<String, Fail> {
     let (queue, mut caller) = Queue::create(alloc, small_config(alloc, 1)?, 0)?;
     let appender = Appender::new(queue.split(&mut caller));
     let tailer = Tailer::new(queue.split(&mut caller));
     let stage = AtomicU64::new(0);
-    let answers = beside_claim(rt, alloc, &queue, appender, tailer, &stage);
+    let answers = beside_claim(rt, alloc, &queue, appender, tailer, &stage)?;
     Ok(format!(in alloc; "{answers:?}")?)
 }
 
 #[test]
 fn reader_beside_claim(rt: HostRuntime) -> Result<(), Fail> {
     let text = beside_claim_text(&rt, rt.alloc())?;
-    assert_eq!(rt; text.as_str(), "(Some(0), (true, Some(0)))");
+    assert_eq!(rt; text.as_str(), "(Some(0), Ok((true, Some(0))))");
     Ok(())
 }
 

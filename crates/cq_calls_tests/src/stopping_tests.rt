@@ -106,8 +106,11 @@ fn a_stopped_queue_keeps_what_it_was_opened_with(rt: HostRuntime) -> Result<(), 
 
 /// Whether no queue is opened again with no cycle.
 fn is_refused_without_cycles(alloc: Global) -> Result<bool, Fail> {
-    let made = Start::Held(&[], &[0]).queue(alloc, small_config(alloc, 4)?);
-    Ok(matches!(made, Err(CreateError::BadContents)))
+    match Start::Held(&[], &[0]).queue(alloc, small_config(alloc, 4)?) {
+        Ok(_fixture) => Ok(false),
+        Err(CreateError::BadContents) => Ok(true),
+        Err(error) => Err(error.into()),
+    }
 }
 
 #[test]
