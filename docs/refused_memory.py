@@ -7,11 +7,12 @@ give the answer that it gives with all memory, and leave the folder so, where it
 without a thread; and that within a minute. The folder is compared behind a `take` of a name that is none: as any command that is
 alone there, it finishes a save whose record stands.
 
-With the word tests, the tests of the crates are run so, one at a time in an empty folder, as `rt test` left them in
-crates/CRATE/out/CRATE_tests. Each test has to pass with all memory; with a growth refused it has to say want of memory, by the
+With the word tests, the tests of the crates are run so, one at a time in an empty folder for their files, as `rt test` left them
+in crates/CRATE/out/CRATE_tests. Each test has to pass with all memory; with a growth refused it has to say want of memory, by the
 name that the refused call gives it, or to pass, within a minute. Where it compares the answers of its calls with those that are
-wanted, the first other one has to say so: no answer before it changed, and none came in its place. A test that says anything
-else, hangs or dies of another signal is wrong. Left out are the tests of THREADS and SILENT below.
+wanted, the first other one has to say so: no answer before it changed, and none came in its place. A test of folders of the
+system says so too where a save that found no memory leaves renames to the next command, which does them. A test that says
+anything else, hangs or dies of another signal is wrong. Left out are the tests of THREADS below.
 
 A library in front of the C library's malloc, calloc, realloc and aligned_alloc refuses; it is compiled by cc. CQ names the
 program; where it is not set, it is crates/cq/out/cq, which the launcher ./cq builds. The status is 0 where all is as said.
@@ -113,22 +114,6 @@ WANT = b"cq: want of memory\n"
 # Threads of these ask for memory as their schedule has it, and say of a call without memory that it gave no message.
 THREADS = ["growing_tests", "many_tests", "parts_tests", "sharing_tests", "thread_tests"]
 
-# These count what they read, say whether something is so, or `fault` of all that a folder of the system may answer, and so do not
-# tell that a call found no memory. The last is all tests of that name.
-SILENT = [
-    "backwards_tests::what_is_read_forwards_is_read_backwards",
-    "claim_tests::reader_beside_claim",
-    "cycle_tests::a_queue_of_64_cycles_is_filled_and_read",
-    "folder_tests::a_call_that_fails_can_be_done",
-    "folder_tests::a_missing_folder_is_a_device_fault",
-    "folder_tests::each_call_can_fail_once",
-    "image_tests::every_beginning_is_read",
-    "image_tests::every_flipped_bit_is_read",
-    "image_tests::the_worked_image_gives_back_its_message",
-    "stopping_tests::a_queue_without_cycles_is_refused",
-    "real_folder_tests",
-]
-
 # How a test ends that failed, or whose comparison did, and how its text names want of memory.
 FAILED, STOPPED = 101, -6
 WANTS = re.compile(rb"\b(AllocError|AllocFailed|OutOfMemory|want of memory)\b")
@@ -210,7 +195,7 @@ def is_refused(said):
 
 def run_test(program, test, folder, more=None):
     """How a test ends in a folder, "passed", "want" or "wrong", and what it said."""
-    environment = dict(os.environ, **(more or {}))
+    environment = dict(os.environ, TMPDIR=folder, **(more or {}))
     try:
         done = subprocess.run([program, test], cwd=folder, capture_output=True, env=environment, timeout=60, check=False)
     except subprocess.TimeoutExpired:
@@ -249,10 +234,7 @@ def try_tests(crates, shim, room):
     for crate in crates:
         program = os.path.join(HERE, "crates", crate, "out", f"{crate}_tests")
         listed = subprocess.run([program, "--list"], capture_output=True, text=True, check=True).stdout
-        tests = [
-            test for test in re.findall(r"^(\S+): test$", listed, re.M)
-            if test.split("::")[0] not in THREADS and not {test, test.split("::")[0]} & set(SILENT)
-        ]
+        tests = [test for test in re.findall(r"^(\S+): test$", listed, re.M) if test.split("::")[0] not in THREADS]
         every, every_wrong = collections.Counter(), []
         for test in tests:
             ends, wrong = try_test(program, shim, room, test)
