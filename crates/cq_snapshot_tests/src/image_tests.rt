@@ -70,17 +70,23 @@ fn begun(queue: &Queue, appender: Appender) -> Result<Writing, Fail>
     }
 }
 
-/// The images of a snapshot behind "a" in cycle 0 and "b" in cycle 5, while another message is begun.
+/// Appends "a" in cycle 0 and "b" in cycle 5, and begins another message.
+fn begun_behind(queue: &Queue, mut appender: Appender) -> Result<Writing, Fail>
+    requires { IsOf queue.now appender }
+    ensures { IfOk result (λ writing. IsOf queue.now writing.caller) }
+{
+    let _first = appender.append(queue, 0, b"a")?;
+    let _second = appender.append(queue, 5 * DAY, b"b")?;
+    begun(queue, appender)
+}
+
+/// The images of a snapshot behind these messages, while another one is begun.
 fn beside_claim_text(alloc: Global) -> Result<String, Fail> {
     let config = small_config(alloc, 4)?;
     let shape = config.shape();
     let (queue, mut caller) = Queue::create(alloc, config, 0)?;
-    let mut appender = Appender::new(queue.split(&mut caller));
-    let mut tailer = Tailer::new(caller);
-    let _first = appender.append(&queue, 0, b"a")?;
-    let _second = appender.append(&queue, 5 * DAY, b"b")?;
-    let _writing = begun(&queue, appender)?;
-    let lists = tailer.snapshot(alloc, &queue)?;
+    let _writing = begun_behind(&queue, Appender::new(queue.split(&mut caller)))?;
+    let lists = Tailer::new(caller).snapshot(alloc, &queue)?;
     images_text(alloc, shape, lists.as_slice())
 }
 
@@ -118,21 +124,43 @@ fn complete(queue: &Queue, mut writing: Writing) -> Result<(), Fail>
     }
 }
 
-/// What snapshots give behind "a" in cycle 0 and "b" in cycle 5, while another message is begun, and once that was completed.
+/// Puts what a snapshot gives behind a text.
+fn push_taken(
+    alloc: Global,
+    queue: &Queue,
+    tailer: &mut Tailer,
+    out: &mut String,
+) -> Result<(), Fail>
+    requires { IsOf queue.now tailer.old.caller }
+    ensures { IsOf queue.now tailer.new.caller }
+{
+    let lists = taken(alloc, queue, tailer)?;
+    Ok(out.push_str(lists_text(alloc, lists.as_slice())?.as_str())?)
+}
+
+/// What snapshots give while a message is begun, and once it was completed.
+fn around_text(
+    alloc: Global,
+    queue: &Queue,
+    writing: Writing,
+    mut tailer: Tailer,
+) -> Result<String, Fail>
+    requires writing { IsOf queue.now writing.caller }
+    requires tailer { IsOf queue.now tailer.caller }
+{
+    let mut text = String::new(alloc);
+    push_taken(alloc, queue, &mut tailer, &mut text)?;
+    text.push_str("; ")?;
+    complete(queue, writing)?;
+    push_taken(alloc, queue, &mut tailer, &mut text)?;
+    Ok(text)
+}
+
+/// The same behind "a" in cycle 0 and "b" in cycle 5.
 fn around_completion_text(alloc: Global) -> Result<String, Fail> {
     let (queue, mut caller) = Queue::create(alloc, small_config(alloc, 4)?, 0)?;
-    let mut appender = Appender::new(queue.split(&mut caller));
-    let mut tailer = Tailer::new(caller);
-    let _first = appender.append(&queue, 0, b"a")?;
-    let _second = appender.append(&queue, 5 * DAY, b"b")?;
-    let writing = begun(&queue, appender)?;
-    let beside = taken(alloc, &queue, &mut tailer)?;
-    complete(&queue, writing)?;
-    let behind = taken(alloc, &queue, &mut tailer)?;
-    let mut text = lists_text(alloc, beside.as_slice())?;
-    text.push_str("; ")?;
-    text.push_str(lists_text(alloc, behind.as_slice())?.as_str())?;
-    Ok(text)
+    let writing = begun_behind(&queue, Appender::new(queue.split(&mut caller)))?;
+    around_text(alloc, &queue, writing, Tailer::new(caller))
 }
 
 /// A snapshot that memory was refused to leaves all as it was: the next one gives the same, and the message is completed.
