@@ -40,6 +40,7 @@ impl Target {
     }
 
     /// Reads the next message, if it has come, and answers whether it has.
+    #[inline(always)]
     fn look(&mut self, queue: &Queue, tailer: &mut Tailer) -> Result<bool, BenchFault>
         requires { IsOf queue.now tailer.old.caller }
         ensures of { IsOf queue.now tailer.new.caller }
@@ -53,9 +54,8 @@ impl Target {
     }
 }
 
-/// Reads the next message, if it has come, as an owned copy, and answers whether it has. It stands apart from reads into rooms, so
-/// that neither is measured in the frame of both.
-#[inline(never)]
+/// Reads the next message, if it has come, as an owned copy, and answers whether it has.
+#[inline(always)]
 fn look_for_copy(alloc: Global, queue: &Queue, tailer: &mut Tailer) -> Result<bool, BenchFault>
     requires { IsOf queue.now tailer.old.caller }
     ensures of { IsOf queue.now tailer.new.caller }
@@ -68,7 +68,8 @@ fn look_for_copy(alloc: Global, queue: &Queue, tailer: &mut Tailer) -> Result<bo
     }
 }
 
-/// Reads the next message, if it has come, into a room, and answers whether it has.
+/// Reads the next message, if it has come, into a room, and answers whether it has. It stands apart from reads of owned copies, which
+/// would pay for a frame of both.
 #[inline(never)]
 fn look_into(queue: &Queue, tailer: &mut Tailer, room: &mut [u8]) -> Result<bool, BenchFault>
     requires { IsOf queue.now tailer.old.caller }
