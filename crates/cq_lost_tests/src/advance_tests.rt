@@ -1,23 +1,14 @@
 //! Appenders that are lost between any two steps as a cycle begins.
-use crate::queues::{Measures, advance_lost, append_first, left_text, new_queue};
+use crate::queues::{Call, Lost, assert_none, push_missed_lost};
 use cq_fixtures::DAY;
-use std::alloc::Global;
 use std::test::Fail;
 
-const MEASURES: Measures = (64, 8, 1);
-
-/// What is left of a queue whose appender was lost after so many steps on its way to cycle 5, as one stops it that has made
-/// none since it was split off, and the header that the last step found.
-fn left_of(alloc: Global, steps: u32) -> Result<(Option<u32>, String), Fail> {
-    let (queue, mut writer) = new_queue(alloc, MEASURES)?;
-    let other = queue.split(&mut writer);
-    let found = match append_first(&queue, &mut writer, 0) {
-        Some(trail) => advance_lost(&queue, &mut writer, &trail, 5 * DAY, steps),
-        None => None,
-    };
-    let left = left_text(alloc, MEASURES, &queue.stop(other))?;
-    Ok((found, left))
-}
+/// An appender begins cycle 5 in a queue without messages.
+static ADVANCE: Lost<'static> = Lost {
+    measures: (64, 8, 1),
+    count: 0,
+    call: Call::Advance(5 * DAY),
+};
 
 /// For each number of steps what the last one finds, and what is left.
 static ADVANCES: [(Option<u32>, &str); 5] = [
@@ -34,10 +25,10 @@ static ADVANCES: [(Option<u32>, &str); 5] = [
 
 #[test]
 fn an_appender_that_begins_a_cycle_is_lost(rt: HostRuntime) -> Result<(), Fail> {
-    for (steps, &(found, want)) in ADVANCES.iter().enumerate() {
-        let (last, left) = left_of(rt.alloc(), steps as u32)?;
-        assert_eq!(rt; left.as_str(), want, "after {steps} steps");
-        assert_eq!(rt; last, found, "after {steps} steps");
+    let mut missed = String::new(rt.alloc());
+    for (steps, wanted) in ADVANCES.iter().enumerate() {
+        push_missed_lost(rt.alloc(), &ADVANCE, steps as u32, *wanted, &mut missed)?;
     }
+    assert_none(&rt, missed.as_str());
     Ok(())
 }

@@ -1,10 +1,10 @@
 //! Appenders that are lost between any two steps of an append.
 use crate::queues::{
-    Measures, append_first, append_lost, left_text, new_queue, shape_of, steps_to_stand,
+    Call, Lost, Measures, assert_none, push_missed_lost, shape_of, steps_to_stand,
 };
 use cq_chain::message_length;
 use cq_layout::store_size;
-use std::alloc::Global;
+use std::alloc::{AllocError, Global};
 use std::process::Abort;
 use std::test::Fail;
 
@@ -23,35 +23,46 @@ struct Append<'a> {
     behind: &'a str,
 }
 
-/// What is left of a queue whose appender was lost after so many steps, as one stops it that has made none since it was
-/// split off, and whether all steps were made.
-fn left_of(alloc: Global, append: &Append<'_>, steps: u32) -> Result<(bool, String), Fail> {
-    let (queue, mut writer) = new_queue(alloc, append.measures)?;
-    let other = queue.split(&mut writer);
-    let is_done = match append_first(&queue, &mut writer, append.count) {
-        Some(trail) => append_lost(&queue, &mut writer, &trail, append.text, steps),
-        None => false,
-    };
-    let left = left_text(alloc, append.measures, &queue.stop(other))?;
-    Ok((is_done, left))
+impl Append<'_> {
+    /// What is to be answered and left after so many steps. The message stands after `stands` of them, behind which two fill in
+    /// entries of the index, and one raises the write position.
+    fn wanted(&self, stands: u32, steps: u32) -> (Option<u32>, &str) {
+        if steps < stands {
+            return (None, self.before);
+        }
+        match steps - stands {
+            3 => (Some(0), self.behind),
+            _ => (None, self.behind),
+        }
+    }
 }
 
-/// Loses the caller after each number of steps, and compares what is left. Behind the step with which the message stands, two
-/// fill in entries of the index, and one raises the write position.
-fn assert_append(rt: &impl Abort, alloc: Global, append: &Append<'_>) -> Result<(), Fail> {
+/// What is answered or left otherwise than wanted, where the caller is lost after each number of steps.
+fn missed_of(alloc: Global, append: &Append<'_>) -> Result<String, Fail> {
+    let mut missed = String::new(alloc);
     let shape = shape_of(alloc, append.measures)?;
     let len = message_length(append.text.as_bytes())?;
     let stands = steps_to_stand(shape, append.count, len);
+    let lost = Lost {
+        measures: append.measures,
+        count: append.count,
+        call: Call::Append(append.text),
+    };
     for steps in 0..stands + 4 {
-        let (is_done, left) = left_of(alloc, append, steps)?;
-        let want = if steps < stands {
-            append.before
-        } else {
-            append.behind
-        };
-        assert_eq!(rt; left.as_str(), want, "after {steps} steps");
-        assert_eq!(rt; is_done, steps == stands + 3, "after {steps} steps");
+        push_missed_lost(
+            alloc,
+            &lost,
+            steps,
+            append.wanted(stands, steps),
+            &mut missed,
+        )?;
     }
+    Ok(missed)
+}
+
+/// Loses the caller after each number of steps, and compares what is told.
+fn assert_append(rt: &impl Abort, alloc: Global, append: &Append<'_>) -> Result<(), Fail> {
+    assert_none(rt, missed_of(alloc, append)?.as_str());
     Ok(())
 }
 
@@ -103,26 +114,41 @@ static FILLED: [(u32, u32, &str); 2] = [
     (8, 19, "0[a;a;a;a;a;a;a;a;"),
 ];
 
+/// A text of so many cells.
+fn text_of(alloc: Global, cells: u32) -> Result<String, AllocError> {
+    let mut text = String::new(alloc);
+    for _ in 0..cells {
+        text.push_str("abcd")?;
+    }
+    Ok(text)
+}
+
+/// Loses the caller in an append behind so many messages, which fills the cycle.
+fn assert_filled(
+    rt: &impl Abort,
+    alloc: Global,
+    count: u32,
+    text: &str,
+    begins: &str,
+) -> Result<(), Fail> {
+    let before = format!(in alloc; "{begins}] at [0], {count}")?;
+    let behind = format!(in alloc; "{begins}{text};] at [0], CycleFull")?;
+    let append = Append {
+        measures: (64, 8, 1),
+        count,
+        text,
+        before: before.as_str(),
+        behind: behind.as_str(),
+    };
+    assert_append(rt, alloc, &append)
+}
+
 #[test]
 fn an_appender_that_fills_the_cycle_is_lost(rt: HostRuntime) -> Result<(), Fail> {
-    let alloc = rt.alloc();
-    let measures = (64, 8, 1);
-    let store = store_size(shape_of(alloc, measures)?);
+    let store = store_size(shape_of(rt.alloc(), (64, 8, 1))?);
     for (count, cells, begins) in &FILLED {
-        let mut text = String::new(alloc);
-        for _ in store..*cells {
-            text.push_str("abcd")?;
-        }
-        let before = format!(in alloc; "{begins}] at [0], {count}")?;
-        let behind = format!(in alloc; "{begins}{text};] at [0], CycleFull")?;
-        let append = Append {
-            measures,
-            count: *count,
-            text: text.as_str(),
-            before: before.as_str(),
-            behind: behind.as_str(),
-        };
-        assert_append(&rt, alloc, &append)?;
+        let text = text_of(rt.alloc(), cells.saturating_sub(store))?;
+        assert_filled(&rt, rt.alloc(), *count, text.as_str(), begins)?;
     }
     Ok(())
 }

@@ -5,31 +5,29 @@
 //! An append begins with a look here, which an appender behind its own last message leaves out: a look leaves nothing behind.
 #![tactic(auto)]
 
-mod advancing;
-mod claiming;
-mod looking;
-mod publishing;
-mod reading;
-mod steps;
-mod writing;
-
-pub use advancing::advance;
-pub use claiming::begin;
-pub use looking::look;
-pub use publishing::publish;
-pub use reading::{load_first, tell};
-pub use steps::Steps;
-pub use writing::{append, give_up, write};
-
 #[cfg(test)]
 mod advance_tests;
+#[cfg(test)]
+mod advancing;
 #[cfg(test)]
 mod append_tests;
 #[cfg(test)]
 mod beside_tests;
 #[cfg(test)]
+mod claiming;
+#[cfg(test)]
 mod hint_tests;
+#[cfg(test)]
+mod looking;
 #[cfg(test)]
 mod parts_tests;
 #[cfg(test)]
+mod publishing;
+#[cfg(test)]
 mod queues;
+#[cfg(test)]
+mod reading;
+#[cfg(test)]
+mod steps;
+#[cfg(test)]
+mod writing;

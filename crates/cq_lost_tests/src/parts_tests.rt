@@ -1,17 +1,18 @@
 //! Messages that are dropped after some of their bytes were put, and such as are given up by a caller that is lost.
+ghost use Rattle.std.specs.Prelude.{◌≡◌, None};
 ghost use Rattle.cq_words.specs.Values.{IsOf};
 
-use crate::queues::{Measures, append_first, give_up_lost, left_text, new_queue};
+use crate::queues::{Call, Lost, Measures, assert_none, new_queue, push_left, push_missed_lost};
 use cq_append::{Appender, NoRoom, Writing};
-use cq_words::Queue;
+use cq_fixtures::push_missed;
+use cq_words::{Caller, Queue};
 use std::alloc::Global;
-use std::process::Abort;
 use std::test::Fail;
 
 const MEASURES: Measures = (64, 8, 1);
 
 /// The message of which a part is put.
-const TEXT: &[u8] = b"hello, world";
+static TEXT: [u8; 12] = *b"hello, world";
 
 /// Puts these bytes in pieces of this size.
 fn put_pieces(queue: &Queue, writing: &mut Writing, bytes: &[u8], size: usize) -> Result<(), NoRoom>
@@ -23,30 +24,57 @@ fn put_pieces(queue: &Queue, writing: &mut Writing, bytes: &[u8], size: usize) -
     Ok(())
 }
 
-/// What is left of a queue whose appender was lost once so many bytes of a message behind "a" were put, in pieces of this
-/// size.
-fn left_of_parts(alloc: Global, count: usize, size: usize) -> Result<String, Fail> {
+/// Begins the message, and puts these bytes of it in pieces of this size.
+fn put_part(queue: &Queue, appender: Appender, bytes: &[u8], size: usize) -> Result<(), NoRoom>
+    requires { IsOf queue.now appender }
+{
+    match appender.begin(queue, 0, TEXT.len() as u32) {
+        Ok(mut writing) => put_pieces(queue, &mut writing, bytes, size),
+        Err(_) => Ok(()),
+    }
+}
+
+/// The same behind "a", which it appends first.
+fn put_behind(queue: &Queue, caller: Caller, bytes: &[u8], size: usize) -> Result<(), Fail>
+    requires of { IsOf queue.now caller }
+    requires idle { caller.view.claim ≡ None }
+{
+    let mut appender = Appender::new(caller);
+    appender.append(queue, 0, b"a")?;
+    Ok(put_part(queue, appender, bytes, size)?)
+}
+
+/// What is left of a queue whose appender was lost once these bytes of a message behind "a" were put, in pieces of this size.
+fn push_left_of_parts(
+    alloc: Global,
+    bytes: &[u8],
+    size: usize,
+    left: &mut String,
+) -> Result<(), Fail> {
     let (queue, mut caller) = new_queue(alloc, MEASURES)?;
     let other = queue.split(&mut caller);
-    let mut appender = Appender::new(caller);
-    appender.append(&queue, 0, b"a")?;
-    if let Ok(mut writing) = appender.begin(&queue, 0, TEXT.len() as u32) {
-        put_pieces(&queue, &mut writing, &TEXT[..count.min(TEXT.len())], size)?;
-    }
-    left_text(alloc, MEASURES, &queue.stop(other))
+    put_behind(&queue, caller, bytes, size)?;
+    push_left(alloc, MEASURES, &queue.stop(other), left)
 }
+
+/// What is told otherwise than wanted, where the appender is lost after each number of bytes.
+fn missed_parts(alloc: Global, size: usize) -> Result<String, Fail> {
+    let mut missed = String::new(alloc);
+    for count in 0..TEXT.len() + 1 {
+        let mut left = String::new(alloc);
+        push_left_of_parts(alloc, &TEXT[..count], size, &mut left)?;
+        push_missed(alloc, &mut missed, count, left.as_str(), "0[a;] at [0], 1")?;
+    }
+    Ok(missed)
+}
+
+/// The sizes of the pieces.
+static SIZES: [usize; 3] = [1, 3, 12];
 
 #[test]
 fn a_message_of_which_a_part_is_put_is_lost(rt: HostRuntime) -> Result<(), Fail> {
-    for size in [1, 3, 12] {
-        for count in 0..TEXT.len() + 1 {
-            let left = left_of_parts(rt.alloc(), count, size)?;
-            assert_eq!(rt;
-                left.as_str(),
-                "0[a;] at [0], 1",
-                "{count} bytes in pieces of {size}"
-            );
-        }
+    for size in &SIZES {
+        assert_none(&rt, missed_parts(rt.alloc(), *size)?.as_str());
     }
     Ok(())
 }
@@ -61,18 +89,6 @@ struct GiveUp {
     steps: u32,
     /// What is left.
     left: &'static str,
-}
-
-/// What is left of a queue whose appender was lost after so many steps of giving a message up, and whether it was given up.
-fn left_of(alloc: Global, given: &GiveUp, steps: u32) -> Result<(bool, String), Fail> {
-    let (queue, mut writer) = new_queue(alloc, MEASURES)?;
-    let other = queue.split(&mut writer);
-    let is_done = match append_first(&queue, &mut writer, given.count) {
-        Some(trail) => give_up_lost(&queue, &mut writer, &trail, given.text, steps),
-        None => false,
-    };
-    let left = left_text(alloc, MEASURES, &queue.stop(other))?;
-    Ok((is_done, left))
 }
 
 /// Three cells and the header, behind the meta-data of the first message, a message, and a full table.
@@ -97,21 +113,31 @@ static GIVEN_UP: [GiveUp; 3] = [
     },
 ];
 
-/// Loses the caller after so many steps, and compares what is left.
-fn assert_given_up(rt: &impl Abort, alloc: Global, given: &GiveUp, steps: u32) -> Result<(), Fail> {
-    let (is_done, left) = left_of(alloc, given, steps)?;
-    assert_eq!(rt; left.as_str(), given.left, "after {steps} steps");
-    assert_eq!(rt; is_done, steps == given.steps, "after {steps} steps");
-    Ok(())
+/// What is answered or left otherwise than wanted, where the caller is lost after each number of steps.
+fn missed_of(alloc: Global, given: &GiveUp) -> Result<String, Fail> {
+    let mut missed = String::new(alloc);
+    let lost = Lost {
+        measures: MEASURES,
+        count: given.count,
+        call: Call::GiveUp(given.text),
+    };
+    for steps in 0..given.steps {
+        push_missed_lost(alloc, &lost, steps, (None, given.left), &mut missed)?;
+    }
+    push_missed_lost(
+        alloc,
+        &lost,
+        given.steps,
+        (Some(0), given.left),
+        &mut missed,
+    )?;
+    Ok(missed)
 }
 
 #[test]
 fn an_appender_that_gives_a_message_up_is_lost(rt: HostRuntime) -> Result<(), Fail> {
     for given in &GIVEN_UP {
-        for steps in 0..given.steps {
-            assert_given_up(&rt, rt.alloc(), given, steps)?;
-        }
-        assert_given_up(&rt, rt.alloc(), given, given.steps)?;
+        assert_none(&rt, missed_of(rt.alloc(), given)?.as_str());
     }
     Ok(())
 }
