@@ -36,7 +36,7 @@ pub enum Case {
 }
 
 /// The word of each case, and what it measures.
-pub const CASES: [(&str, Case, &str); 10] = [
+pub static CASES: [(&str, Case, &str); 10] = [
     ("append", Case::Append, "1, 2 and 4 appenders fill a cycle"),
     ("read", Case::Read, "1, 2 and 4 tailers read a full cycle"),
     ("read_into", Case::ReadInto, "the same into rooms of theirs"),
@@ -73,9 +73,9 @@ const fn crew_into(tailers: u32) -> Crew {
 
 /// The case of a word, if there is one.
 pub fn case_of(word: &str) -> Option<Case> {
-    for (name, case, _) in CASES {
-        if name == word {
-            return Some(case);
+    for (name, case, _) in &CASES {
+        if *name == word {
+            return Some(*case);
         }
     }
     None
@@ -86,8 +86,8 @@ pub fn print_all<R: AllocGlobal + Clock + Print + Threads + Sync>(
     rt: &R,
     settings: &Settings,
 ) -> Result<(), BenchFault> {
-    for (_, case, _) in CASES {
-        print_case(rt, settings, case)?;
+    for (_, case, _) in &CASES {
+        print_case(rt, settings, *case)?;
     }
     Ok(())
 }

@@ -77,6 +77,15 @@ fn new_appenders(
     Ok(appenders)
 }
 
+/// The time of one append by each of these.
+fn batch_time<R: Clock>(rt: &R, appenders: &mut [SharedAppender]) -> Result<Duration, BenchFault> {
+    let start = now(rt)?;
+    for appender in appenders.iter_mut() {
+        appender.append_all(&MESSAGE, 1)?;
+    }
+    Ok(now(rt)?.duration_since(start))
+}
+
 /// Appends an eighth, and answers the time of appends by appenders that were just split off.
 fn cold_time<R: AllocGlobal + Clock>(
     rt: &R,
@@ -88,13 +97,23 @@ fn cold_time<R: AllocGlobal + Clock>(
     for _ in 0..BATCHES {
         warm.append_all(&MESSAGE, (eighth / BATCHES).saturating_sub(BATCH))?;
         let mut appenders = new_appenders(rt.alloc(), shared)?;
-        let start = now(rt)?;
-        for appender in appenders.iter_mut() {
-            appender.append_all(&MESSAGE, 1)?;
-        }
-        total = total.saturating_add(now(rt)?.duration_since(start));
+        total = total.saturating_add(batch_time(rt, appenders.as_mut_slice())?);
     }
     Ok(total)
+}
+
+/// The times over a queue, by this appender where one goes on.
+fn eighths_by<R: AllocGlobal + Clock>(
+    rt: &R,
+    growth: Growth,
+    shared: &mut SharedQueue,
+    warm: &mut SharedAppender,
+    eighth: u32,
+) -> Result<Eighths, BenchFault> {
+    let first = growth.eighth_time(rt, shared, warm, eighth)?;
+    warm.append_all(&MESSAGE, eighth.saturating_mul(6))?;
+    let last = growth.eighth_time(rt, shared, warm, eighth)?;
+    Ok(Eighths { first, last })
 }
 
 /// The times over a new queue.
@@ -106,10 +125,7 @@ fn eighths_of<R: AllocGlobal + Clock>(
 ) -> Result<Eighths, BenchFault> {
     let mut shared = SharedQueue::new(rt.alloc(), shape)?;
     let mut warm = shared.appender()?;
-    let first = growth.eighth_time(rt, &mut shared, &mut warm, eighth)?;
-    warm.append_all(&MESSAGE, eighth.saturating_mul(6))?;
-    let last = growth.eighth_time(rt, &mut shared, &mut warm, eighth)?;
-    Ok(Eighths { first, last })
+    eighths_by(rt, growth, &mut shared, &mut warm, eighth)
 }
 
 /// Measures appends early and late in a cycle.

@@ -121,13 +121,17 @@ where
 
 /// Prints the words that there are.
 fn print_help<R: Print>(rt: &R) -> Result<(), BenchFault> {
-    for (word, _, what) in CASES {
-        if println!(rt; "{word:11} {what}").is_err() {
-            return Err(BenchFault::NotPrinted);
-        }
+    for (word, _, what) in &CASES {
+        print_meaning(rt, word, what)?;
     }
-    let last = println!(rt;
-        "all         all of these\ntrial       all of these over small queues, without figures"
-    );
-    last.map_err(|_| BenchFault::NotPrinted)
+    print_meaning(rt, ALL, "all of these")?;
+    print_meaning(rt, TRIAL, "all of these over small queues, without figures")
+}
+
+/// Prints a word, and what is measured for it.
+fn print_meaning<R: Print>(rt: &R, word: &str, what: &str) -> Result<(), BenchFault> {
+    match println!(rt; "{word:11} {what}") {
+        Ok(()) => Ok(()),
+        Err(_) => Err(BenchFault::NotPrinted),
+    }
 }

@@ -1,4 +1,6 @@
 //! How long a message is on its way from an append to another's read of it.
+ghost use Rattle.cq_words.specs.Values.{IsOf};
+
 use crate::appending::{MOST_TRIES, append_one};
 use crate::fault::BenchFault;
 use crate::figures::{Figure, Label, print_line};
@@ -6,7 +8,11 @@ use crate::queues::{SharedAppender, SharedQueue, SharedTailer, message_count};
 use crate::reading::{Target, read_one};
 use crate::running::{Gate, now};
 use crate::settings::Settings;
+use cq_append::Appender;
 use cq_layout::Shape;
+use cq_tail::Tailer;
+use cq_words::Queue;
+use std::alloc::Global;
 use std::rt::Clock;
 use std::thread::{Threads, join};
 use std::time::{Duration, Instant};
@@ -24,6 +30,31 @@ struct Times {
     most: Duration,
 }
 
+/// Appends messages, each when the one before it was read, and keeps when each append began.
+fn send_all<R: Clock>(
+    rt: &R,
+    read: &Gate,
+    queue: &Queue,
+    appender: &mut Appender,
+    count: u32,
+    sent: &mut Vec<Instant>,
+) -> Result<(), BenchFault>
+    requires { IsOf queue.now appender.old }
+{
+    for number in 0..count {
+        // The first is sent when the tailer has come.
+        if !read.wait(u64::from(number) + 1) {
+            return Err(BenchFault::Missing);
+        }
+        let start = now(rt)?;
+        append_one(queue, appender, &[b'x'; LENGTH as usize])?;
+        if sent.push(start).is_err() {
+            return Err(BenchFault::OutOfMemory);
+        }
+    }
+    Ok(())
+}
+
 /// Appends messages, each when the one before it was read, and answers when each append began.
 fn send<R: AllocGlobal + Clock>(
     rt: &R,
@@ -36,18 +67,32 @@ fn send<R: AllocGlobal + Clock>(
         mut appender,
     } = shared;
     let mut sent = Vec::with_capacity(rt.alloc(), count as usize)?;
-    for number in 0..count {
-        // The first is sent when the tailer has come.
-        if !read.wait(u64::from(number) + 1) {
-            return Err(BenchFault::Missing);
-        }
-        let start = now(rt)?;
-        append_one(&queue, &mut appender, &[b'x'; LENGTH as usize])?;
-        if sent.push(start).is_err() {
+    send_all(rt, read, &queue, &mut appender, count, &mut sent)?;
+    Ok(sent)
+}
+
+/// Reads messages as they come, and keeps when each was read.
+fn receive_all<R: AllocGlobal + Clock>(
+    rt: &R,
+    read: &Gate,
+    queue: &Queue,
+    tailer: &mut Tailer,
+    count: u32,
+    received: &mut Vec<Instant>,
+) -> Result<(), BenchFault>
+    requires { IsOf queue.now tailer.old.caller }
+{
+    let mut target = Target::Copies(rt.alloc());
+    read.come();
+    for _ in 0..count {
+        read_one(&mut target, queue, tailer, MOST_TRIES)?;
+        let end = now(rt)?;
+        read.come();
+        if received.push(end).is_err() {
             return Err(BenchFault::OutOfMemory);
         }
     }
-    Ok(sent)
+    Ok(())
 }
 
 /// Reads messages as they come, and answers when each was read.
@@ -59,17 +104,32 @@ fn receive<R: AllocGlobal + Clock>(
 ) -> Result<Vec<Instant>, BenchFault> {
     let SharedTailer { queue, mut tailer } = shared;
     let mut received = Vec::with_capacity(rt.alloc(), count as usize)?;
-    let mut target = Target::Copies(rt.alloc());
-    read.come();
-    for _ in 0..count {
-        read_one(&mut target, &queue, &mut tailer, MOST_TRIES)?;
-        let end = now(rt)?;
-        read.come();
-        if received.push(end).is_err() {
-            return Err(BenchFault::OutOfMemory);
-        }
-    }
+    receive_all(rt, read, &queue, &mut tailer, count, &mut received)?;
     Ok(received)
+}
+
+/// An appender and a tailer of a new queue.
+fn new_pair(alloc: Global, shape: Shape) -> Result<(SharedAppender, SharedTailer), BenchFault> {
+    let mut shared = SharedQueue::new(alloc, shape)?;
+    Ok((shared.appender()?, shared.tailer()?))
+}
+
+/// When each of so many messages was sent and read, one at a time.
+fn send_and_receive<R: AllocGlobal + Clock + Threads + Sync>(
+    rt: &R,
+    appender: SharedAppender,
+    tailer: SharedTailer,
+    count: u32,
+) -> (
+    Result<Vec<Instant>, BenchFault>,
+    Result<Vec<Instant>, BenchFault>,
+) {
+    let read = Gate::new();
+    join(
+        rt,
+        || -> Result<Vec<Instant>, BenchFault> { send(rt, &read, appender, count) },
+        || -> Result<Vec<Instant>, BenchFault> { receive(rt, &read, tailer, count) },
+    )
 }
 
 /// The times of so many messages, one at a time.
@@ -78,23 +138,30 @@ fn ping_times<R: AllocGlobal + Clock + Threads + Sync>(
     shape: Shape,
     count: u32,
 ) -> Result<Times, BenchFault> {
-    let mut shared = SharedQueue::new(rt.alloc(), shape)?;
-    let appender = shared.appender()?;
-    let tailer = shared.tailer()?;
-    let read = Gate::new();
-    let (sent, received) = join(
-        rt,
-        || -> Result<Vec<Instant>, BenchFault> { send(rt, &read, appender, count) },
-        || -> Result<Vec<Instant>, BenchFault> { receive(rt, &read, tailer, count) },
-    );
-    let (sent, received) = (sent?, received?);
-    let mut times = Vec::with_capacity(rt.alloc(), sent.len())?;
+    let (appender, tailer) = new_pair(rt.alloc(), shape)?;
+    let (sent, received) = send_and_receive(rt, appender, tailer, count);
+    let mut times = times_between(rt.alloc(), sent?.as_slice(), received?.as_slice())?;
+    times.sort_unstable();
+    times_of(times.as_slice())
+}
+
+/// How long each message was on its way.
+fn times_between(
+    alloc: Global,
+    sent: &[Instant],
+    received: &[Instant],
+) -> Result<Vec<Duration>, BenchFault> {
+    let mut times = Vec::with_capacity(alloc, sent.len())?;
     for (start, end) in sent.iter().zip(received.iter()) {
         if times.push(end.duration_since(*start)).is_err() {
             return Err(BenchFault::OutOfMemory);
         }
     }
-    times.sort_unstable();
+    Ok(times)
+}
+
+/// The two times of these, the shortest of which comes first.
+fn times_of(times: &[Duration]) -> Result<Times, BenchFault> {
     match (
         times.get(times.len() / 2),
         times.get(times.len().saturating_sub(1) / 100 * 99),

@@ -1,5 +1,5 @@
 //! Messages are read by index, here and there over a full cycle.
-ghost use Rattle.std.specs.Prelude.{◌≡◌, ◌+◌, ◌<◌, ◌≤◌, OnOk};
+ghost use Rattle.std.specs.Prelude.{◌≡◌, ◌+◌, ◌<◌, ◌≤◌, None, OnOk};
 ghost use Rattle.cq_bench.specs.Counts.{messages_read};
 ghost use Rattle.cq_words.specs.Values.{IsOf};
 
@@ -12,7 +12,7 @@ use crate::settings::Settings;
 use cq_append::Appender;
 use cq_cycle::Index;
 use cq_tail::{At, Tailer};
-use cq_words::Queue;
+use cq_words::{Caller, Queue};
 use std::alloc::Global;
 use std::rt::Clock;
 use std::time::Duration;
@@ -111,6 +111,29 @@ fn best_reads<R: AllocGlobal + Clock>(
     Ok(best)
 }
 
+/// Appends so many messages, by a caller that ends then.
+fn fill(queue: &Queue, caller: Caller, count: u32) -> Result<(), BenchFault>
+    requires of { IsOf queue.now caller }
+    requires idle { caller.view.claim ≡ None }
+{
+    let mut appender = Appender::new(caller);
+    append_all(queue, &mut appender, &[b'x'; LENGTH as usize], count)
+}
+
+/// The best of all repetitions over a new queue of so many messages.
+fn best_reads_of_new<R: AllocGlobal + Clock>(
+    rt: &R,
+    settings: &Settings,
+    count: u32,
+) -> Result<Figure, BenchFault>
+    requires some { 0 < count }
+{
+    let (queue, mut caller) = new_queue(rt.alloc(), settings.shape)?;
+    let mut tailer = Tailer::new(queue.split(&mut caller));
+    fill(&queue, caller, count)?;
+    best_reads(rt, settings, &queue, &mut tailer, count)
+}
+
 /// Measures reads by index.
 pub fn print_random_reads<R: AllocGlobal + Clock + Print>(
     rt: &R,
@@ -120,11 +143,7 @@ pub fn print_random_reads<R: AllocGlobal + Clock + Print>(
     if count == 0 {
         return Err(BenchFault::NoRoom);
     }
-    let (queue, mut caller) = new_queue(rt.alloc(), settings.shape)?;
-    let mut tailer = Tailer::new(queue.split(&mut caller));
-    let mut appender = Appender::new(caller);
-    append_all(&queue, &mut appender, &[b'x'; LENGTH as usize], count)?;
-    let best = best_reads(rt, settings, &queue, &mut tailer, count)?;
+    let best = best_reads_of_new(rt, settings, count)?;
     let label = Label {
         case: "read_at",
         payload: LENGTH,

@@ -66,6 +66,18 @@ pub fn now(clock: &impl Clock) -> Result<Instant, BenchFault> {
     }
 }
 
+/// Does a job, with messages of these bytes.
+fn run(job: Job, bytes: &[u8]) -> Result<(), BenchFault> {
+    match job {
+        Job::Append(mut shared, count) => shared.append_all(bytes, count),
+        Job::Read(mut shared, mut target, count, looks) => shared.read_all(
+            &mut target,
+            count,
+            looks,
+        ),
+    }
+}
+
 /// Does a job, once all threads have come.
 fn span_of<R: Clock>(
     rt: &R,
@@ -77,14 +89,7 @@ fn span_of<R: Clock>(
     gate.come();
     let _ = gate.wait(all);
     let start = now(rt)?;
-    match job {
-        Job::Append(mut shared, count) => shared.append_all(bytes, count)?,
-        Job::Read(mut shared, mut target, count, looks) => shared.read_all(
-            &mut target,
-            count,
-            looks,
-        )?,
-    }
+    run(job, bytes)?;
     let end = now(rt)?;
     Ok(Span { start, end })
 }

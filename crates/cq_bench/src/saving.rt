@@ -1,5 +1,5 @@
 //! A queue is saved as an image, and opened again from it.
-ghost use Rattle.std.specs.Prelude.{◌≡◌, None};
+ghost use Rattle.std.specs.Prelude.{◌≡◌, IfOk, None};
 ghost use Rattle.cq_words.specs.Values.{IsOf};
 
 use crate::appending::append_all;
@@ -19,7 +19,7 @@ use cq_tail::Tailer;
 use cq_words::{Caller, Queue};
 use std::alloc::{AllocError, Global};
 use std::rt::Clock;
-use std::time::Duration;
+use std::time::{Duration, Instant};
 
 /// The bytes of a message.
 const LENGTH: u32 = 64;
@@ -45,13 +45,26 @@ fn stopped_image(alloc: Global, queue: Queue, caller: Caller) -> Result<Vec<u8>,
     Ok(image(alloc, list.cycle, shape, list.messages.as_slice(), false)?)
 }
 
-/// Appends so many messages to a new queue, stops it, and makes its image.
+/// Appends so many messages to a queue, stops it, and makes its image.
+fn filled_image(
+    alloc: Global,
+    queue: Queue,
+    caller: Caller,
+    count: u32,
+) -> Result<Vec<u8>, BenchFault>
+    requires of { IsOf queue caller }
+    requires idle { caller.view.claim ≡ None }
+{
+    let mut appender = Appender::new(caller);
+    append_all(&queue, &mut appender, &[b'x'; LENGTH as usize], count)?;
+    stopped_image(alloc, queue, appender.into_caller())
+}
+
+/// The image of a new queue to which so many messages were appended, and how long that took.
 fn save<R: AllocGlobal + Clock>(rt: &R, shape: Shape, count: u32) -> Result<Saved, BenchFault> {
     let (queue, caller) = new_queue(rt.alloc(), shape)?;
-    let mut appender = Appender::new(caller);
     let start = now(rt)?;
-    append_all(&queue, &mut appender, &[b'x'; LENGTH as usize], count)?;
-    let image = stopped_image(rt.alloc(), queue, appender.into_caller())?;
+    let image = filled_image(rt.alloc(), queue, caller, count)?;
     let time = now(rt)?.duration_since(start);
     Ok(Saved { image, time })
 }
@@ -75,6 +88,34 @@ fn contents_of(alloc: Global, messages: Items<Message>) -> Result<Contents, Allo
     })
 }
 
+/// What the queue holds of which this is the image.
+fn contents_in(alloc: Global, shape: Shape, image: &[u8]) -> Result<Contents, BenchFault> {
+    Ok(contents_of(alloc, messages_of(alloc, shape, image)?)?)
+}
+
+/// A queue that is opened with these contents, and its first caller.
+fn reopened(alloc: Global, shape: Shape, contents: &Contents) -> Result<(Queue, Caller), BenchFault>
+    ensures of { IfOk result (λ made. IsOf made.0 made.1) }
+    ensures idle { IfOk result (λ made. made.1.view.claim ≡ None) }
+{
+    Ok(Queue::reopen(alloc, config_of(alloc, shape)?, contents)?)
+}
+
+/// Reads so many messages, and answers the time since a start.
+fn time_to_read<R: AllocGlobal + Clock>(
+    rt: &R,
+    queue: &Queue,
+    tailer: &mut Tailer,
+    count: u32,
+    start: Instant,
+) -> Result<Duration, BenchFault>
+    requires { IsOf queue.now tailer.old.caller }
+{
+    let mut target = Target::Copies(rt.alloc());
+    read_all(&mut target, queue, tailer, count, 1)?;
+    Ok(now(rt)?.duration_since(start))
+}
+
 /// Reads an image, opens a queue with what it holds, and reads so many messages. Answers the time that it took.
 fn reopen_time<R: AllocGlobal + Clock>(
     rt: &R,
@@ -83,12 +124,9 @@ fn reopen_time<R: AllocGlobal + Clock>(
     count: u32,
 ) -> Result<Duration, BenchFault> {
     let start = now(rt)?;
-    let contents = contents_of(rt.alloc(), messages_of(rt.alloc(), shape, image)?)?;
-    let (queue, caller) = Queue::reopen(rt.alloc(), config_of(rt.alloc(), shape)?, &contents)?;
-    let mut tailer = Tailer::new(caller);
-    let mut target = Target::Copies(rt.alloc());
-    read_all(&mut target, &queue, &mut tailer, count, 1)?;
-    Ok(now(rt)?.duration_since(start))
+    let contents = contents_in(rt.alloc(), shape, image)?;
+    let (queue, caller) = reopened(rt.alloc(), shape, &contents)?;
+    time_to_read(rt, &queue, &mut Tailer::new(caller), count, start)
 }
 
 /// Measures how a queue is saved.
