@@ -9,6 +9,8 @@ mod life_tests;
 #[cfg(test)]
 mod meeting_tests;
 #[cfg(test)]
+mod new_queues;
+#[cfg(test)]
 mod room_calls;
 #[cfg(test)]
 mod room_tests;

@@ -1,8 +1,9 @@
 //! Two endpoints of a queue, from its start to its end.
 use crate::calls::Call;
+use crate::new_queues::two_endpoints;
 use cq_endpoint::{Direction, Endpoint};
 use cq_fixtures::{DAY, contents_of, contents_text, small_config};
-use cq_shown::{CreateError, recover};
+use cq_shown::{CreateError, Stopped, recover};
 use std::alloc::Global;
 use std::test::Fail;
 
@@ -21,20 +22,36 @@ struct Life {
     answers: &'static str,
 }
 
-/// What the calls answer, and what is left once the last endpoint stopped the queue.
-fn answers(alloc: Global, calls: &[(Who, Call)]) -> Result<String, Fail> {
-    let mut out = String::new(alloc);
-    let mut first = Endpoint::create(alloc, small_config(alloc, 4)?, 0)?;
-    let mut second = first.split()?;
+/// What the calls of two endpoints answer.
+fn push_calls(
+    alloc: Global,
+    calls: &[(Who, Call)],
+    first: &mut Endpoint,
+    second: &mut Endpoint,
+    out: &mut String,
+) -> Result<(), Fail> {
     for (who, call) in calls {
         match who {
-            Who::First => call.push_answer(alloc, &mut first, &mut out)?,
-            Who::Second => call.push_answer(alloc, &mut second, &mut out)?,
+            Who::First => call.push_answer(alloc, first, out)?,
+            Who::Second => call.push_answer(alloc, second, out)?,
         }
         out.push_str("; ")?;
     }
-    push_end(alloc, first, second, &mut out)?;
-    Ok(out)
+    Ok(())
+}
+
+/// What a stopped queue holds.
+fn push_stopped(alloc: Global, stopped: &Stopped, out: &mut String) -> Result<(), Fail> {
+    let contents = recover(alloc, stopped)?;
+    Ok(out.push_str(contents_text(alloc, &contents)?.as_str())?)
+}
+
+/// What is left once the last endpoint stopped the queue.
+fn push_left(alloc: Global, last: Endpoint, out: &mut String) -> Result<(), Fail> {
+    match last.stop() {
+        Ok(stopped) => push_stopped(alloc, &stopped, out),
+        Err(_endpoint) => Err(Fail::new("the last endpoint did not stop the queue")),
+    }
 }
 
 /// What is left once the first endpoint stopped the queue. It may not while the second one lives.
@@ -44,15 +61,27 @@ fn push_end(
     second: Endpoint,
     out: &mut String,
 ) -> Result<(), Fail> {
-    let Err(first) = first.stop() else {
-        return Err(Fail::new("the queue was stopped while another endpoint lived"));
-    };
-    drop(second);
-    let Ok(stopped) = first.stop() else {
-        return Err(Fail::new("the last endpoint did not stop the queue"));
-    };
-    let contents = recover(alloc, &stopped)?;
-    Ok(out.push_str(contents_text(alloc, &contents)?.as_str())?)
+    match first.stop() {
+        Ok(_stopped) => Err(Fail::new("the queue was stopped while another endpoint lived")),
+        Err(first) => {
+            drop(second);
+            push_left(alloc, first, out)
+        }
+    }
+}
+
+/// What the calls answer, and what is left once the last endpoint stopped the queue.
+fn push_life(alloc: Global, calls: &[(Who, Call)], out: &mut String) -> Result<(), Fail> {
+    let (mut first, mut second) = two_endpoints(alloc)?;
+    push_calls(alloc, calls, &mut first, &mut second, out)?;
+    push_end(alloc, first, second, out)
+}
+
+/// The same, as text.
+fn answers(alloc: Global, calls: &[(Who, Call)]) -> Result<String, Fail> {
+    let mut out = String::new(alloc);
+    push_life(alloc, calls, &mut out)?;
+    Ok(out)
 }
 
 static LIVES: [Life; 5] = [
@@ -163,13 +192,23 @@ fn endpoints_append_and_read(rt: HostRuntime) -> Result<(), Fail> {
     Ok(())
 }
 
+/// An endpoint of a queue that is opened with one message.
+fn opened(alloc: Global) -> Result<Endpoint, Fail> {
+    let contents = contents_of(alloc, &[(3, &["old"])], &[0])?;
+    Ok(Endpoint::open(alloc, small_config(alloc, 4)?, &contents)?)
+}
+
+/// What an endpoint reads next, as text.
+fn next_text(alloc: Global, endpoint: &mut Endpoint) -> Result<String, Fail> {
+    let mut out = String::new(alloc);
+    Call::Next.push_answer(alloc, endpoint, &mut out)?;
+    Ok(out)
+}
+
 /// What an endpoint of a queue that is opened with one message reads.
 fn opened_text(alloc: Global) -> Result<String, Fail> {
-    let contents = contents_of(alloc, &[(3, &["old"])], &[0])?;
-    let mut endpoint = Endpoint::open(alloc, small_config(alloc, 4)?, &contents)?;
-    let mut out = String::new(alloc);
-    Call::Next.push_answer(alloc, &mut endpoint, &mut out)?;
-    Ok(out)
+    let mut endpoint = opened(alloc)?;
+    next_text(alloc, &mut endpoint)
 }
 
 #[test]

@@ -1,22 +1,33 @@
 //! Callers that meet in place, and endpoints that do.
+ghost use Rattle.std.specs.Prelude.{◌≡◌};
+ghost use Rattle.cq_words.specs.Values.{IsOf};
+
 use crate::calls::Call;
+use crate::new_queues::two_endpoints;
 use cq_append::Appender;
-use cq_endpoint::Endpoint;
+use cq_endpoint::{AppendFault, Endpoint};
 use cq_fixtures::small_config;
+use cq_layout::Refusal;
 use cq_tail::Tailer;
-use cq_words::Queue;
+use cq_words::{Caller, Queue};
 use std::alloc::Global;
 use std::test::Fail;
 
-/// The ends that two endpoints have seen, of which one appended, before they met and then.
-fn ends(alloc: Global) -> Result<(u64, u64, u64, u64), Fail> {
-    let mut one = Endpoint::create(alloc, small_config(alloc, 4)?, 0)?;
-    let mut other = one.split()?;
+/// The ends that two endpoints have seen, of which one appends, before they meet and then.
+fn ends_of(one: &mut Endpoint, other: &mut Endpoint) -> Result<(u64, u64, u64, u64), AppendFault>
+    requires { other.old.queue ≡ one.old.queue }
+{
     let _index = one.append(0, b"a")?;
     let first = one.seen_end();
     let second = other.seen_end();
-    one.meet(&mut other);
+    one.meet(other);
     Ok((first, second, one.seen_end(), other.seen_end()))
+}
+
+/// The same of two endpoints of a new queue.
+fn ends(alloc: Global) -> Result<(u64, u64, u64, u64), Fail> {
+    let (mut one, mut other) = two_endpoints(alloc)?;
+    Ok(ends_of(&mut one, &mut other)?)
 }
 
 #[test]
@@ -25,39 +36,71 @@ fn endpoints_meet(rt: HostRuntime) -> Result<(), Fail> {
     Ok(())
 }
 
-/// What becomes of a message that is begun as its endpoint meets another.
-fn completed(alloc: Global) -> Result<String, Fail> {
-    let mut out = String::new(alloc);
-    let mut one = Endpoint::create(alloc, small_config(alloc, 4)?, 0)?;
-    let mut other = one.split()?;
+/// What becomes of a message that one endpoint begins as it meets another.
+fn push_completed(
+    alloc: Global,
+    one: &mut Endpoint,
+    other: &mut Endpoint,
+    out: &mut String,
+) -> Result<(), Fail>
+    requires { other.old.queue ≡ one.old.queue }
+{
     one.begin(0, 5)?;
-    other.meet(&mut one);
-    Call::Put("hello").push_answer(alloc, &mut one, &mut out)?;
-    Call::Complete.push_answer(alloc, &mut one, &mut out)?;
-    Call::Next.push_answer(alloc, &mut other, &mut out)?;
-    Ok(out)
+    other.meet(one);
+    Call::Put("hello").push_answer(alloc, one, out)?;
+    Call::Complete.push_answer(alloc, one, out)?;
+    Call::Next.push_answer(alloc, other, out)
+}
+
+/// The same of two endpoints of a new queue.
+fn completed(alloc: Global, out: &mut String) -> Result<(), Fail> {
+    let (mut one, mut other) = two_endpoints(alloc)?;
+    push_completed(alloc, &mut one, &mut other, out)
 }
 
 #[test]
 fn a_message_that_is_begun_stays_so_over_a_meeting(rt: HostRuntime) -> Result<(), Fail> {
-    assert_eq!(rt; completed(rt.alloc())?.as_str(), "Ok(())00 hello");
+    let mut out = String::new(rt.alloc());
+    completed(rt.alloc(), &mut out)?;
+    assert_eq!(rt; out.as_str(), "Ok(())00 hello");
     Ok(())
 }
 
 /// The ends that a tailer and another one that is split off it have seen, before and behind a note that an appender gave.
-fn noted(alloc: Global) -> Result<(u64, u64, u64), Fail> {
-    let (queue, mut caller) = Queue::create(alloc, small_config(alloc, 4)?, 0)?;
-    let mut appender = Appender::new(queue.split(&mut caller));
-    let mut tailer = Tailer::new(queue.split(&mut caller));
-    let _index = appender.append(&queue, 0, b"a")?;
+fn noted_ends(
+    queue: &Queue,
+    appender: &mut Appender,
+    tailer: &mut Tailer,
+    caller: &mut Caller,
+) -> Result<(u64, u64, u64), Refusal>
+    requires appender { IsOf queue.now appender.old }
+    requires tailer { IsOf queue.now tailer.old.caller }
+    requires caller { IsOf queue.now caller.old }
+{
+    let _index = appender.append(queue, 0, b"a")?;
     let before = tailer.seen_end();
-    let mut note = queue.split(&mut caller);
-    appender.meet(&queue, &mut note);
-    tailer.meet(&queue, &mut note);
-    let other = Tailer::new(tailer.split(&queue));
-    let appends = Appender::new(appender.split(&queue));
+    let mut note = queue.split(caller);
+    appender.meet(queue, &mut note);
+    tailer.meet(queue, &mut note);
+    let other = Tailer::new(tailer.split(queue));
+    let appends = Appender::new(appender.split(queue));
     drop(appends);
     Ok((before, tailer.seen_end(), other.seen_end()))
+}
+
+/// The same of an appender and a tailer that are split off a caller.
+fn noted_by(queue: &Queue, caller: &mut Caller) -> Result<(u64, u64, u64), Refusal>
+    requires { IsOf queue.now caller.old }
+{
+    let mut appender = Appender::new(queue.split(caller));
+    let mut tailer = Tailer::new(queue.split(caller));
+    noted_ends(queue, &mut appender, &mut tailer, caller)
+}
+
+/// The same of a new queue.
+fn noted(alloc: Global) -> Result<(u64, u64, u64), Fail> {
+    let (queue, mut caller) = Queue::create(alloc, small_config(alloc, 4)?, 0)?;
+    Ok(noted_by(&queue, &mut caller)?)
 }
 
 #[test]

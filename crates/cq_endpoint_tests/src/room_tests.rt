@@ -1,8 +1,9 @@
 //! Reads into rooms.
 use crate::calls::Call;
+use crate::new_queues::new_endpoint;
 use crate::room_calls::Step;
-use cq_endpoint::{Direction, Endpoint};
-use cq_fixtures::{DAY, small_config};
+use cq_endpoint::{AppendFault, Direction, Endpoint};
+use cq_fixtures::DAY;
 use std::alloc::Global;
 use std::test::Fail;
 
@@ -87,14 +88,25 @@ BeforeStart [hello.]; ",
     },
 ];
 
-/// What the calls answer.
-fn answers(alloc: Global, steps: &[Step]) -> Result<String, Fail> {
-    let mut out = String::new(alloc);
-    let mut endpoint = Endpoint::create(alloc, small_config(alloc, 4)?, 0)?;
+/// What the calls of an endpoint answer.
+fn push_steps(
+    alloc: Global,
+    steps: &[Step],
+    endpoint: &mut Endpoint,
+    out: &mut String,
+) -> Result<(), Fail> {
     for step in steps {
-        step.push_answer(alloc, &mut endpoint, &mut out)?;
+        step.push_answer(alloc, endpoint, out)?;
         out.push_str("; ")?;
     }
+    Ok(())
+}
+
+/// The same of a new queue, as text.
+fn answers(alloc: Global, steps: &[Step]) -> Result<String, Fail> {
+    let mut endpoint = new_endpoint(alloc)?;
+    let mut out = String::new(alloc);
+    push_steps(alloc, steps, &mut endpoint, &mut out)?;
     Ok(out)
 }
 
@@ -107,20 +119,32 @@ fn endpoints_read_into_rooms(rt: HostRuntime) -> Result<(), Fail> {
     Ok(())
 }
 
-/// The lengths that are read backwards into one room, of as many messages as a cycle holds, with places that are kept and that
-/// are not.
-fn lengths(alloc: Global) -> Result<String, Fail> {
-    let mut out = String::new(alloc);
-    let mut endpoint = Endpoint::create(alloc, small_config(alloc, 4)?, 0)?;
+/// Appends as many messages as a cycle holds, the next one always a byte longer.
+fn append_longer(endpoint: &mut Endpoint) -> Result<(), AppendFault> {
     for text in ["a", "ab", "abc", "abcd", "abcde", "abcdef"] {
         let _index = endpoint.append(0, text.as_bytes())?;
     }
+    Ok(())
+}
+
+/// The lengths that an endpoint reads backwards into one room, of as many messages as a cycle holds, with places that are kept and
+/// that are not.
+fn push_lengths(alloc: Global, endpoint: &mut Endpoint, out: &mut String) -> Result<(), Fail> {
+    append_longer(endpoint)?;
     let _end = endpoint.to_end();
     endpoint.direction(Direction::Backwards);
     for _ in 0..7 {
-        Step::NextInto(6).push_answer(alloc, &mut endpoint, &mut out)?;
-        Step::Plain(Call::Stands).push_answer(alloc, &mut endpoint, &mut out)?;
+        Step::NextInto(6).push_answer(alloc, endpoint, out)?;
+        Step::Plain(Call::Stands).push_answer(alloc, endpoint, out)?;
     }
+    Ok(())
+}
+
+/// The same of a new queue, as text.
+fn lengths(alloc: Global) -> Result<String, Fail> {
+    let mut endpoint = new_endpoint(alloc)?;
+    let mut out = String::new(alloc);
+    push_lengths(alloc, &mut endpoint, &mut out)?;
     Ok(out)
 }
 
