@@ -5,16 +5,15 @@ ghost use Rattle.cq_words.specs.Values.{IsOf};
 use crate::calls::Call;
 use crate::new_queues::two_endpoints;
 use cq_append::Appender;
-use cq_endpoint::{AppendFault, Endpoint};
+use cq_endpoint::Endpoint;
 use cq_fixtures::small_config;
-use cq_layout::Refusal;
 use cq_tail::Tailer;
 use cq_words::{Caller, Queue};
 use std::alloc::Global;
 use std::test::Fail;
 
 /// The ends that two endpoints have seen, of which one appends, before they meet and then.
-fn ends_of(one: &mut Endpoint, other: &mut Endpoint) -> Result<(u64, u64, u64, u64), AppendFault>
+fn ends_of(one: &mut Endpoint, other: &mut Endpoint) -> Result<(u64, u64, u64, u64), Fail>
     requires { other.old.queue ≡ one.old.queue }
 {
     let _index = one.append(0, b"a")?;
@@ -27,7 +26,7 @@ fn ends_of(one: &mut Endpoint, other: &mut Endpoint) -> Result<(u64, u64, u64, u
 /// The same of two endpoints of a new queue.
 fn ends(alloc: Global) -> Result<(u64, u64, u64, u64), Fail> {
     let (mut one, mut other) = two_endpoints(alloc)?;
-    Ok(ends_of(&mut one, &mut other)?)
+    ends_of(&mut one, &mut other)
 }
 
 #[test]
@@ -37,32 +36,27 @@ fn endpoints_meet(rt: HostRuntime) -> Result<(), Fail> {
 }
 
 /// What becomes of a message that one endpoint begins as it meets another.
-fn push_completed(
-    alloc: Global,
-    one: &mut Endpoint,
-    other: &mut Endpoint,
-    out: &mut String,
-) -> Result<(), Fail>
+fn completed_by(alloc: Global, one: &mut Endpoint, other: &mut Endpoint) -> Result<String, Fail>
     requires { other.old.queue ≡ one.old.queue }
 {
+    let mut out = String::new(alloc);
     one.begin(0, 5)?;
     other.meet(one);
-    Call::Put("hello").push_answer(alloc, one, out)?;
-    Call::Complete.push_answer(alloc, one, out)?;
-    Call::Next.push_answer(alloc, other, out)
+    Call::Put("hello").push_answer(alloc, one, &mut out)?;
+    Call::Complete.push_answer(alloc, one, &mut out)?;
+    Call::Next.push_answer(alloc, other, &mut out)?;
+    Ok(out)
 }
 
 /// The same of two endpoints of a new queue.
-fn completed(alloc: Global, out: &mut String) -> Result<(), Fail> {
+fn completed(alloc: Global) -> Result<String, Fail> {
     let (mut one, mut other) = two_endpoints(alloc)?;
-    push_completed(alloc, &mut one, &mut other, out)
+    completed_by(alloc, &mut one, &mut other)
 }
 
 #[test]
 fn a_message_that_is_begun_stays_so_over_a_meeting(rt: HostRuntime) -> Result<(), Fail> {
-    let mut out = String::new(rt.alloc());
-    completed(rt.alloc(), &mut out)?;
-    assert_eq!(rt; out.as_str(), "Ok(())00 hello");
+    assert_eq!(rt; completed(rt.alloc())?.as_str(), "Ok(())00 hello");
     Ok(())
 }
 
@@ -72,7 +66,7 @@ fn noted_ends(
     appender: &mut Appender,
     tailer: &mut Tailer,
     caller: &mut Caller,
-) -> Result<(u64, u64, u64), Refusal>
+) -> Result<(u64, u64, u64), Fail>
     requires appender { IsOf queue.now appender.old }
     requires tailer { IsOf queue.now tailer.old.caller }
     requires caller { IsOf queue.now caller.old }
@@ -89,7 +83,7 @@ fn noted_ends(
 }
 
 /// The same of an appender and a tailer that are split off a caller.
-fn noted_by(queue: &Queue, caller: &mut Caller) -> Result<(u64, u64, u64), Refusal>
+fn noted_by(queue: &Queue, caller: &mut Caller) -> Result<(u64, u64, u64), Fail>
     requires { IsOf queue.now caller.old }
 {
     let mut appender = Appender::new(queue.split(caller));
@@ -100,7 +94,7 @@ fn noted_by(queue: &Queue, caller: &mut Caller) -> Result<(u64, u64, u64), Refus
 /// The same of a new queue.
 fn noted(alloc: Global) -> Result<(u64, u64, u64), Fail> {
     let (queue, mut caller) = Queue::create(alloc, small_config(alloc, 4)?, 0)?;
-    Ok(noted_by(&queue, &mut caller)?)
+    noted_by(&queue, &mut caller)
 }
 
 #[test]

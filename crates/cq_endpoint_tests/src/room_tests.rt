@@ -89,25 +89,19 @@ BeforeStart [hello.]; ",
 ];
 
 /// What the calls of an endpoint answer.
-fn push_steps(
-    alloc: Global,
-    steps: &[Step],
-    endpoint: &mut Endpoint,
-    out: &mut String,
-) -> Result<(), Fail> {
+fn answers_of(alloc: Global, steps: &[Step], endpoint: &mut Endpoint) -> Result<String, Fail> {
+    let mut out = String::new(alloc);
     for step in steps {
-        step.push_answer(alloc, endpoint, out)?;
+        step.push_answer(alloc, endpoint, &mut out)?;
         out.push_str("; ")?;
     }
-    Ok(())
+    Ok(out)
 }
 
-/// The same of a new queue, as text.
+/// The same of an endpoint of a new queue.
 fn answers(alloc: Global, steps: &[Step]) -> Result<String, Fail> {
     let mut endpoint = new_endpoint(alloc)?;
-    let mut out = String::new(alloc);
-    push_steps(alloc, steps, &mut endpoint, &mut out)?;
-    Ok(out)
+    answers_of(alloc, steps, &mut endpoint)
 }
 
 #[test]
@@ -129,23 +123,22 @@ fn append_longer(endpoint: &mut Endpoint) -> Result<(), AppendFault> {
 
 /// The lengths that an endpoint reads backwards into one room, of as many messages as a cycle holds, with places that are kept and
 /// that are not.
-fn push_lengths(alloc: Global, endpoint: &mut Endpoint, out: &mut String) -> Result<(), Fail> {
+fn lengths_of(alloc: Global, endpoint: &mut Endpoint) -> Result<String, Fail> {
     append_longer(endpoint)?;
     let _end = endpoint.to_end();
     endpoint.direction(Direction::Backwards);
+    let mut out = String::new(alloc);
     for _ in 0..7 {
-        Step::NextInto(6).push_answer(alloc, endpoint, out)?;
-        Step::Plain(Call::Stands).push_answer(alloc, endpoint, out)?;
+        Step::NextInto(6).push_answer(alloc, endpoint, &mut out)?;
+        Step::Plain(Call::Stands).push_answer(alloc, endpoint, &mut out)?;
     }
-    Ok(())
+    Ok(out)
 }
 
-/// The same of a new queue, as text.
+/// The same of an endpoint of a new queue.
 fn lengths(alloc: Global) -> Result<String, Fail> {
     let mut endpoint = new_endpoint(alloc)?;
-    let mut out = String::new(alloc);
-    push_lengths(alloc, &mut endpoint, &mut out)?;
-    Ok(out)
+    lengths_of(alloc, &mut endpoint)
 }
 
 #[test]

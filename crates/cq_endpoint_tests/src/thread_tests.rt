@@ -55,12 +55,17 @@ fn work(alloc: Global, mut endpoint: Endpoint) -> u32 {
     done
 }
 
-/// What two threads did with an endpoint each.
-fn worked<R: Threads + Sync>(rt: &R, alloc: Global) -> Result<Vec<u32>, Fail> {
+/// Two endpoints of a new queue, which has room for all messages.
+fn endpoints(alloc: Global) -> Result<Vec<Endpoint>, Fail> {
     let config = config_of(alloc, Shape::new(16384, 64, 1)?, 1)?;
     let mut first = Endpoint::create(alloc, config, 0)?;
     let second = first.split()?;
-    let endpoints = vec![in alloc; first, second]?;
+    Ok(vec![in alloc; first, second]?)
+}
+
+/// What two threads did with an endpoint each.
+fn worked<R: Threads + Sync>(rt: &R, alloc: Global) -> Result<Vec<u32>, Fail> {
+    let endpoints = endpoints(alloc)?;
     Ok(map_vec(
         rt,
         endpoints,
