@@ -43,19 +43,34 @@ fn a_message_is_sent_by_an_endpoint(rt: HostRuntime) -> Result<(), Fail> {
     Ok(())
 }
 
-/// What is read of a new queue into rooms of so many bytes, one after the other.
-fn read_in_rooms(alloc: Global, sizes: &[usize]) -> Result<String, Fail> {
-    let mut out = String::new(alloc);
-    let mut endpoint = Endpoint::create(alloc, small_config(alloc, 4)?, 0)?;
+/// What an endpoint reads next into a room of so many bytes.
+fn push_read_in(
+    alloc: Global,
+    endpoint: &mut Endpoint,
+    size: usize,
+    out: &mut String,
+) -> Result<(), Fail> {
+    let mut room = Vec::from_elem(alloc, 0u8, size)?;
+    match read_in(endpoint, room.as_mut_slice()) {
+        Some(message) => Ok(out.push_str(str::from_utf8(message)?)?),
+        None => Ok(out.push_str("none ")?),
+    }
+}
+
+/// What an endpoint that appended a message reads into rooms of so many bytes, one after the other.
+fn rooms_text(alloc: Global, endpoint: &mut Endpoint, sizes: &[usize]) -> Result<String, Fail> {
     let _index = endpoint.append(0, b"hello")?;
+    let mut out = String::new(alloc);
     for size in sizes {
-        let mut room = Vec::from_elem(alloc, 0u8, *size)?;
-        match read_in(&mut endpoint, room.as_mut_slice()) {
-            Some(message) => out.push_str(str::from_utf8(message)?)?,
-            None => out.push_str("none ")?,
-        }
+        push_read_in(alloc, endpoint, *size, &mut out)?;
     }
     Ok(out)
+}
+
+/// The same of a new queue.
+fn read_in_rooms(alloc: Global, sizes: &[usize]) -> Result<String, Fail> {
+    let mut endpoint = Endpoint::create(alloc, small_config(alloc, 4)?, 0)?;
+    rooms_text(alloc, &mut endpoint, sizes)
 }
 
 #[test]
@@ -88,34 +103,85 @@ fn taken(alloc: Global, queue: &Queue, caller: &mut Caller) -> Result<String, Fa
     answer_text(alloc, taken)
 }
 
+/// What a tailer reads next, as text.
+fn next_text(alloc: Global, queue: &Queue, tailer: &mut Tailer) -> Result<String, Fail>
+    requires { IsOf queue.now tailer.old.caller }
+    ensures { IsOf queue.now tailer.new.caller }
+{
+    let read = next_message(alloc, queue, tailer)?;
+    answer_text(alloc, read)
+}
+
+/// What a caller reads first.
+fn first_text(alloc: Global, queue: &Queue, caller: Caller) -> Result<String, Fail>
+    requires of { IsOf queue.now caller }
+    requires claim { caller.view.claim ≡ None }
+{
+    let mut tailer = Tailer::new(caller);
+    next_text(alloc, queue, &mut tailer)
+}
+
+/// Appends "hello" by an appender that is split off a caller.
+fn append_hello(queue: &Queue, caller: &mut Caller)
+    requires { IsOf queue.now caller.old }
+    ensures of { IsOf queue.now caller.new }
+    ensures claim { caller.new.view.claim ≡ caller.old.view.claim }
+{
+    let appender = Appender::new(queue.split(caller));
+    let (_appender, _index) = append_written(queue, appender, 0, 20, b"hello");
+}
+
+/// What two threads and a caller that puts bytes make of a queue, and what is taken from it then.
+fn appended_and_taken<R: Threads + Wait + Sync>(
+    rt: &R,
+    alloc: Global,
+    queue: &Queue,
+    caller: &mut Caller,
+) -> Result<(bool, bool, Option<Index>, String), Fail>
+    requires { IsOf queue.now caller.old }
+{
+    let (one, two, index) = appended(rt, queue, caller);
+    let text = taken(alloc, queue, caller)?;
+    Ok((one, two, index, text))
+}
+
+/// The same of a new queue.
+fn new_queue_taken<R: Threads + Wait + Sync>(
+    rt: &R,
+    alloc: Global,
+) -> Result<(bool, bool, Option<Index>, String), Fail> {
+    let (queue, mut caller) = Queue::create(alloc, small_config(alloc, 4)?, 0)?;
+    appended_and_taken(rt, alloc, &queue, &mut caller)
+}
+
+#[test]
+fn threads_append_and_one_message_is_taken(rt: HostRuntime) -> Result<(), Fail> {
+    let (one, two, index, taken) = new_queue_taken(&rt, rt.alloc())?;
+    assert_eq!(rt;
+        (one, two, index, taken.as_str()),
+        (true, true, Some(Index::new(0, 2)), "0 hello")
+    );
+    Ok(())
+}
+
 /// What is read first of a queue that was stopped and opened again.
 fn read_again(alloc: Global, queue: Queue, caller: Caller) -> Result<String, Fail>
     requires { IsOf queue caller }
 {
     let (queue, caller) = reopened(alloc, small_config(alloc, 4)?, queue, caller)?;
-    let mut tailer = Tailer::new(caller);
-    let read = next_message(alloc, &queue, &mut tailer)?;
-    answer_text(alloc, read)
+    first_text(alloc, &queue, caller)
 }
 
-#[test]
-fn threads_append_and_one_message_is_taken(rt: HostRuntime) -> Result<(), Fail> {
-    let alloc = rt.alloc();
+/// The same of a new queue with one message.
+fn new_queue_again(alloc: Global) -> Result<String, Fail> {
     let (queue, mut caller) = Queue::create(alloc, small_config(alloc, 4)?, 0)?;
-    let (one, two, index) = appended(&rt, &queue, &mut caller);
-    assert!(rt; one && two);
-    assert_eq!(rt; index, Some(Index::new(0, 2)));
-    assert_eq!(rt; taken(alloc, &queue, &mut caller)?.as_str(), "0 hello");
-    Ok(())
+    append_hello(&queue, &mut caller);
+    read_again(alloc, queue, caller)
 }
 
 #[test]
 fn a_queue_is_opened_again(rt: HostRuntime) -> Result<(), Fail> {
-    let alloc = rt.alloc();
-    let (queue, mut caller) = Queue::create(alloc, small_config(alloc, 4)?, 0)?;
-    let appender = Appender::new(queue.split(&mut caller));
-    let (_appender, _index) = append_written(&queue, appender, 0, 20, b"hello");
-    assert_eq!(rt; read_again(alloc, queue, caller)?.as_str(), "0 hello");
+    assert_eq!(rt; new_queue_again(rt.alloc())?.as_str(), "0 hello");
     Ok(())
 }
 
@@ -126,18 +192,31 @@ fn read_copy(alloc: Global, queue: &Queue, caller: Caller) -> Result<String, Fai
 {
     let mut tailer = Tailer::new(caller);
     let (copy, caller) = copied(alloc, small_config(alloc, 4)?, queue, &mut tailer)?;
-    let mut reader = Tailer::new(caller);
-    let read = next_message(alloc, &copy, &mut reader)?;
-    answer_text(alloc, read)
+    first_text(alloc, &copy, caller)
+}
+
+/// The same of a new queue with one message.
+fn new_queue_copy(alloc: Global) -> Result<String, Fail> {
+    let (queue, mut caller) = Queue::create(alloc, small_config(alloc, 4)?, 0)?;
+    append_hello(&queue, &mut caller);
+    read_copy(alloc, &queue, caller)
 }
 
 #[test]
 fn a_queue_is_copied(rt: HostRuntime) -> Result<(), Fail> {
-    let alloc = rt.alloc();
-    let (queue, mut caller) = Queue::create(alloc, small_config(alloc, 4)?, 0)?;
-    let appender = Appender::new(queue.split(&mut caller));
-    let (_appender, _index) = append_written(&queue, appender, 0, 20, b"hello");
-    assert_eq!(rt; read_copy(alloc, &queue, caller)?.as_str(), "0 hello");
+    assert_eq!(rt; new_queue_copy(rt.alloc())?.as_str(), "0 hello");
+    Ok(())
+}
+
+/// Appends "old" and, in a later cycle, "new", by an appender that is split off a caller.
+fn append_old_and_new(queue: &Queue, caller: &mut Caller) -> Result<(), Fail>
+    requires { IsOf queue.now caller.old }
+    ensures of { IsOf queue.now caller.new }
+    ensures claim { caller.new.view.claim ≡ caller.old.view.claim }
+{
+    let mut appender = Appender::new(queue.split(caller));
+    let _old = appender.append(queue, 0, b"old")?;
+    let _new = appender.append(queue, 5 * DAY, b"new")?;
     Ok(())
 }
 
@@ -149,18 +228,19 @@ fn read_behind(alloc: Global, queue: &Queue, caller: Caller) -> Result<(u32, Str
     let mut tailer = Tailer::new(caller);
     let floor = drop_old(queue, &mut tailer, 0);
     tailer.to_start();
-    let read = next_message(alloc, queue, &mut tailer)?;
-    Ok((floor, answer_text(alloc, read)?))
+    Ok((floor, next_text(alloc, queue, &mut tailer)?))
+}
+
+/// The same of a new queue with a message in each of two cycles.
+fn new_queue_behind(alloc: Global) -> Result<(u32, String), Fail> {
+    let (queue, mut caller) = Queue::create(alloc, small_config(alloc, 4)?, 0)?;
+    append_old_and_new(&queue, &mut caller)?;
+    read_behind(alloc, &queue, caller)
 }
 
 #[test]
 fn old_cycles_are_dropped(rt: HostRuntime) -> Result<(), Fail> {
-    let alloc = rt.alloc();
-    let (queue, mut caller) = Queue::create(alloc, small_config(alloc, 4)?, 0)?;
-    let mut appender = Appender::new(queue.split(&mut caller));
-    assert!(rt; appender.append(&queue, 0, b"old").is_ok());
-    assert!(rt; appender.append(&queue, 5 * DAY, b"new").is_ok());
-    let (floor, read) = read_behind(alloc, &queue, caller)?;
+    let (floor, read) = new_queue_behind(rt.alloc())?;
     assert_eq!(rt; (floor, read.as_str()), (5, "21474836480 new"));
     Ok(())
 }

@@ -14,6 +14,17 @@ pub fn sent(
 ) -> Result<Option<(Index, Message)>, Fail> {
     let mut one = Endpoint::create(alloc, config, moment)?;
     let mut other = one.split()?;
+    pass_on(alloc, &mut one, &mut other, moment, bytes)
+}
+
+/// Appends a message by one endpoint, and reads the next one by another.
+fn pass_on(
+    alloc: Global,
+    one: &mut Endpoint,
+    other: &mut Endpoint,
+    moment: u64,
+    bytes: &[u8],
+) -> Result<Option<(Index, Message)>, Fail> {
     let _index = one.append(moment, bytes)?;
     match other.next(alloc)? {
         Found::Message(index, message) => Ok(Some((index, message))),

@@ -20,8 +20,23 @@ pub fn append_then_read(
     let (queue, mut caller) = Queue::create(alloc, config, moment)?;
     let mut appender = Appender::new(queue.split(&mut caller));
     let mut tailer = Tailer::new(caller);
-    let _index = appender.append(&queue, moment, bytes)?;
-    Ok(next_message(alloc, &queue, &mut tailer)?)
+    append_and_read(alloc, &queue, &mut appender, &mut tailer, moment, bytes)
+}
+
+/// Appends a message by an appender, and reads the next one by a tailer.
+fn append_and_read(
+    alloc: Global,
+    queue: &Queue,
+    appender: &mut Appender,
+    tailer: &mut Tailer,
+    moment: u64,
+    bytes: &[u8],
+) -> Result<Option<(Index, Message)>, Fail>
+    requires appender { IsOf queue.now appender.old }
+    requires tailer { IsOf queue.now tailer.old.caller }
+{
+    let _index = appender.append(queue, moment, bytes)?;
+    Ok(next_message(alloc, queue, tailer)?)
 }
 
 /// Appends a message of which no more than its greatest length is known beforehand. Answers the appender, and the index of the
