@@ -176,27 +176,45 @@ fn count_back(
     Ok(0)
 }
 
-/// How many messages are read forwards and how many of them backwards, and what comes before them.
+/// How many messages are appended and read forwards, how many of them backwards, and what comes before them.
+fn ways_text(
+    alloc: Global,
+    queue: &Queue,
+    appender: &mut Appender,
+    tailer: &mut Tailer,
+) -> Result<String, Fail>
+    requires writer { IsOf queue.now appender.old }
+    requires reader { IsOf queue.now tailer.old.caller }
+{
+    let appended = append_all(queue, appender);
+    let all = read_all(alloc, queue, tailer)?;
+    let forwards = all.len();
+    let backwards = count_back(alloc, queue, appender, tailer, all)?;
+    let before = tailer.next(alloc, queue)?;
+    Ok(format!(in alloc; "{appended} {forwards} {backwards} {before:?}")?)
+}
+
+/// The same of an appender and a tailer that are made of a caller.
 fn back_text(alloc: Global, queue: &Queue, mut caller: Caller) -> Result<String, Fail>
     requires of { IsOf queue.now caller }
     requires claim { caller.view.claim ≡ None }
 {
     let mut appender = Appender::new(queue.split(&mut caller));
-    let appended = append_all(queue, &mut appender);
     let mut tailer = Tailer::new(caller);
-    let all = read_all(alloc, queue, &mut tailer)?;
-    let forwards = all.len();
-    let backwards = count_back(alloc, queue, &mut appender, &mut tailer, all)?;
-    let before = tailer.next(alloc, queue)?;
-    Ok(format!(in alloc; "{appended} {forwards} {backwards} {before:?}")?)
+    ways_text(alloc, queue, &mut appender, &mut tailer)
+}
+
+/// The same of a new queue whose index has an entry for each so many messages.
+fn new_queue_text(alloc: Global, spacing: u32) -> Result<String, Fail> {
+    let config = config_of(alloc, Shape::new(16384, 256, spacing)?, 4)?;
+    let (queue, caller) = Queue::create(alloc, config, 0)?;
+    back_text(alloc, &queue, caller)
 }
 
 #[test]
 fn what_is_read_forwards_is_read_backwards(rt: HostRuntime) -> Result<(), Fail> {
     for spacing in [1, 16, 256] {
-        let config = config_of(rt.alloc(), Shape::new(16384, 256, spacing)?, 4)?;
-        let (queue, caller) = Queue::create(rt.alloc(), config, 0)?;
-        let text = back_text(rt.alloc(), &queue, caller)?;
+        let text = new_queue_text(rt.alloc(), spacing)?;
         assert_eq!(rt; text.as_str(), "true 3900 3900 BeforeStart");
     }
     Ok(())

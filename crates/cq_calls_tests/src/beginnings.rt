@@ -41,3 +41,11 @@ pub fn is_beginning(lists: &[CycleList], later: &[CycleList]) -> bool {
     }
     true
 }
+
+/// Whether these cycles are how later ones begin, where there are any.
+pub fn is_some_beginning(lists: &Option<Vec<CycleList>>, later: &[CycleList]) -> bool {
+    match lists {
+        Some(lists) => is_beginning(lists.as_slice(), later),
+        None => false,
+    }
+}

@@ -5,9 +5,9 @@ ghost use Rattle.cq_words.specs.Values.{IsOf};
 
 use cq_append::{Appender, Writing};
 use cq_fixtures::{DAY, contents_text, small_config};
-use cq_shown::recover;
+use cq_shown::{Stopped, recover};
 use cq_tail::{Found, Tailer};
-use cq_words::Queue;
+use cq_words::{Caller, Queue};
 use std::alloc::{AllocError, Global};
 use std::sync::Wait;
 use std::sync::atomic::{AtomicU64, Ordering};
@@ -105,20 +105,20 @@ fn read_hello(alloc: Global, queue: &Queue, tailer: &mut Tailer) -> Result<Optio
 type Beside = Result<(bool, Option<u64>), AllocError>;
 
 /// What a reader beside "hello" finds.
-fn read_beside(alloc: Global, queue: &Queue, mut tailer: Tailer, stage: &AtomicU64) -> Beside
-    requires { IsOf queue.now tailer.caller }
+fn read_beside(alloc: Global, queue: &Queue, tailer: &mut Tailer, stage: &AtomicU64) -> Beside
+    requires { IsOf queue.now tailer.old.caller }
 {
     if !has_come(stage, BEGUN) {
         return Ok((false, None));
     }
     // The writer goes on also where there was no memory.
-    let looked = reads_nothing(alloc, queue, &mut tailer);
+    let looked = reads_nothing(alloc, queue, tailer);
     stage.store(SEEN, Ordering::SeqCst);
     let is_nothing = looked?;
     if !has_come(stage, COMPLETED) {
         return Ok((is_nothing, None));
     }
-    Ok((is_nothing, read_hello(alloc, queue, &mut tailer)?))
+    Ok((is_nothing, read_hello(alloc, queue, tailer)?))
 }
 
 /// What the writer of "hello" and a reader beside it answer. Answers `AllocError` where no thread could be made.
@@ -127,7 +127,7 @@ fn beside_claim<R: Threads + Wait + Sync>(
     alloc: Global,
     queue: &Queue,
     appender: Appender,
-    tailer: Tailer,
+    mut tailer: Tailer,
     stage: &AtomicU64,
 ) -> Result<(Option<u64>, Beside), AllocError>
     requires appender { IsOf queue.now appender }
@@ -142,7 +142,7 @@ fn beside_claim<R: Threads + Wait + Sync>(
             let reader = scope.spawn(
                 move || -> Beside
                     requires { IsOf queue.now tailer.caller }
-                { read_beside(alloc, queue, tailer, stage) },
+                { read_beside(alloc, queue, &mut tailer, stage) },
             )?;
             let written = write_hello(queue, appender, stage);
             Ok((written, reader.join(rt)))
@@ -150,14 +150,26 @@ fn beside_claim<R: Threads + Wait + Sync>(
     )
 }
 
-/// The same of a new queue, as text.
+/// The same of an appender and a tailer that are split off a caller, as text.
+fn beside_text<R: Threads + Wait + Sync>(
+    rt: &R,
+    alloc: Global,
+    queue: &Queue,
+    caller: &mut Caller,
+) -> Result<String, Fail>
+    requires { IsOf queue.now caller.old }
+{
+    let appender = Appender::new(queue.split(caller));
+    let tailer = Tailer::new(queue.split(caller));
+    let stage = AtomicU64::new(0);
+    let answers = beside_claim(rt, alloc, queue, appender, tailer, &stage)?;
+    Ok(format!(in alloc; "{answers:?}")?)
+}
+
+/// The same of a new queue.
 fn beside_claim_text<R: Threads + Wait + Sync>(rt: &R, alloc: Global) -> Result<String, Fail> {
     let (queue, mut caller) = Queue::create(alloc, small_config(alloc, 1)?, 0)?;
-    let appender = Appender::new(queue.split(&mut caller));
-    let tailer = Tailer::new(queue.split(&mut caller));
-    let stage = AtomicU64::new(0);
-    let answers = beside_claim(rt, alloc, &queue, appender, tailer, &stage)?;
-    Ok(format!(in alloc; "{answers:?}")?)
+    beside_text(rt, alloc, &queue, &mut caller)
 }
 
 #[test]
@@ -203,16 +215,22 @@ fn both_roll<R: Threads + Wait + Sync>(
     )
 }
 
+/// What a stopped queue holds, where both appended.
+fn held_text(alloc: Global, appended: (bool, bool), stopped: &Stopped) -> Result<String, Fail> {
+    if appended != (true, true) {
+        return Ok(String::from_str(alloc, "refused")?);
+    }
+    let contents = recover(alloc, stopped)?;
+    contents_text(alloc, &contents)
+}
+
 /// The contents of a new queue once both have appended, as text.
 fn rolled_text<R: Threads + Wait + Sync>(rt: &R, alloc: Global) -> Result<String, Fail> {
     let (queue, mut caller) = Queue::create(alloc, small_config(alloc, 4)?, 0)?;
     let one = Appender::new(queue.split(&mut caller));
     let two = Appender::new(queue.split(&mut caller));
-    if both_roll(rt, &queue, one, two) != (true, true) {
-        return Ok(String::from_str(alloc, "refused")?);
-    }
-    let contents = recover(alloc, &queue.stop(caller))?;
-    contents_text(alloc, &contents)
+    let appended = both_roll(rt, &queue, one, two);
+    held_text(alloc, appended, &queue.stop(caller))
 }
 
 /// What a queue may hold once both have appended.

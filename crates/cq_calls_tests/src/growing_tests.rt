@@ -2,14 +2,14 @@
 
 ghost use Rattle.cq_words.specs.Values.{IsOf};
 
-use crate::beginnings::is_beginning;
+use crate::beginnings::{is_beginning, is_some_beginning};
 use crate::lives::Cycles;
 use crate::thread_tests::both_append;
 use cq_append::Appender;
 use cq_fixtures::{config_of, contents_of};
 use cq_layout::Shape;
-use cq_model::{Config, CycleList};
-use cq_shown::recover;
+use cq_model::CycleList;
+use cq_shown::{Stopped, recover};
 use cq_tail::Tailer;
 use cq_words::{Caller, Queue};
 use std::alloc::Global;
@@ -91,31 +91,34 @@ fn count_of(lists: &[CycleList]) -> usize {
     count
 }
 
-/// Of a new queue: whether each writer appended all its messages, whether each snapshot began the next one, and the last one what
-/// the queue held once it was stopped, and how many cycles and messages that had.
-fn grown_text<R: Threads + Wait + Sync>(
-    rt: &R,
+/// Whether each writer appended all its messages, whether the last snapshot began what the queue held once it was stopped, and how
+/// many cycles and messages that had.
+fn held_text(
     alloc: Global,
-    config: Config,
+    all: (bool, bool),
+    last: &Option<Vec<CycleList>>,
+    stopped: &Stopped,
 ) -> Result<String, Fail> {
-    let (queue, mut caller) = Queue::create(alloc, config, 0)?;
-    let (all, last) = snapshots_beside(rt, alloc, &queue, &mut caller);
-    let contents = recover(alloc, &queue.stop(caller))?;
+    let contents = recover(alloc, stopped)?;
     let lists = contents.lists.as_slice();
-    let begins = match last {
-        Some(last) => is_beginning(last.as_slice(), lists),
-        None => false,
-    };
+    let begins = is_some_beginning(last, lists);
     let cycles = lists.len();
     let count = count_of(lists);
     Ok(format!(in alloc; "{all:?}; {begins}; {cycles} {count}")?)
 }
 
+/// The same of a new queue, and whether each snapshot began the next one.
+fn grown_text<R: Threads + Wait + Sync>(rt: &R, alloc: Global) -> Result<String, Fail> {
+    let config = config_of(alloc, Shape::new(4096, 64, 1)?, DAYS)?;
+    let (queue, mut caller) = Queue::create(alloc, config, 0)?;
+    let (all, last) = snapshots_beside(rt, alloc, &queue, &mut caller);
+    held_text(alloc, all, &last, &queue.stop(caller))
+}
+
 #[test]
 fn each_snapshot_begins_the_next(rt: HostRuntime) -> Result<(), Fail> {
     for _ in 0..50u32 {
-        let config = config_of(rt.alloc(), Shape::new(4096, 64, 1)?, DAYS)?;
-        let text = grown_text(&rt, rt.alloc(), config)?;
+        let text = grown_text(&rt, rt.alloc())?;
         assert_eq!(rt; text.as_str(), "(true, true); true; 4 200");
     }
     Ok(())

@@ -4,7 +4,7 @@ use crate::queues::{Call, Fixture};
 use cq_fixtures::{contents_of, contents_text, small_config};
 use cq_journal::Journal;
 use cq_model::{Config, Contents};
-use cq_shown::{CreateError, Stopped};
+use cq_shown::{CreateError, Stopped, recover};
 use cq_words::Queue;
 use std::alloc::{AllocError, Global};
 use std::process::Abort;
@@ -81,9 +81,14 @@ pub struct Life {
 }
 
 impl Life {
+    /// A queue that begins so.
+    fn fixture(&self, alloc: Global) -> Result<Fixture, Fail> {
+        Ok(self.start.queue(alloc, small_config(alloc, self.cycles)?)?)
+    }
+
     /// What is answered from its start to its end.
     fn push_answers(&self, alloc: Global, out: &mut String) -> Result<(), Fail> {
-        let mut fixture = self.start.queue(alloc, small_config(alloc, self.cycles)?)?;
+        let mut fixture = self.fixture(alloc)?;
         fixture.answers(alloc, self.calls, out)?;
         self.push_end(alloc, fixture, out)
     }
@@ -92,25 +97,35 @@ impl Life {
     fn push_end(&self, alloc: Global, fixture: Fixture, out: &mut String) -> Result<(), Fail> {
         match self.end {
             End::Dropped => Ok(()),
-            End::Stopped => push_contents(alloc, &fixture.into_contents(alloc)?, out),
+            End::Stopped => push_held(alloc, &fixture.stop(), out),
             End::Cells(from) => push_cells(&fixture.stop(), from, out),
-            End::Reopened(calls) => {
-                self.push_again(alloc, &fixture.into_contents(alloc)?, calls, out)
-            }
+            End::Reopened(calls) => self.push_again(alloc, &fixture.stop(), calls, out),
         }
     }
 
-    /// What calls answer of the queue once it was opened again with contents.
+    /// The queue, opened again with what it held when it was stopped.
+    fn opened_again(&self, alloc: Global, stopped: &Stopped) -> Result<Fixture, Fail> {
+        let contents = recover(alloc, stopped)?;
+        Ok(reopened(alloc, small_config(alloc, self.cycles)?, &contents)?)
+    }
+
+    /// What calls answer of the queue once it was stopped and opened again.
     fn push_again(
         &self,
         alloc: Global,
-        contents: &Contents,
+        stopped: &Stopped,
         calls: &[Call],
         out: &mut String,
     ) -> Result<(), Fail> {
-        let mut fixture = reopened(alloc, small_config(alloc, self.cycles)?, contents)?;
+        let mut fixture = self.opened_again(alloc, stopped)?;
         fixture.answers(alloc, calls, out)
     }
+}
+
+/// What a stopped queue holds.
+fn push_held(alloc: Global, stopped: &Stopped, out: &mut String) -> Result<(), Fail> {
+    let contents = recover(alloc, stopped)?;
+    push_contents(alloc, &contents, out)
 }
 
 /// Contents as text.

@@ -4,7 +4,7 @@
 ghost use Rattle.std.specs.Prelude.{◌≡◌, None};
 ghost use Rattle.cq_words.specs.Values.{IsOf};
 
-use crate::beginnings::is_beginning;
+use crate::beginnings::is_some_beginning;
 use crate::growing_tests::next_snapshot;
 use crate::lives::Cycles;
 use crate::thread_tests::both_append;
@@ -231,14 +231,6 @@ fn are_all(contents: &Contents, taken: &[u64]) -> bool {
         }
     }
     next == taken.len()
-}
-
-/// Whether these cycles are how later ones begin, where there are any.
-fn is_some_beginning(lists: &Option<Vec<CycleList>>, later: &[CycleList]) -> bool {
-    match lists {
-        Some(lists) => is_beginning(lists.as_slice(), later),
-        None => false,
-    }
 }
 
 /// What five callers saw beside what the stopped queue held: whether each of the writers appended all its messages, whether the
