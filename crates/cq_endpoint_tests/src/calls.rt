@@ -2,6 +2,7 @@
 use cq_cycle::Index;
 use cq_endpoint::{At, Direction, Endpoint, Found, Sought, Take};
 use cq_fixtures::{lists_text, message_text};
+use cq_model::Message;
 use std::alloc::{AllocError, Global};
 use std::fmt::Debug;
 use std::test::Fail;
@@ -60,20 +61,30 @@ fn push_number<E: Debug>(answer: &Result<u64, E>, out: &mut String) -> Result<()
     }
 }
 
+/// A message that is read or taken.
+fn push_message(
+    alloc: Global,
+    index: Index,
+    message: &Message,
+    out: &mut String,
+) -> Result<(), Fail> {
+    let text = message_text(alloc, index, message)?;
+    Ok(out.push_str(text.as_str())?)
+}
+
 /// What is read next.
 fn push_found(
     alloc: Global,
     answer: &Result<Found, AllocError>,
     out: &mut String,
 ) -> Result<(), Fail> {
-    match answer {
-        Ok(Found::Message(index, message)) => {
-            Ok(out.push_str(message_text(alloc, *index, message)?.as_str())?)
-        }
-        Ok(Found::NotYet) => Ok(out.push_str("NotYet")?),
-        Ok(Found::BeforeStart) => Ok(out.push_str("BeforeStart")?),
-        Err(fault) => Ok(push_shown(fault, out)?),
-    }
+    let word = match answer {
+        Ok(Found::Message(index, message)) => return push_message(alloc, *index, message, out),
+        Ok(Found::NotYet) => "NotYet",
+        Ok(Found::BeforeStart) => "BeforeStart",
+        Err(fault) => return Ok(push_shown(fault, out)?),
+    };
+    Ok(out.push_str(word)?)
 }
 
 /// What is read at an index.
@@ -83,15 +94,14 @@ fn push_at(
     answer: &Result<At, AllocError>,
     out: &mut String,
 ) -> Result<(), Fail> {
-    match answer {
-        Ok(At::Message(message)) => {
-            Ok(out.push_str(message_text(alloc, index, message)?.as_str())?)
-        }
-        Ok(At::NotYet) => Ok(out.push_str("NotYet")?),
-        Ok(At::Never) => Ok(out.push_str("Never")?),
-        Ok(At::Gone) => Ok(out.push_str("Gone")?),
-        Err(fault) => Ok(push_shown(fault, out)?),
-    }
+    let word = match answer {
+        Ok(At::Message(message)) => return push_message(alloc, index, message, out),
+        Ok(At::NotYet) => "NotYet",
+        Ok(At::Never) => "Never",
+        Ok(At::Gone) => "Gone",
+        Err(fault) => return Ok(push_shown(fault, out)?),
+    };
+    Ok(out.push_str(word)?)
 }
 
 /// What is taken.
@@ -101,9 +111,7 @@ fn push_taken<E: Debug>(
     out: &mut String,
 ) -> Result<(), Fail> {
     match answer {
-        Ok(Take::Taken(index, message)) => {
-            Ok(out.push_str(message_text(alloc, *index, message)?.as_str())?)
-        }
+        Ok(Take::Taken(index, message)) => push_message(alloc, *index, message, out),
         Ok(Take::NotYet) => Ok(out.push_str("NotYet")?),
         Ok(Take::Moved(position)) => Ok(write!(out, "Moved {position}")?),
         Err(fault) => Ok(push_shown(fault, out)?),

@@ -58,6 +58,23 @@ fn push_room(room: &[u8], out: &mut String) -> Result<(), Fail> {
 }
 
 impl Step {
+    /// What a read into a room answers.
+    fn push_read(
+        self,
+        endpoint: &mut Endpoint,
+        room: &mut [u8],
+        out: &mut String,
+    ) -> Result<(), AllocError> {
+        match self {
+            Step::Plain(_) => out.push_str("no read"),
+            Step::NextInto(_) => push_found(&endpoint.next_into(room), out),
+            Step::ReadAtInto(index, _) => {
+                push_at(&endpoint.read_at_into(Index::of_value(index), room), out)
+            }
+            Step::TakeInto(name, _) => push_taken(&endpoint.take_into(name, room), out),
+        }
+    }
+
     /// What this call of an endpoint answers.
     pub fn push_answer(
         self,
@@ -67,20 +84,9 @@ impl Step {
     ) -> Result<(), Fail> {
         match self {
             Step::Plain(call) => call.push_answer(alloc, endpoint, out),
-            Step::NextInto(size) => {
+            Step::NextInto(size) | Step::ReadAtInto(_, size) | Step::TakeInto(_, size) => {
                 let mut room = Vec::from_elem(alloc, b'.', size)?;
-                push_found(&endpoint.next_into(room.as_mut_slice()), out)?;
-                push_room(room.as_slice(), out)
-            }
-            Step::ReadAtInto(index, size) => {
-                let mut room = Vec::from_elem(alloc, b'.', size)?;
-                let index = Index::of_value(index);
-                push_at(&endpoint.read_at_into(index, room.as_mut_slice()), out)?;
-                push_room(room.as_slice(), out)
-            }
-            Step::TakeInto(name, size) => {
-                let mut room = Vec::from_elem(alloc, b'.', size)?;
-                push_taken(&endpoint.take_into(name, room.as_mut_slice()), out)?;
+                self.push_read(endpoint, room.as_mut_slice(), out)?;
                 push_room(room.as_slice(), out)
             }
         }

@@ -1,4 +1,5 @@
 //! Endpoints in threads: no closure asks for anything.
+use crate::new_queues::two_of;
 use cq_endpoint::{AppendFault, Endpoint, Found};
 use cq_fixtures::config_of;
 use cq_layout::{Refusal, Shape};
@@ -58,8 +59,7 @@ fn work(alloc: Global, mut endpoint: Endpoint) -> u32 {
 /// Two endpoints of a new queue, which has room for all messages.
 fn endpoints(alloc: Global) -> Result<Vec<Endpoint>, Fail> {
     let config = config_of(alloc, Shape::new(16384, 64, 1)?, 1)?;
-    let mut first = Endpoint::create(alloc, config, 0)?;
-    let second = first.split()?;
+    let (first, second) = two_of(alloc, config)?;
     Ok(vec![in alloc; first, second]?)
 }
 
