@@ -92,14 +92,42 @@ fn changes(alloc: Global, files: &[(&str, &[u8])]) -> Result<Vec<NewFile>, Alloc
 
 /// What coming in, the list, a write, a read and a save of a folder answer, and how many calls failed, as text.
 fn calls_text<F: Folder>(alloc: Global, folder: &mut F) -> Result<String, AllocError> {
+    let mut text = String::new(alloc);
+    push_first_calls(alloc, folder, &mut text)?;
+    push_last_calls(alloc, folder, &mut text)?;
+    Ok(text)
+}
+
+/// Adds what coming in, the list and a write answer to a text.
+fn push_first_calls<F: Folder>(
+    alloc: Global,
+    folder: &mut F,
+    text: &mut String,
+) -> Result<(), AllocError> {
     let begun = folder.begin(alloc, Access::Alone);
-    let names = folder.names(alloc).map(|_names| ());
+    let names = list(alloc, folder);
     let write = folder.write("a", b"new".as_slice());
-    let read = read_text(alloc, folder, "b", 0)?;
-    let saved = folder.save(changes(alloc, &[("b", b"1"), ("c", b"2")])?.as_slice());
+    write!(text, "{begun:?}, {names:?}, {write:?}, ")
+}
+
+/// Lists the names of the files, and lets them go.
+fn list<F: Folder>(alloc: Global, folder: &mut F) -> Result<(), FolderFault> {
+    folder.names(alloc)?;
+    Ok(())
+}
+
+/// Adds what a read and a save answer to a text, and how many calls failed.
+fn push_last_calls<F: Folder>(
+    alloc: Global,
+    folder: &mut F,
+    text: &mut String,
+) -> Result<(), AllocError> {
+    text.push_str(read_text(alloc, folder, "b", 0)?.as_str())?;
+    let changes = changes(alloc, &[("b", b"1"), ("c", b"2")])?;
+    let saved = folder.save(changes.as_slice());
     folder.end();
     let failures = folder.failures();
-    format!(in alloc; "{begun:?}, {names:?}, {write:?}, {read}, {saved:?}, {failures} failed")
+    write!(text, ", {saved:?}, {failures} failed")
 }
 
 /// What the files `a`, `b` and `c` hold, as text.

@@ -87,11 +87,11 @@ fn said_beside<R>(
 where
     R: Files<File = File> + AllocGlobal + Clone + Drop,
 {
-    let mut said = said_at(rt, path, folder, step)?;
-    if said.as_str() != want && is_put_off(rt, path, folder, step, want)? {
-        said.push_str(" (put off, as for want of memory)")?;
+    let said = said_at(rt, path, folder, step)?;
+    if said.as_str() == want || !is_put_off(rt, path, folder, step, want)? {
+        return Ok(said);
     }
-    Ok(said)
+    Ok(format!(in rt.alloc(); "{said} (put off, as for want of memory)")?)
 }
 
 /// Whether what is wanted is said at a step in the folder at a path once a command has come in alone.
@@ -128,25 +128,22 @@ where
         Step::Link(name, to) => link(rt, path, name, to),
         Step::Make(name) => make(rt, path, name),
         Step::Many(count) => put_many(rt, path, count),
-        Step::Count => Ok(format!(in alloc; "{}", folder.names(alloc)?.len())?),
-        Step::Begin(access) => Ok(answer(alloc, folder.begin(alloc, access))?),
-        Step::End => {
-            folder.end();
-            Ok(String::new(alloc))
-        }
+        Step::Count => counted(alloc, folder),
+        Step::Begin(access) => answer(alloc, folder.begin(alloc, access)),
+        Step::End => ended(alloc, folder),
         Step::Save(files) => saved(alloc, folder, files),
-        Step::Write(name, text) => Ok(answer(alloc, folder.write(name, text.as_bytes()))?),
-        Step::Names => Ok(in_order(alloc, folder.names(alloc)?)?),
-        Step::Read(name) => Ok(text_of(alloc, folder, name)?),
+        Step::Write(name, text) => answer(alloc, folder.write(name, text.as_bytes())),
+        Step::Names => named(alloc, folder),
+        Step::Read(name) => text_of(alloc, folder, name),
         Step::Listed => listed(rt, path),
     }
 }
 
 /// Nothing where a call was done, or its error.
-fn answer<E: Debug + Drop>(alloc: Global, done: Result<(), E>) -> Result<String, AllocError> {
+fn answer<E: Debug + Drop>(alloc: Global, done: Result<(), E>) -> Result<String, Fail> {
     match done {
         Ok(()) => Ok(String::new(alloc)),
-        Err(error) => format!(in alloc; "{error:?}"),
+        Err(error) => Ok(format!(in alloc; "{error:?}")?),
     }
 }
 
@@ -157,7 +154,7 @@ fn put<R: Files + AllocGlobal>(rt: &R, path: &str, name: &str, text: &str) -> Re
 
 fn link<R: Files + AllocGlobal>(rt: &R, path: &str, name: &str, to: &str) -> Result<String, Fail> {
     let place = format!(in rt.alloc(); "{path}/{name}")?;
-    Ok(answer(rt.alloc(), rt.symlink(to, place.as_str()))?)
+    answer(rt.alloc(), rt.symlink(to, place.as_str()))
 }
 
 fn make<R: Files + AllocGlobal>(rt: &R, path: &str, name: &str) -> Result<String, Fail> {
@@ -185,14 +182,27 @@ fn saved<F: Folder>(alloc: Global, folder: &mut F, files: &[(&str, &str)]) -> Re
             bytes: Vec::from_slice(alloc, text.as_bytes())?,
         })?;
     }
-    Ok(answer(alloc, folder.save(changes.as_slice()))?)
+    answer(alloc, folder.save(changes.as_slice()))
+}
+
+fn counted<F: Folder>(alloc: Global, folder: &mut F) -> Result<String, Fail> {
+    Ok(format!(in alloc; "{}", folder.names(alloc)?.len())?)
+}
+
+fn ended<F: Folder>(alloc: Global, folder: &mut F) -> Result<String, Fail> {
+    folder.end();
+    Ok(String::new(alloc))
+}
+
+fn named<F: Folder>(alloc: Global, folder: &mut F) -> Result<String, Fail> {
+    Ok(in_order(alloc, folder.names(alloc)?)?)
 }
 
 /// The text of a file, or the fault of its read.
-fn text_of<F: Folder>(alloc: Global, folder: &mut F, name: &str) -> Result<String, AllocError> {
+fn text_of<F: Folder>(alloc: Global, folder: &mut F, name: &str) -> Result<String, Fail> {
     match folder.read(alloc, name, 100) {
-        Ok(bytes) => String::from_utf8_lossy(alloc, bytes.as_slice()),
-        Err(fault) => format!(in alloc; "{fault:?}"),
+        Ok(bytes) => Ok(String::from_utf8_lossy(alloc, bytes.as_slice())?),
+        Err(fault) => Ok(format!(in alloc; "{fault:?}")?),
     }
 }
 
@@ -211,10 +221,19 @@ fn in_order(alloc: Global, names: Vec<String>) -> Result<String, AllocError> {
 /// The names that the system lists.
 fn listed<R: Files + AllocGlobal + Clone + Drop>(rt: &R, path: &str) -> Result<String, Fail> {
     let mut names = Vec::new(rt.alloc());
+    push_names(rt, path, &mut names)?;
+    Ok(in_order(rt.alloc(), names)?)
+}
+
+/// Adds the names that the system lists to others.
+fn push_names<R>(rt: &R, path: &str, names: &mut Vec<String>) -> Result<(), Fail>
+where
+    R: Files + AllocGlobal + Clone + Drop,
+{
     for entry in fs::read_dir(rt, path)? {
         names.push(String::from_str(rt.alloc(), entry?.file_name())?)?;
     }
-    Ok(in_order(rt.alloc(), names)?)
+    Ok(())
 }
 
 /// A write replaces a file, and what an older write of this process left.
@@ -367,10 +386,23 @@ where
 {
     let file = format!(in rt.alloc(); "{path}/1.cqi")?;
     fs::write(rt, file.as_str(), "old")?;
-    let mut permissions = fs::metadata(rt, file.as_str())?.permissions();
-    permissions.set_readonly(true);
-    rt.set_permissions(file.as_str(), permissions)?;
-    let mut folder = RealFolder::new(rt, String::from_str(rt.alloc(), path)?, 7);
-    folder.write("1.cqi", b"new".as_slice())?;
+    make_unwritable(rt, file.as_str())?;
+    replace(rt, path)?;
     Ok(fs::metadata(rt, file.as_str())?.permissions().readonly())
+}
+
+/// Lets the file at a path be read alone.
+fn make_unwritable<R: Files + AllocGlobal>(rt: &R, path: &str) -> Result<(), Fail> {
+    let mut permissions = fs::metadata(rt, path)?.permissions();
+    permissions.set_readonly(true);
+    Ok(rt.set_permissions(path, permissions)?)
+}
+
+/// Replaces a file in the folder at a path.
+fn replace<R>(rt: &R, path: &str) -> Result<(), Fail>
+where
+    R: Files<File = File> + AllocGlobal + Clone + Drop,
+{
+    let mut folder = RealFolder::new(rt, String::from_str(rt.alloc(), path)?, 7);
+    Ok(folder.write("1.cqi", b"new".as_slice())?)
 }

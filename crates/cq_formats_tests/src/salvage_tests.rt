@@ -4,8 +4,8 @@ use crate::image_tests::{
     outcome,
 };
 use crate::wanted::expect_text;
-use cq_image::{Salvaged, salvage};
-use cq_layout::Shape;
+use cq_image::{ImageFault, Salvaged, salvage};
+use cq_layout::{Messages, Shape};
 use std::alloc::Global;
 use std::str;
 use std::test::Fail;
@@ -14,14 +14,25 @@ use std::test::Fail;
 fn saved(alloc: Global, cycle: u32, shape: Shape, bytes: &[u8]) -> Result<String, Fail> {
     let Salvaged { messages, fault } = salvage(alloc, cycle, shape, bytes)?;
     let mut text = String::new(alloc);
-    let messages = messages.messages();
+    push_messages(&messages.messages(), &mut text)?;
+    push_fault(fault, &mut text)?;
+    Ok(text)
+}
+
+/// Adds each message to a text, with a space behind it.
+fn push_messages(messages: &Messages<'_>, text: &mut String) -> Result<(), Fail> {
     for sequence in 0..messages.len() {
         text.push_str(str::from_utf8(messages.bytes(sequence))?)?;
         text.push_str(" ")?;
     }
+    Ok(())
+}
+
+/// Adds a fault to a text, or `whole`.
+fn push_fault(fault: Option<ImageFault>, text: &mut String) -> Result<(), Fail> {
     match fault {
-        Some(fault) => Ok(format!(in alloc; "{text}{fault}")?),
-        None => Ok(format!(in alloc; "{text}whole")?),
+        Some(fault) => Ok(write!(text, "{fault}")?),
+        None => Ok(text.push_str("whole")?),
     }
 }
 
