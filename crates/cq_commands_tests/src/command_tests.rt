@@ -1,6 +1,7 @@
 //! What the commands do and print.
-use crate::steps::{DAY, Step, expect, said_by};
+use crate::steps::{DAY, Step, expect, push_said, said_by};
 use crate::streams::said;
+use crate::wanted::expect_text;
 use cq_commands::{InitSettings, Order, run};
 use cq_folder::{Folder, MemoryFolder};
 use std::alloc::{AllocError, Global};
@@ -39,7 +40,7 @@ static KEPT: [(Step, &str); 11] = [
 
 #[test]
 fn keeps_what_was_written(rt: HostRuntime) -> Result<(), Fail> {
-    expect(&rt, &KEPT)
+    expect(rt.alloc(), &KEPT)
 }
 
 static ROLLED: [(Step, &str); 8] = [
@@ -62,7 +63,7 @@ static ROLLED: [(Step, &str); 8] = [
 
 #[test]
 fn rolls_once_for_all_lines(rt: HostRuntime) -> Result<(), Fail> {
-    expect(&rt, &ROLLED)
+    expect(rt.alloc(), &ROLLED)
 }
 
 /// With "a" in cycle 0, and "b", "c" and "d" in cycle 5.
@@ -103,7 +104,7 @@ static READ: [(Step, &str); 11] = [
 
 #[test]
 fn reads_forwards_and_backwards(rt: HostRuntime) -> Result<(), Fail> {
-    expect(&rt, &READ)
+    expect(rt.alloc(), &READ)
 }
 
 static NO_INDEX: [(Step, &str); 9] = [
@@ -120,7 +121,7 @@ static NO_INDEX: [(Step, &str); 9] = [
 
 #[test]
 fn takes_no_other_index(rt: HostRuntime) -> Result<(), Fail> {
-    expect(&rt, &NO_INDEX)
+    expect(rt.alloc(), &NO_INDEX)
 }
 
 static BEGUN: [(Step, &str); 5] = [
@@ -133,7 +134,7 @@ static BEGUN: [(Step, &str); 5] = [
 
 #[test]
 fn begins_a_cycle_without_lines(rt: HostRuntime) -> Result<(), Fail> {
-    expect(&rt, &BEGUN)
+    expect(rt.alloc(), &BEGUN)
 }
 
 static DUMPED: [(Step, &str); 7] = [
@@ -156,7 +157,7 @@ static DUMPED: [(Step, &str); 7] = [
 
 #[test]
 fn dumps_records(rt: HostRuntime) -> Result<(), Fail> {
-    expect(&rt, &DUMPED)
+    expect(rt.alloc(), &DUMPED)
 }
 
 /// An order, as far as it says more than that it is for a folder.
@@ -258,9 +259,15 @@ fn ran<F: Folder>(alloc: Global, folder: &mut F, order: &Order) -> Result<String
 fn ran_behind(alloc: Global, before: &[Step], asked: Asked) -> Result<String, Fail> {
     let mut folder = MemoryFolder::new(alloc);
     said_by(alloc, &mut folder, before)?;
-    let ran = ran(alloc, &mut folder, &order_of(alloc, asked)?)?;
-    let checked = said_by(alloc, &mut folder, &[Step::Check])?;
-    Ok(format!(in alloc; "{ran}|{checked}")?)
+    said_asked(alloc, &mut folder, asked)
+}
+
+/// What an order writes over a folder, and what `check` says then.
+fn said_asked<F: Folder>(alloc: Global, folder: &mut F, asked: Asked) -> Result<String, Fail> {
+    let mut text = ran(alloc, folder, &order_of(alloc, asked)?)?;
+    text.push_str("|")?;
+    push_said(alloc, folder, &[Step::Check], &mut text)?;
+    Ok(text)
 }
 
 /// A queue with "hello" in cycle 1.
@@ -322,8 +329,8 @@ static ORDERS: [(&[Step], Asked, &str); 13] = [
 
 #[test]
 fn runs_orders(rt: HostRuntime) -> Result<(), Fail> {
-    for (before, asked, want) in ORDERS {
-        assert_eq!(rt; ran_behind(rt.alloc(), before, asked)?.as_str(), want);
+    for &(before, asked, want) in &ORDERS {
+        expect_text(ran_behind(rt.alloc(), before, asked)?, want)?;
     }
     Ok(())
 }

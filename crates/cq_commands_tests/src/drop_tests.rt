@@ -39,7 +39,7 @@ static RETAINED: [(Step, &str); 12] = [
 
 #[test]
 fn passes_over_old_days(rt: HostRuntime) -> Result<(), Fail> {
-    expect(&rt, &RETAINED)
+    expect(rt.alloc(), &RETAINED)
 }
 
 /// With "a" in cycle 0, "b" in cycle 5, and "c" in cycle 7.
@@ -90,7 +90,7 @@ static RAISED: [(Step, &str); 21] = [
 
 #[test]
 fn raises_the_floor_and_never_lowers_it(rt: HostRuntime) -> Result<(), Fail> {
-    expect(&rt, &RAISED)
+    expect(rt.alloc(), &RAISED)
 }
 
 static NOTHING: [(Step, &str); 4] = [
@@ -105,7 +105,7 @@ static NOTHING: [(Step, &str); 4] = [
 
 #[test]
 fn drops_nothing_where_nothing_is(rt: HostRuntime) -> Result<(), Fail> {
-    expect(&rt, &NOTHING)
+    expect(rt.alloc(), &NOTHING)
 }
 
 /// A floor at cycle 1.
@@ -160,7 +160,7 @@ cq 2\nroll daily\nepoch 0\ncells 64\ncount 8\nspacing 1\ncycles 4\nfloor 1\nname
 
 #[test]
 fn opens_no_floor_that_a_queue_cannot_have(rt: HostRuntime) -> Result<(), Fail> {
-    expect_each(&rt, &HELD)
+    expect_each(rt.alloc(), &HELD)
 }
 
 /// `queue.cqc` as long as nothing is dropped.
@@ -205,6 +205,6 @@ static SAVED: Failing = Failing {
 
 #[test]
 fn drop_passes_each_folder_fault_on(rt: HostRuntime) -> Result<(), Fail> {
-    expect_failing(&rt, &FAILING)?;
-    expect_failing(&rt, &SAVED)
+    expect_failing(rt.alloc(), &FAILING)?;
+    expect_failing(rt.alloc(), &SAVED)
 }

@@ -1,5 +1,6 @@
 //! What `echo` and `cycle` print, which need no folder, and the texts of faults.
 use crate::streams::said;
+use crate::wanted::{expect_bytes, expect_text};
 use cq_commands::{ToolFault, cycle, echo};
 use cq_model::Refusal;
 use std::alloc::Global;
@@ -36,9 +37,9 @@ static ECHOED: [(&[u8], &[u8]); 8] = [
 
 #[test]
 fn echoes_lines(rt: HostRuntime) -> Result<(), Fail> {
-    for (input, want) in ECHOED {
+    for &(input, want) in &ECHOED {
         let mut rest = input;
-        assert_eq!(rt; echoed(rt.alloc(), &mut rest)?.as_slice(), want);
+        expect_bytes(echoed(rt.alloc(), &mut rest)?, want)?;
     }
     Ok(())
 }
@@ -56,15 +57,30 @@ fn lines_of(alloc: Global, lines: usize, bytes: usize, more: &str) -> Result<Vec
     Ok(text)
 }
 
-/// How many lines `echo` gives or the text of its fault, and whether it wrote any.
-fn echoed_lines(alloc: Global, lines: usize, bytes: usize, more: &str) -> Result<String, Fail> {
+/// How many lines `echo` gives or the text of its fault, and whether it wrote any, as text.
+fn counted_text(
+    alloc: Global,
+    done: Result<u64, ToolFault>,
+    is_silent: bool,
+) -> Result<String, Fail> {
+    match done {
+        Ok(count) => Ok(format!(in alloc; "{count} lines, silent: {is_silent}")?),
+        Err(fault) => Ok(format!(in alloc; "{fault}, silent: {is_silent}")?),
+    }
+}
+
+/// How many lines `echo` gives of an input or the text of its fault, and whether it wrote any.
+fn counted(alloc: Global, input: &[u8]) -> Result<String, Fail> {
     let mut output = Vec::new(alloc);
-    let input = lines_of(alloc, lines, bytes, more)?;
-    let mut rest = input.as_slice();
+    let mut rest = input;
     let done = echo(alloc, &mut rest, &mut output);
-    let is_silent = output.is_empty();
-    let said = String::from_utf8(told(Vec::new(alloc), done)?)?;
-    Ok(format!(in alloc; "{said}, silent: {is_silent}")?)
+    counted_text(alloc, done, output.is_empty())
+}
+
+/// The same of so many lines of so many bytes, and more.
+fn counted_lines(alloc: Global, lines: usize, bytes: usize, more: &str) -> Result<String, Fail> {
+    let input = lines_of(alloc, lines, bytes, more)?;
+    counted(alloc, input.as_slice())
 }
 
 static BOUNDS: [(usize, usize, &str, &str); 11] = [
@@ -84,11 +100,8 @@ static BOUNDS: [(usize, usize, &str, &str); 11] = [
 
 #[test]
 fn bounds_the_input(rt: HostRuntime) -> Result<(), Fail> {
-    for (lines, bytes, more, want) in BOUNDS {
-        assert_eq!(rt;
-            echoed_lines(rt.alloc(), lines, bytes, more)?.as_str(),
-            want
-        );
+    for &(lines, bytes, more, want) in &BOUNDS {
+        expect_text(counted_lines(rt.alloc(), lines, bytes, more)?, want)?;
     }
     Ok(())
 }
@@ -132,9 +145,9 @@ static ENDS: [(u32, Result<usize, ErrorKind>, &[u8]); 7] = [
 
 #[test]
 fn reads_to_the_end(rt: HostRuntime) -> Result<(), Fail> {
-    for (bytes, then, want) in ENDS {
-        let said = echoed(rt.alloc(), &mut Reader { bytes, then })?;
-        assert_eq!(rt; said.as_slice(), want, "after {bytes} bytes");
+    for &(bytes, then, want) in &ENDS {
+        let mut input = Reader { bytes, then };
+        expect_bytes(echoed(rt.alloc(), &mut input)?, want)?;
     }
     Ok(())
 }
@@ -189,9 +202,8 @@ static ROOMS: [(usize, bool, &[u8]); 4] = [
 
 #[test]
 fn passes_write_faults_on(rt: HostRuntime) -> Result<(), Fail> {
-    for (room, refuses_flush, want) in ROOMS {
-        let said = echoed_into(rt.alloc(), room, refuses_flush)?;
-        assert_eq!(rt; said.as_slice(), want);
+    for &(room, refuses_flush, want) in &ROOMS {
+        expect_bytes(echoed_into(rt.alloc(), room, refuses_flush)?, want)?;
     }
     Ok(())
 }
@@ -200,7 +212,7 @@ fn passes_write_faults_on(rt: HostRuntime) -> Result<(), Fail> {
 fn texts_of(alloc: Global, faults: &[ToolFault]) -> Result<String, Fail> {
     let mut text = String::new(alloc);
     for fault in faults {
-        text.push_str(format!(in alloc; "|{fault}")?.as_str())?;
+        write!(text, "|{fault}")?;
     }
     Ok(text)
 }
@@ -218,12 +230,11 @@ fn prints_faults(rt: HostRuntime) -> Result<(), Fail> {
         ToolFault::BadMoment,
         ToolFault::WriteFault,
     ];
-    assert_eq!(rt;
-        texts_of(rt.alloc(), &faults)?.as_str(),
+    expect_text(
+        texts_of(rt.alloc(), &faults)?,
         "|want of memory|read fault|input too long|line 1001: too many|line 2: BadRoom|line 3: too long|BadConfig\
-|BadMoment|write fault"
-    );
-    Ok(())
+|BadMoment|write fault",
+    )
 }
 
 /// What `cycle` says.
@@ -264,9 +275,8 @@ static CYCLES: [(&str, u64, u64, &str); 10] = [
 
 #[test]
 fn prints_cycles(rt: HostRuntime) -> Result<(), Fail> {
-    for (roll, epoch, moment, want) in CYCLES {
-        let said = cycle_said(rt.alloc(), roll, epoch, moment)?;
-        assert_eq!(rt; said.as_str(), want, "at {roll} {epoch} {moment}");
+    for &(roll, epoch, moment, want) in &CYCLES {
+        expect_text(cycle_said(rt.alloc(), roll, epoch, moment)?, want)?;
     }
     Ok(())
 }
@@ -284,9 +294,5 @@ fn cycle_said_into(alloc: Global, room: usize) -> Result<String, Fail> {
 
 #[test]
 fn a_cycle_is_printed_whole_or_at_fault(rt: HostRuntime) -> Result<(), Fail> {
-    assert_eq!(rt;
-        cycle_said_into(rt.alloc(), 7)?.as_str(),
-        "0 19700cq: write fault"
-    );
-    Ok(())
+    expect_text(cycle_said_into(rt.alloc(), 7)?, "0 19700cq: write fault")
 }

@@ -2,36 +2,46 @@
 use crate::falling::FallingFolder;
 use crate::images::{A, HELLO};
 use crate::steps::{DAY, Step, expect_each, said_by};
+use crate::wanted::expect_text;
 use cq_folder::Folder;
-use std::process::Abort;
+use std::alloc::Global;
 use std::test::Fail;
 
 /// Each list of steps says together what stands beside it, over a folder that lists its names in rising order, and over one
 /// that lists them in falling order.
-fn expect_in_any_order<R: AllocGlobal + Abort>(
-    rt: &R,
+fn expect_in_any_order(
+    alloc: Global,
     table: &'static [(&'static [Step], &'static str)],
 ) -> Result<(), Fail> {
-    expect_each(rt, table)?;
-    for (steps, want) in table {
-        let said = said_by(rt.alloc(), &mut FallingFolder::new(rt.alloc()), steps)?;
-        assert_eq!(rt; said.as_str(), *want);
+    expect_each(alloc, table)?;
+    for &(steps, want) in table {
+        expect_text(said_falling(alloc, steps)?, want)?;
     }
     Ok(())
+}
+
+/// What all these steps say over a new folder that lists its names in falling order, one behind the other.
+fn said_falling(alloc: Global, steps: &[Step]) -> Result<String, Fail> {
+    let mut folder = FallingFolder::new(alloc);
+    said_by(alloc, &mut folder, steps)
+}
+
+/// The names that a folder lists when three files were put into it, as text.
+fn three_names<F: Folder>(alloc: Global, folder: &mut F) -> Result<String, Fail> {
+    for name in ["b", "c", "a"] {
+        folder.write(name, b"")?;
+    }
+    let names = folder.names(alloc)?;
+    Ok(format!(in alloc; "{:?}", names.as_slice())?)
 }
 
 #[test]
 fn lists_its_names_in_falling_order(rt: HostRuntime) -> Result<(), Fail> {
     let mut folder = FallingFolder::new(rt.alloc());
-    folder.write("b", b"")?;
-    folder.write("c", b"")?;
-    folder.write("a", b"")?;
-    let names = folder.names(rt.alloc())?;
-    assert_eq!(rt; names.len(), 3);
-    assert_eq!(rt; names[0].as_str(), "c");
-    assert_eq!(rt; names[1].as_str(), "b");
-    assert_eq!(rt; names[2].as_str(), "a");
-    Ok(())
+    expect_text(
+        three_names(rt.alloc(), &mut folder)?,
+        "[\"c\", \"b\", \"a\"]",
+    )
 }
 
 /// A queue of three cycles, each with one message, and what is done with it.
@@ -62,7 +72,7 @@ static THREE: [(&[Step], &str); 1] = [(
 
 #[test]
 fn answers_the_same_in_any_order(rt: HostRuntime) -> Result<(), Fail> {
-    expect_in_any_order(&rt, &THREE)
+    expect_in_any_order(rt.alloc(), &THREE)
 }
 
 /// A folder of version 1 with two images becomes one of version 2.
@@ -82,7 +92,7 @@ static MIGRATED: [(&[Step], &str); 1] = [(
 
 #[test]
 fn migrates_in_any_order(rt: HostRuntime) -> Result<(), Fail> {
-    expect_in_any_order(&rt, &MIGRATED)
+    expect_in_any_order(rt.alloc(), &MIGRATED)
 }
 
 /// An image that ended with no message.
@@ -188,5 +198,5 @@ cq: 19700102.cqi: Cut at 0cq: 19700101.cqi: Cut at 0",
 
 #[test]
 fn tells_the_same_fault_in_any_order(rt: HostRuntime) -> Result<(), Fail> {
-    expect_in_any_order(&rt, &TWO)
+    expect_in_any_order(rt.alloc(), &TWO)
 }

@@ -1,10 +1,12 @@
 //! Which fault is answered, and what the folder holds then.
 use crate::images::{HELLO, NINE};
 use crate::steps::{
-    DAY, Failing, MOST_BYTES, Step, Unprinted, expect, expect_each, expect_failing, said_by,
+    DAY, Failing, MOST_BYTES, Step, Unprinted, expect, expect_each, expect_failing, push_said,
+    said_anew, said_by,
 };
-use cq_folder::MemoryFolder;
-use std::alloc::Global;
+use crate::wanted::expect_text;
+use cq_folder::{Folder, MemoryFolder};
+use std::alloc::{AllocError, Global};
 use std::test::Fail;
 
 static GOOD: [(Step, &str); 5] = [
@@ -21,7 +23,7 @@ static GOOD: [(Step, &str); 5] = [
 
 #[test]
 fn checks_and_dumps_the_image(rt: HostRuntime) -> Result<(), Fail> {
-    expect(&rt, &GOOD)
+    expect(rt.alloc(), &GOOD)
 }
 
 /// Bytes of the image that are replaced from a place on, and what is wrong then.
@@ -48,17 +50,21 @@ fn faults_of(alloc: Global, at: usize, bytes: &'static [u8]) -> Result<String, F
         Step::Dump("19700101.cqi"),
         Step::Read(false, None),
     ];
-    said_by(alloc, &mut MemoryFolder::new(alloc), &steps)
+    said_anew(alloc, &steps)
+}
+
+/// What they say where this is wrong.
+fn wanted_of(alloc: Global, want: &str) -> Result<String, AllocError> {
+    format!(in alloc;
+        "19700101.cqi: {want}\ncq: images at faultcq: 19700101.cqi: {want}cq: 19700101.cqi: {want}"
+    )
 }
 
 #[test]
 fn tells_each_image_fault(rt: HostRuntime) -> Result<(), Fail> {
-    for (at, bytes, want) in WRONG {
-        let said = faults_of(rt.alloc(), at, bytes)?;
-        let wanted = format!(in rt.alloc();
-            "19700101.cqi: {want}\ncq: images at faultcq: 19700101.cqi: {want}cq: 19700101.cqi: {want}"
-        )?;
-        assert_eq!(rt; said.as_str(), wanted.as_str());
+    for &(at, bytes, want) in &WRONG {
+        let wanted = wanted_of(rt.alloc(), want)?;
+        expect_text(faults_of(rt.alloc(), at, bytes)?, wanted.as_str())?;
     }
     Ok(())
 }
@@ -95,7 +101,7 @@ static CUT: [(&[Step], &str); 3] = [
 
 #[test]
 fn tells_where_an_image_is_cut(rt: HostRuntime) -> Result<(), Fail> {
-    expect_each(&rt, &CUT)
+    expect_each(rt.alloc(), &CUT)
 }
 
 static OVER: [(Step, &str); 7] = [
@@ -146,8 +152,8 @@ static OVER_2: [(Step, &str); 5] = [
 
 #[test]
 fn tells_what_fits_no_shape(rt: HostRuntime) -> Result<(), Fail> {
-    expect(&rt, &OVER)?;
-    expect(&rt, &OVER_2)
+    expect(rt.alloc(), &OVER)?;
+    expect(rt.alloc(), &OVER_2)
 }
 
 /// Two faulty images, a bad name beside a faulty image, and a faulty image beside a wrong end. The images come before what
@@ -190,7 +196,7 @@ static TWO: [(&[Step], &str); 3] = [
 
 #[test]
 fn tells_the_first_of_two_faults(rt: HostRuntime) -> Result<(), Fail> {
-    expect_each(&rt, &TWO)
+    expect_each(rt.alloc(), &TWO)
 }
 
 /// A configuration that is none comes before a faulty image, and an index that is none before that.
@@ -205,7 +211,7 @@ static NO_CONFIG: [(Step, &str); 6] = [
 
 #[test]
 fn tells_a_fault_of_the_configuration_first(rt: HostRuntime) -> Result<(), Fail> {
-    expect(&rt, &NO_CONFIG)
+    expect(rt.alloc(), &NO_CONFIG)
 }
 
 /// A file that is none comes before its name, and its name before what it holds.
@@ -218,7 +224,7 @@ static NO_FILE: [(Step, &str); 4] = [
 
 #[test]
 fn tells_that_a_file_is_none_first(rt: HostRuntime) -> Result<(), Fail> {
-    expect(&rt, &NO_FILE)
+    expect(rt.alloc(), &NO_FILE)
 }
 
 static STREAMS: [(Step, &str); 5] = [
@@ -236,7 +242,7 @@ static STREAMS: [(Step, &str); 5] = [
 
 #[test]
 fn tells_the_first_fault_of_streams(rt: HostRuntime) -> Result<(), Fail> {
-    expect(&rt, &STREAMS)
+    expect(rt.alloc(), &STREAMS)
 }
 
 static UNPRINTED: Failing = Failing {
@@ -252,7 +258,7 @@ static UNPRINTED: Failing = Failing {
 
 #[test]
 fn writes_files_before_the_output(rt: HostRuntime) -> Result<(), Fail> {
-    expect_failing(&rt, &UNPRINTED)
+    expect_failing(rt.alloc(), &UNPRINTED)
 }
 
 /// The settings of a new queue that are refused, and which fault comes first.
@@ -328,14 +334,14 @@ static SETTINGS: [(&[Step], &str); 13] = [
 
 #[test]
 fn refuses_settings(rt: HostRuntime) -> Result<(), Fail> {
-    expect_each(&rt, &SETTINGS)
+    expect_each(rt.alloc(), &SETTINGS)
 }
 
 static NOWHERE: [(Step, &str); 1] = [(Step::Check, "cq: no queue here")];
 
 #[test]
 fn tells_where_no_queue_is(rt: HostRuntime) -> Result<(), Fail> {
-    expect(&rt, &NOWHERE)
+    expect(rt.alloc(), &NOWHERE)
 }
 
 /// A queue with "hello" in cycle 0 and "a" in cycle 1.
@@ -367,7 +373,7 @@ static FAILING_READ: Failing = Failing {
 
 #[test]
 fn read_passes_each_folder_fault_on(rt: HostRuntime) -> Result<(), Fail> {
-    expect_failing(&rt, &FAILING_READ)
+    expect_failing(rt.alloc(), &FAILING_READ)
 }
 
 static FAILING_CHECK: Failing = Failing {
@@ -380,7 +386,7 @@ static FAILING_CHECK: Failing = Failing {
 
 #[test]
 fn check_passes_each_folder_fault_on(rt: HostRuntime) -> Result<(), Fail> {
-    expect_failing(&rt, &FAILING_CHECK)
+    expect_failing(rt.alloc(), &FAILING_CHECK)
 }
 
 static FAILING_DUMP: Failing = Failing {
@@ -404,7 +410,7 @@ static FAILING_DUMP: Failing = Failing {
 
 #[test]
 fn dump_passes_each_folder_fault_on(rt: HostRuntime) -> Result<(), Fail> {
-    expect_failing(&rt, &FAILING_DUMP)
+    expect_failing(rt.alloc(), &FAILING_DUMP)
 }
 
 static FAILING_INIT: Failing = Failing {
@@ -431,8 +437,8 @@ static MADE_INIT: Failing = Failing {
 
 #[test]
 fn init_passes_each_folder_fault_on(rt: HostRuntime) -> Result<(), Fail> {
-    expect_failing(&rt, &FAILING_INIT)?;
-    expect_failing(&rt, &MADE_INIT)
+    expect_failing(rt.alloc(), &FAILING_INIT)?;
+    expect_failing(rt.alloc(), &MADE_INIT)
 }
 
 /// A queue with "hello" in cycle 0, beside a file that is none of its own.
@@ -480,8 +486,8 @@ keptcq 2\nroll daily\nepoch 0\ncells 64\ncount 8\nspacing 1\ncycles 4\nname read
 
 #[test]
 fn write_saves_all_or_nothing(rt: HostRuntime) -> Result<(), Fail> {
-    expect_failing(&rt, &FAILING_WRITE)?;
-    expect_failing(&rt, &SAVED_WRITE)
+    expect_failing(rt.alloc(), &FAILING_WRITE)?;
+    expect_failing(rt.alloc(), &SAVED_WRITE)
 }
 
 static REFUSED: [(Step, &str); 9] = [
@@ -498,7 +504,7 @@ static REFUSED: [(Step, &str); 9] = [
 
 #[test]
 fn leaves_the_folder_after_a_refusal(rt: HostRuntime) -> Result<(), Fail> {
-    expect(&rt, &REFUSED)
+    expect(rt.alloc(), &REFUSED)
 }
 
 /// A file that is put into a folder with "hello" in cycle 0, and what `check`, `read` and `write` say then.
@@ -557,17 +563,24 @@ fn said_beside(alloc: Global, file: &'static str, bytes: &'static [u8]) -> Resul
         Step::Put(file, bytes),
     ];
     said_by(alloc, &mut folder, &before)?;
-    let checked = said_by(alloc, &mut folder, &[Step::Check])?;
-    let printed = said_by(alloc, &mut folder, &[Step::Read(false, None)])?;
-    let written = said_by(alloc, &mut folder, &[Step::Write(0, b"")])?;
-    Ok(format!(in alloc; "{checked}|{printed}|{written}")?)
+    said_apart(alloc, &mut folder)
+}
+
+/// What `check`, `read` and `write` say over a folder, with a bar between.
+fn said_apart<F: Folder>(alloc: Global, folder: &mut F) -> Result<String, Fail> {
+    let mut text = String::new(alloc);
+    push_said(alloc, folder, &[Step::Check], &mut text)?;
+    text.push_str("|")?;
+    push_said(alloc, folder, &[Step::Read(false, None)], &mut text)?;
+    text.push_str("|")?;
+    push_said(alloc, folder, &[Step::Write(0, b"")], &mut text)?;
+    Ok(text)
 }
 
 #[test]
 fn tells_the_first_fault(rt: HostRuntime) -> Result<(), Fail> {
-    for (file, bytes, want) in PUT {
-        let said = said_beside(rt.alloc(), file, bytes)?;
-        assert_eq!(rt; said.as_str(), want, "{file}");
+    for &(file, bytes, want) in &PUT {
+        expect_text(said_beside(rt.alloc(), file, bytes)?, want)?;
     }
     Ok(())
 }

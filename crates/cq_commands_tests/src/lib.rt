@@ -33,3 +33,5 @@ mod streams;
 mod take_tests;
 #[cfg(test)]
 mod version_tests;
+#[cfg(test)]
+mod wanted;

@@ -1,5 +1,6 @@
 //! Limits of queues, of the input and of files.
-use crate::steps::{DAY, MOST_BYTES, Step, expect, expect_each, said_at};
+use crate::steps::{DAY, MOST_BYTES, Step, expect, expect_each, push_said, said_at};
+use crate::wanted::expect_text;
 use cq_folder::{Folder, MemoryFolder};
 use std::alloc::Global;
 use std::test::Fail;
@@ -23,38 +24,44 @@ static FILLED: [(Step, &str); 6] = [
 
 #[test]
 fn a_cycle_takes_what_fits(rt: HostRuntime) -> Result<(), Fail> {
-    expect(&rt, &FILLED)
+    expect(rt.alloc(), &FILLED)
 }
 
 /// Whether the first line of each of 64 days has the index 0 of that day.
 fn begins_64_cycles<F: Folder>(alloc: Global, folder: &mut F) -> Result<bool, Fail> {
     for day in 0..64 {
-        let said = said_at(alloc, folder, &Step::Write(day * DAY, b"a\n"))?;
-        let index = format!(in alloc; "{day:08x}00000000\n")?;
-        if said.as_str() != index.as_str() {
+        if !begins_cycle(alloc, folder, day)? {
             return Ok(false);
         }
     }
     Ok(true)
 }
 
-/// What is said of one more day in a queue of 64 cycles, and of one more line in its last one.
-fn said_behind_64_cycles(alloc: Global) -> Result<String, Fail> {
-    let mut folder = MemoryFolder::new(alloc);
-    said_at(alloc, &mut folder, &Step::Queue(64))?;
-    let begins = begins_64_cycles(alloc, &mut folder)?;
-    let next = said_at(alloc, &mut folder, &Step::Write(64 * DAY, b"a\n"))?;
-    let last = said_at(alloc, &mut folder, &Step::Write(0, b"b\n"))?;
-    Ok(format!(in alloc; "{begins} {next} {last}")?)
+/// Whether the first line of a day has the index 0 of that day.
+fn begins_cycle<F: Folder>(alloc: Global, folder: &mut F, day: u32) -> Result<bool, Fail> {
+    let moment = u64::from(day) * DAY;
+    let said = said_at(alloc, folder, &Step::Write(moment, b"a\n"))?;
+    let index = format!(in alloc; "{day:08x}00000000\n")?;
+    Ok(said.as_str() == index.as_str())
+}
+
+/// What is said over a folder of one more day in a queue of 64 cycles, and of one more line in its last one.
+fn said_behind_64_cycles<F: Folder>(alloc: Global, folder: &mut F) -> Result<String, Fail> {
+    said_at(alloc, folder, &Step::Queue(64))?;
+    let mut text = format!(in alloc; "{} ", begins_64_cycles(alloc, folder)?)?;
+    push_said(alloc, folder, &[Step::Write(64 * DAY, b"a\n")], &mut text)?;
+    text.push_str(" ")?;
+    push_said(alloc, folder, &[Step::Write(0, b"b\n")], &mut text)?;
+    Ok(text)
 }
 
 #[test]
 fn a_queue_has_at_most_64_cycles(rt: HostRuntime) -> Result<(), Fail> {
-    assert_eq!(rt;
-        said_behind_64_cycles(rt.alloc())?.as_str(),
-        "true cq: line 1: NoCycleLeft 0000003f00000001\n"
-    );
-    Ok(())
+    let mut folder = MemoryFolder::new(rt.alloc());
+    expect_text(
+        said_behind_64_cycles(rt.alloc(), &mut folder)?,
+        "true cq: line 1: NoCycleLeft 0000003f00000001\n",
+    )
 }
 
 static NAMES: [(&[Step], &str); 4] = [
@@ -106,7 +113,7 @@ static NAMES: [(&[Step], &str); 4] = [
 
 #[test]
 fn a_queue_has_at_most_16_names_of_32_bytes(rt: HostRuntime) -> Result<(), Fail> {
-    expect_each(&rt, &NAMES)
+    expect_each(rt.alloc(), &NAMES)
 }
 
 static INPUTS: [(&[Step], &str); 2] = [
@@ -122,7 +129,7 @@ static INPUTS: [(&[Step], &str); 2] = [
 
 #[test]
 fn bounds_the_input(rt: HostRuntime) -> Result<(), Fail> {
-    expect_each(&rt, &INPUTS)
+    expect_each(rt.alloc(), &INPUTS)
 }
 
 static FILES: [(&[Step], &str); 3] = [
@@ -154,5 +161,5 @@ static FILES: [(&[Step], &str); 3] = [
 
 #[test]
 fn bounds_files(rt: HostRuntime) -> Result<(), Fail> {
-    expect_each(&rt, &FILES)
+    expect_each(rt.alloc(), &FILES)
 }

@@ -54,7 +54,7 @@ static ROW: [(Step, &str); 18] = [
 
 #[test]
 fn makes_a_folder_of_version_2(rt: HostRuntime) -> Result<(), Fail> {
-    expect(&rt, &ROW)
+    expect(rt.alloc(), &ROW)
 }
 
 /// `queue.cqc` of version 1 with hours from an epoch on, a floor, and two positions.
@@ -144,7 +144,7 @@ cq 2\nroll daily\nepoch 0\ncells 67\ncount 8\nspacing 1\ncycles 4\nname reader 0
 
 #[test]
 fn keeps_what_a_queue_holds(rt: HostRuntime) -> Result<(), Fail> {
-    expect_each(&rt, &STAYS)
+    expect_each(rt.alloc(), &STAYS)
 }
 
 /// An image of version 2 in a folder of version 1: for three cells more it is taken, and else its first fault is told.
@@ -195,7 +195,7 @@ static MIXED: [(&[Step], &str); 4] = [
 
 #[test]
 fn goes_on_where_images_are_of_version_2(rt: HostRuntime) -> Result<(), Fail> {
-    expect_each(&rt, &MIXED)
+    expect_each(rt.alloc(), &MIXED)
 }
 
 /// A cycle has at most 1,048,576 cells, and all cycles have at most 4,194,304. With three cells more they are within these limits,
@@ -259,7 +259,7 @@ cq 1\nroll daily\nepoch 0\ncells 65534\ncount 8\nspacing 1\ncycles 64\nname read
 
 #[test]
 fn needs_room_for_three_cells_more(rt: HostRuntime) -> Result<(), Fail> {
-    expect_each(&rt, &LIMITS)
+    expect_each(rt.alloc(), &LIMITS)
 }
 
 /// A folder of version 1 with "hello" in cycle 0, which ended, and "a" in cycle 1.
@@ -328,8 +328,8 @@ static SAVED: Failing = Failing {
 
 #[test]
 fn saves_all_or_nothing(rt: HostRuntime) -> Result<(), Fail> {
-    expect_failing(&rt, &FAILING)?;
-    expect_failing(&rt, &SAVED)
+    expect_failing(rt.alloc(), &FAILING)?;
+    expect_failing(rt.alloc(), &SAVED)
 }
 
 /// What `migrate` and the files are behind a migration that failed.
@@ -365,8 +365,8 @@ static SAVED_ONCE: Failing = Failing {
 
 #[test]
 fn ends_with_the_same_files_when_it_is_run_again(rt: HostRuntime) -> Result<(), Fail> {
-    expect_failing(&rt, &FAILING_ONCE)?;
-    expect_failing(&rt, &SAVED_ONCE)
+    expect_failing(rt.alloc(), &FAILING_ONCE)?;
+    expect_failing(rt.alloc(), &SAVED_ONCE)
 }
 
 /// `queue.cqc` alone is written where there is no image.
@@ -403,6 +403,6 @@ static UNMOVED: Failing = Failing {
 
 #[test]
 fn passes_each_folder_fault_on(rt: HostRuntime) -> Result<(), Fail> {
-    expect_failing(&rt, &ALONE)?;
-    expect_failing(&rt, &UNMOVED)
+    expect_failing(rt.alloc(), &ALONE)?;
+    expect_failing(rt.alloc(), &UNMOVED)
 }

@@ -1,10 +1,10 @@
 //! Two faults that compete, over a folder that lists its names in falling order: the first one of the command's order is told.
 use crate::falling::FallingFolder;
 use crate::steps::{DAY, MOST_BYTES, Step, Unprinted, said_at, said_by};
+use crate::wanted::expect_none;
 use cq_fixtures::push_missed;
 use cq_folder::FailingFolder;
 use std::alloc::Global;
-use std::process::Abort;
 use std::test::Fail;
 
 /// Two faults that a step could tell of.
@@ -30,21 +30,25 @@ fn said_of(alloc: Global, pair: &Pair) -> Result<String, Fail> {
     )
 }
 
-/// What is said that is something else than is wanted, with the place of the pair.
-fn missed(alloc: Global, pairs: &'static [Pair]) -> Result<String, Fail> {
-    let mut text = String::new(alloc);
+/// Adds what is said that is something else than is wanted to a text, with the place of the pair.
+fn push_missed_pairs(alloc: Global, pairs: &'static [Pair], text: &mut String) -> Result<(), Fail> {
     for (place, pair) in pairs.iter().enumerate() {
-        let said = said_of(alloc, pair)?;
-        push_missed(alloc, &mut text, place, said.as_str(), pair.want)?;
+        push_missed(
+            alloc,
+            text,
+            place,
+            said_of(alloc, pair)?.as_str(),
+            pair.want,
+        )?;
     }
-    Ok(text)
+    Ok(())
 }
 
 /// Each step tells of the first of its two faults.
-fn expect_first<R: AllocGlobal + Abort>(rt: &R, pairs: &'static [Pair]) -> Result<(), Fail> {
-    let missed = missed(rt.alloc(), pairs)?;
-    assert!(rt; missed.is_empty(), "{missed}");
-    Ok(())
+fn expect_first(alloc: Global, pairs: &'static [Pair]) -> Result<(), Fail> {
+    let mut missed = String::new(alloc);
+    push_missed_pairs(alloc, pairs, &mut missed)?;
+    expect_none(missed)
 }
 
 /// An image that ended with no message.
@@ -143,7 +147,7 @@ static OPENING: [Pair; 9] = [
 
 #[test]
 fn the_configuration_comes_before_the_images(rt: HostRuntime) -> Result<(), Fail> {
-    expect_first(&rt, &OPENING)
+    expect_first(rt.alloc(), &OPENING)
 }
 
 /// Of images, their ends, and what they hold together.
@@ -227,7 +231,7 @@ static IMAGES: [Pair; 8] = [
 
 #[test]
 fn images_come_in_the_order_of_their_names(rt: HostRuntime) -> Result<(), Fail> {
-    expect_first(&rt, &IMAGES)
+    expect_first(rt.alloc(), &IMAGES)
 }
 
 /// Of `init`.
@@ -278,7 +282,7 @@ static INIT: [Pair; 7] = [
 
 #[test]
 fn init_tells_the_first(rt: HostRuntime) -> Result<(), Fail> {
-    expect_first(&rt, &INIT)
+    expect_first(rt.alloc(), &INIT)
 }
 
 /// Of `check`: of the files of all images before what one holds.
@@ -335,7 +339,7 @@ static CHECK: [Pair; 6] = [
 
 #[test]
 fn check_tells_the_first(rt: HostRuntime) -> Result<(), Fail> {
-    expect_first(&rt, &CHECK)
+    expect_first(rt.alloc(), &CHECK)
 }
 
 /// Of `dump`.
@@ -386,7 +390,7 @@ static DUMP: [Pair; 6] = [
 
 #[test]
 fn dump_tells_the_first(rt: HostRuntime) -> Result<(), Fail> {
-    expect_first(&rt, &DUMP)
+    expect_first(rt.alloc(), &DUMP)
 }
 
 /// Of `read`.
@@ -413,7 +417,7 @@ static READ: [Pair; 3] = [
 
 #[test]
 fn read_tells_the_first(rt: HostRuntime) -> Result<(), Fail> {
-    expect_first(&rt, &READ)
+    expect_first(rt.alloc(), &READ)
 }
 
 /// Of `take`.
@@ -440,7 +444,7 @@ static TAKE: [Pair; 3] = [
 
 #[test]
 fn take_tells_the_first(rt: HostRuntime) -> Result<(), Fail> {
-    expect_first(&rt, &TAKE)
+    expect_first(rt.alloc(), &TAKE)
 }
 
 /// More cycles than the settings of version 1 allow.
@@ -510,7 +514,7 @@ static OLD: [Pair; 9] = [
 
 #[test]
 fn the_version_comes_behind_the_configuration(rt: HostRuntime) -> Result<(), Fail> {
-    expect_first(&rt, &OLD)
+    expect_first(rt.alloc(), &OLD)
 }
 
 /// Of `migrate`, which minds no contents that a queue cannot hold.
@@ -611,7 +615,7 @@ static MIGRATE: [Pair; 12] = [
 
 #[test]
 fn migrate_tells_the_first(rt: HostRuntime) -> Result<(), Fail> {
-    expect_first(&rt, &MIGRATE)
+    expect_first(rt.alloc(), &MIGRATE)
 }
 
 /// A line that fits into no cycle of 64 cells, behind an empty one.
@@ -688,5 +692,5 @@ static WRITE: [Pair; 10] = [
 
 #[test]
 fn write_tells_the_first(rt: HostRuntime) -> Result<(), Fail> {
-    expect_first(&rt, &WRITE)
+    expect_first(rt.alloc(), &WRITE)
 }

@@ -21,7 +21,7 @@ static CUT: [(Step, &str); 10] = [
 
 #[test]
 fn saves_what_lies_before_a_cut(rt: HostRuntime) -> Result<(), Fail> {
-    expect(&rt, &CUT)
+    expect(rt.alloc(), &CUT)
 }
 
 /// Files that are no images of the folder, and what is told of them.
@@ -42,7 +42,7 @@ static NO_IMAGE: [(Step, &str); 9] = [
 
 #[test]
 fn tells_that_a_file_is_no_image(rt: HostRuntime) -> Result<(), Fail> {
-    expect(&rt, &NO_IMAGE)
+    expect(rt.alloc(), &NO_IMAGE)
 }
 
 /// The largest file that is read, one that is larger, and a faulty image beside the one that is named.
@@ -77,7 +77,7 @@ static LARGE: [(&[Step], &str); 3] = [
 
 #[test]
 fn looks_at_the_named_file_alone(rt: HostRuntime) -> Result<(), Fail> {
-    expect_each(&rt, &LARGE)
+    expect_each(rt.alloc(), &LARGE)
 }
 
 /// A queue with "hello" in cycle 0 and "a" in cycle 1, of which the second image is cut off.
@@ -107,5 +107,5 @@ static FAILING: Failing = Failing {
 
 #[test]
 fn salvage_passes_each_folder_fault_on(rt: HostRuntime) -> Result<(), Fail> {
-    expect_failing(&rt, &FAILING)
+    expect_failing(rt.alloc(), &FAILING)
 }

@@ -1,5 +1,6 @@
 //! Steps over a folder in memory, and what is said at each.
 use crate::streams::{Broken, BrokenBehind, said};
+use crate::wanted::expect_none;
 use cq_commands::{
     InitSettings, ToolFault, check, drop_before, dump, init, migrate, read, salvage, take, write,
 };
@@ -7,7 +8,6 @@ use cq_fixtures::push_missed;
 use cq_folder::{FailingFolder, Folder, FolderFault, MemoryFolder};
 use std::alloc::{AllocError, Global};
 use std::fmt::Write as _;
-use std::process::Abort;
 use std::test::Fail;
 
 /// One day in milliseconds.
@@ -93,19 +93,19 @@ pub fn said_at<F: Folder>(alloc: Global, folder: &mut F, step: &Step) -> Result<
         Step::Write(moment, input) => written(alloc, folder, moment, input),
         Step::WriteEmpty(moment, lines) => written_empty(alloc, folder, moment, lines),
         Step::WriteBroken(moment, behind) => written_broken(alloc, folder, moment, behind),
-        Step::Unprinted(command) => said(alloc, done_unprinted(alloc, folder, command), &[]),
+        Step::Unprinted(command) => said_unprinted(alloc, folder, command),
         Step::Read(back, from) => printed(alloc, folder, back, from),
         Step::Take(name) => taken(alloc, folder, name),
         Step::Drop(cycle) => dropped(alloc, folder, cycle),
         Step::Check => checked(alloc, folder),
         Step::Dump(file) => dumped(alloc, folder, file),
         Step::Salvage(file) => salvaged(alloc, folder, file),
-        Step::Migrate => said(alloc, migrate(alloc, folder), &[]),
+        Step::Migrate => migrated(alloc, folder),
         Step::Text(file) => text_of(alloc, folder, file),
         Step::Bytes(file) => digits_of(alloc, folder, file),
         Step::Length(file) => length_of(alloc, folder, file),
         Step::Put(file, bytes) => put(alloc, folder, file, bytes),
-        Step::Fill(file, byte, count) => put(alloc, folder, file, &copies(alloc, byte, count)?),
+        Step::Fill(file, byte, count) => filled(alloc, folder, file, byte, count),
         Step::Patch(file, at, bytes) => patched(alloc, folder, file, at, bytes),
         Step::Cut(file, len) => cut(alloc, folder, file, len),
     }
@@ -190,6 +190,15 @@ fn written_broken<F: Folder>(
     said(alloc, done, &[])
 }
 
+/// What a command says whose writer fails.
+fn said_unprinted<F: Folder>(
+    alloc: Global,
+    folder: &mut F,
+    command: Unprinted,
+) -> Result<String, Fail> {
+    said(alloc, done_unprinted(alloc, folder, command), &[])
+}
+
 /// A command whose writer fails.
 fn done_unprinted<F: Folder>(
     alloc: Global,
@@ -252,6 +261,11 @@ fn salvaged<F: Folder>(alloc: Global, folder: &mut F, file: &str) -> Result<Stri
     said(alloc, done, &output)
 }
 
+/// What `migrate` says.
+fn migrated<F: Folder>(alloc: Global, folder: &mut F) -> Result<String, Fail> {
+    said(alloc, migrate(alloc, folder), &[])
+}
+
 /// So many copies of a byte.
 fn copies(alloc: Global, byte: u8, count: usize) -> Result<Vec<u8>, AllocError> {
     vec![in alloc; byte; count]
@@ -288,6 +302,16 @@ fn put<F: Folder>(alloc: Global, folder: &mut F, file: &str, bytes: &[u8]) -> Re
     Ok(String::new(alloc))
 }
 
+fn filled<F: Folder>(
+    alloc: Global,
+    folder: &mut F,
+    file: &str,
+    byte: u8,
+    count: usize,
+) -> Result<String, Fail> {
+    put(alloc, folder, file, &copies(alloc, byte, count)?)
+}
+
 fn patched<F: Folder>(
     alloc: Global,
     folder: &mut F,
@@ -320,55 +344,77 @@ fn cut<F: Folder>(alloc: Global, folder: &mut F, file: &str, len: usize) -> Resu
 /// What all these steps say, one behind the other.
 pub fn said_by<F: Folder>(alloc: Global, folder: &mut F, steps: &[Step]) -> Result<String, Fail> {
     let mut text = String::new(alloc);
+    push_said(alloc, folder, steps, &mut text)?;
+    Ok(text)
+}
+
+/// Adds what all these steps say to a text.
+pub fn push_said<F: Folder>(
+    alloc: Global,
+    folder: &mut F,
+    steps: &[Step],
+    text: &mut String,
+) -> Result<(), Fail> {
     for step in steps {
         text.push_str(said_at(alloc, folder, step)?.as_str())?;
     }
-    Ok(text)
+    Ok(())
 }
 
-/// What is said at each step over a new folder that says something else than stands beside it, with its place.
-fn missed(alloc: Global, steps: &'static [(Step, &'static str)]) -> Result<String, Fail> {
+/// What all these steps say over a new folder, one behind the other.
+pub fn said_anew(alloc: Global, steps: &[Step]) -> Result<String, Fail> {
     let mut folder = MemoryFolder::new(alloc);
-    let mut text = String::new(alloc);
+    said_by(alloc, &mut folder, steps)
+}
+
+/// Adds what is said at each step that says something else than stands beside it to a text, with its place.
+fn push_missed_steps<F: Folder>(
+    alloc: Global,
+    folder: &mut F,
+    steps: &'static [(Step, &'static str)],
+    text: &mut String,
+) -> Result<(), Fail> {
     for (place, (step, want)) in steps.iter().enumerate() {
-        let said = said_at(alloc, &mut folder, step)?;
-        push_missed(alloc, &mut text, place, said.as_str(), want)?;
+        push_missed(
+            alloc,
+            text,
+            place,
+            said_at(alloc, folder, step)?.as_str(),
+            want,
+        )?;
     }
-    Ok(text)
+    Ok(())
 }
 
 /// Each step over a new folder says what stands beside it.
-pub fn expect<R: AllocGlobal + Abort>(
-    rt: &R,
-    steps: &'static [(Step, &'static str)],
-) -> Result<(), Fail> {
-    let missed = missed(rt.alloc(), steps)?;
-    assert!(rt; missed.is_empty(), "{missed}");
-    Ok(())
+pub fn expect(alloc: Global, steps: &'static [(Step, &'static str)]) -> Result<(), Fail> {
+    let mut folder = MemoryFolder::new(alloc);
+    let mut missed = String::new(alloc);
+    push_missed_steps(alloc, &mut folder, steps, &mut missed)?;
+    expect_none(missed)
 }
 
-/// What is said by lists of steps, each over a folder of its own, where it is something else than stands beside the
-/// list.
-fn missed_lists(
+/// Adds what is said by lists of steps, each over a folder of its own, to a text, where it is something else than stands
+/// beside the list.
+fn push_missed_lists(
     alloc: Global,
     table: &'static [(&'static [Step], &'static str)],
-) -> Result<String, Fail> {
-    let mut text = String::new(alloc);
+    text: &mut String,
+) -> Result<(), Fail> {
     for (place, (steps, want)) in table.iter().enumerate() {
-        let said = said_by(alloc, &mut MemoryFolder::new(alloc), steps)?;
-        push_missed(alloc, &mut text, place, said.as_str(), want)?;
+        push_missed(alloc, text, place, said_anew(alloc, steps)?.as_str(), want)?;
     }
-    Ok(text)
+    Ok(())
 }
 
 /// Each list of steps, over a folder of its own, says together what stands beside it.
-pub fn expect_each<R: AllocGlobal + Abort>(
-    rt: &R,
+pub fn expect_each(
+    alloc: Global,
     table: &'static [(&'static [Step], &'static str)],
 ) -> Result<(), Fail> {
-    let missed = missed_lists(rt.alloc(), table)?;
-    assert!(rt; missed.is_empty(), "{missed}");
-    Ok(())
+    let mut missed = String::new(alloc);
+    push_missed_lists(alloc, table, &mut missed)?;
+    expect_none(missed)
 }
 
 /// A step over a folder of which one call fails.
@@ -393,34 +439,29 @@ fn said_failing(alloc: Global, failing: &Failing, number: u64) -> Result<String,
         false => FailingFolder::new(folder, number),
         true => FailingFolder::written(folder, number),
     };
-    let said = said_at(alloc, &mut folder, &failing.step)?;
-    let behind = said_by(alloc, &mut folder.into_inner(), failing.after)?;
-    Ok(format!(in alloc; "{said}|{behind}")?)
+    let mut said = said_at(alloc, &mut folder, &failing.step)?;
+    said.push_str("|")?;
+    push_said(alloc, &mut folder.into_inner(), failing.after, &mut said)?;
+    Ok(said)
 }
 
-/// What is said where it is something else than the table wants, with the number of the call.
-fn missed_calls(alloc: Global, failing: &'static Failing) -> Result<String, Fail> {
-    let mut text = String::new(alloc);
+/// Adds what is said to a text where it is something else than the table wants, with the number of the call.
+fn push_missed_calls(
+    alloc: Global,
+    failing: &'static Failing,
+    text: &mut String,
+) -> Result<(), Fail> {
     for (number, want, behind) in failing.table {
         let said = said_failing(alloc, failing, *number)?;
         let want = format!(in alloc; "{want}|{behind}")?;
-        push_missed(
-            alloc,
-            &mut text,
-            *number as usize,
-            said.as_str(),
-            want.as_str(),
-        )?;
+        push_missed(alloc, text, *number as usize, said.as_str(), want.as_str())?;
     }
-    Ok(text)
+    Ok(())
 }
 
 /// The step says what the table wants at each failing call.
-pub fn expect_failing<R: AllocGlobal + Abort>(
-    rt: &R,
-    failing: &'static Failing,
-) -> Result<(), Fail> {
-    let missed = missed_calls(rt.alloc(), failing)?;
-    assert!(rt; missed.is_empty(), "{missed}");
-    Ok(())
+pub fn expect_failing(alloc: Global, failing: &'static Failing) -> Result<(), Fail> {
+    let mut missed = String::new(alloc);
+    push_missed_calls(alloc, failing, &mut missed)?;
+    expect_none(missed)
 }

@@ -24,7 +24,7 @@ static ONCE: [(Step, &str); 8] = [
 
 #[test]
 fn takes_each_message_once(rt: HostRuntime) -> Result<(), Fail> {
-    expect(&rt, &ONCE)
+    expect(rt.alloc(), &ONCE)
 }
 
 static NOTHING: [(Step, &str); 4] = [
@@ -39,7 +39,7 @@ static NOTHING: [(Step, &str); 4] = [
 
 #[test]
 fn takes_nothing_where_nothing_is(rt: HostRuntime) -> Result<(), Fail> {
-    expect(&rt, &NOTHING)
+    expect(rt.alloc(), &NOTHING)
 }
 
 /// A queue of four cycles whose name stands at position 1.
@@ -116,7 +116,7 @@ cq 2\nroll daily\nepoch 0\ncells 64\ncount 8\nspacing 1\ncycles 1\nname reader 0
 
 #[test]
 fn opens_no_contents_that_a_queue_cannot_hold(rt: HostRuntime) -> Result<(), Fail> {
-    expect_each(&rt, &HELD)
+    expect_each(rt.alloc(), &HELD)
 }
 
 static TWO_NAMES: [(Step, &str); 18] = [
@@ -151,7 +151,7 @@ static TWO_NAMES: [(Step, &str); 18] = [
 
 #[test]
 fn takes_by_two_names_over_several_days(rt: HostRuntime) -> Result<(), Fail> {
-    expect(&rt, &TWO_NAMES)
+    expect(rt.alloc(), &TWO_NAMES)
 }
 
 /// `queue.cqc` as long as nothing is taken.
@@ -196,6 +196,6 @@ static SAVED: Failing = Failing {
 
 #[test]
 fn take_passes_each_folder_fault_on(rt: HostRuntime) -> Result<(), Fail> {
-    expect_failing(&rt, &FAILING)?;
-    expect_failing(&rt, &SAVED)
+    expect_failing(rt.alloc(), &FAILING)?;
+    expect_failing(rt.alloc(), &SAVED)
 }

@@ -47,7 +47,7 @@ static OLD: [(Step, &str); 13] = [
 
 #[test]
 fn changes_no_folder_of_version_1(rt: HostRuntime) -> Result<(), Fail> {
-    expect(&rt, &OLD)
+    expect(rt.alloc(), &OLD)
 }
 
 /// `queue.cqc` of version 1 with a floor at cycle 1.
@@ -99,7 +99,7 @@ static READ: [(&[Step], &str); 4] = [
 
 #[test]
 fn reads_folders_of_version_1(rt: HostRuntime) -> Result<(), Fail> {
-    expect_each(&rt, &READ)
+    expect_each(rt.alloc(), &READ)
 }
 
 /// An image of version 2 in a folder of version 1, and one of version 1 in a folder of version 2: whole, and cut off behind the
@@ -154,7 +154,7 @@ cq: 19700101.cqi: WrongStore at 0cq: 19700101.cqi: WrongStore at 0cq: 19700101.c
 
 #[test]
 fn takes_no_image_of_the_other_version(rt: HostRuntime) -> Result<(), Fail> {
-    expect_each(&rt, &OTHER)
+    expect_each(rt.alloc(), &OTHER)
 }
 
 /// An image without messages is the same in both versions.
@@ -185,5 +185,5 @@ static SAME: [(&[Step], &str); 2] = [
 
 #[test]
 fn takes_an_image_without_messages(rt: HostRuntime) -> Result<(), Fail> {
-    expect_each(&rt, &SAME)
+    expect_each(rt.alloc(), &SAME)
 }
