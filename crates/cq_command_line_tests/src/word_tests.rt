@@ -1,455 +1,485 @@
 //! What the words of a command line are.
 use cq_command_line::{ParseFault, parse};
-use std::alloc::Global;
-use std::process::Abort;
+use std::alloc::{AllocError, Global};
 use std::test::Fail;
 
-/// What the words are, or the beginning of what is said of them.
-fn parsed(alloc: Global, given: &[&str]) -> Result<String, Fail> {
-    let mut words = Vec::new(alloc);
-    for word in given {
-        words.push(String::from_str(alloc, word)?)?;
+/// Words, each in memory of its own.
+fn texts(alloc: Global, words: &[&str]) -> Result<Vec<String>, AllocError> {
+    let mut texts = Vec::new(alloc);
+    for word in words {
+        texts.push(String::from_str(alloc, word)?)?;
     }
-    Ok(match parse(alloc, words.as_slice()) {
-        Ok(order) => format!(in alloc; "{order:?}")?,
-        Err(ParseFault::NotUnderstood(error)) => error.to_string(alloc)?,
-        Err(ParseFault::OutOfMemory) => format!(in alloc; "want of memory")?,
-    })
+    Ok(texts)
+}
+
+/// What words are, or what is said of them.
+fn parsed(alloc: Global, words: &[String]) -> Result<String, AllocError> {
+    match parse(alloc, words) {
+        Ok(order) => format!(in alloc; "{order:?}"),
+        Err(ParseFault::NotUnderstood(error)) => error.to_string(alloc),
+        Err(ParseFault::OutOfMemory) => Err(AllocError),
+    }
+}
+
+/// Fails where words are something else than is wanted, with what is said of them.
+fn expect_said(alloc: Global, given: &[&str], want: &str) -> Result<(), Fail> {
+    let words = texts(alloc, given)?;
+    let said = parsed(alloc, words.as_slice())?;
+    if said.as_str().contains(want) {
+        return Ok(());
+    }
+    Err(Fail::new(format_args!("{said}")))
 }
 
 /// Each list of words is what stands beside it.
-fn expect<R: AllocGlobal + Abort>(rt: &R, table: &[(&[&str], &str)]) -> Result<(), Fail> {
-    for (given, want) in table {
-        let said = parsed(rt.alloc(), given)?;
-        assert!(rt; said.as_str().contains(*want), "{said}");
+fn expect(alloc: Global, table: &[(&[&str], &str)]) -> Result<(), Fail> {
+    for &(given, want) in table {
+        expect_said(alloc, given, want)?;
     }
     Ok(())
 }
 
 /// The help of each command says what stands beside it.
-fn expect_help<R: AllocGlobal + Abort>(rt: &R, table: &[(&str, &str)]) -> Result<(), Fail> {
-    for (command, want) in table {
-        let said = parsed(rt.alloc(), &["cq", *command, "--help"])?;
-        assert!(rt; said.as_str().contains(*want), "{said}");
+fn expect_help(alloc: Global, table: &[(&str, &str)]) -> Result<(), Fail> {
+    for &(command, want) in table {
+        expect_said(alloc, &["cq", command, "--help"], want)?;
     }
     Ok(())
 }
 
+/// Words of no command, of `echo` and of `cycle`, each list beside what it is.
+static WORDS: [(&[&str], &str); 13] = [
+    (&["cq", "echo"], "Echo"),
+    (&["another name", "echo"], "Echo"),
+    (&["cq"], "requires a subcommand"),
+    (&["cq", "nonsense"], "unrecognized subcommand 'nonsense'"),
+    (&["cq", "echo", "extra"], "unexpected argument 'extra'"),
+    (&["cq", "--version"], "unexpected argument '--version'"),
+    (&["cq", "--help"], "Usage: cq <COMMAND>"),
+    (&["cq", "echo", "--help"], "Usage: cq echo"),
+    (
+        &["cq", "cycle", "weekly", "007", "18446744073709551615"],
+        "Cycle { roll: \"weekly\", epoch: 7, moment: 18446744073709551615 }",
+    ),
+    (&["cq", "cycle", "daily", "0"], "<MOMENT>"),
+    (
+        &["cq", "cycle", "daily", "0", "18446744073709551616"],
+        "invalid value '18446744073709551616'",
+    ),
+    (&["cq", "cycle", "daily", "0x0", "0"], "invalid value '0x0'"),
+    (
+        &["cq", "cycle", "daily", "0", "0", "0"],
+        "unexpected argument '0'",
+    ),
+];
+
 #[test]
 fn parses_words(rt: HostRuntime) -> Result<(), Fail> {
-    let table: [(&[&str], &str); 13] = [
-        (&["cq", "echo"], "Echo"),
-        (&["another name", "echo"], "Echo"),
-        (&["cq"], "requires a subcommand"),
-        (&["cq", "nonsense"], "unrecognized subcommand 'nonsense'"),
-        (&["cq", "echo", "extra"], "unexpected argument 'extra'"),
-        (&["cq", "--version"], "unexpected argument '--version'"),
-        (&["cq", "--help"], "Usage: cq <COMMAND>"),
-        (&["cq", "echo", "--help"], "Usage: cq echo"),
-        (
-            &["cq", "cycle", "weekly", "007", "18446744073709551615"],
-            "Cycle { roll: \"weekly\", epoch: 7, moment: 18446744073709551615 }",
-        ),
-        (&["cq", "cycle", "daily", "0"], "<MOMENT>"),
-        (
-            &["cq", "cycle", "daily", "0", "18446744073709551616"],
-            "invalid value '18446744073709551616'",
-        ),
-        (&["cq", "cycle", "daily", "0x0", "0"], "invalid value '0x0'"),
-        (
-            &["cq", "cycle", "daily", "0", "0", "0"],
-            "unexpected argument '0'",
-        ),
-    ];
-    expect(&rt, table.as_slice())
+    expect(rt.alloc(), &WORDS)
 }
+
+/// Words of `init`, each list beside what it is.
+static NEW_QUEUES: [(&[&str], &str); 10] = [
+    (
+        &["cq", "init", "q", "hourly", "1", "2", "3", "4", "5"],
+        "Init { folder: \"q\", settings: InitSettings { roll: \"hourly\", epoch: 1, cells: 2, index_count: 3, \
+         index_spacing: 4, cycles: 5, names: [] } }",
+    ),
+    (
+        &[
+            "cq",
+            "init",
+            "q",
+            "weekly",
+            "0",
+            "18446744073709551615",
+            "0",
+            "+4",
+            "005",
+            "b",
+            "a",
+            "b",
+        ],
+        "Init { folder: \"q\", settings: InitSettings { roll: \"weekly\", epoch: 0, cells: 18446744073709551615, \
+         index_count: 0, index_spacing: 4, cycles: 5, names: [\"b\", \"a\", \"b\"] } }",
+    ),
+    (
+        &[
+            "cq", "init", "q", "", "1", "2", "3", "4", "5", "--", "-a", "",
+        ],
+        "roll: \"\", epoch: 1, cells: 2, index_count: 3, index_spacing: 4, cycles: 5, names: [\"-a\", \"\"] } }",
+    ),
+    (
+        &["cq", "init", "q", "hourly", "1", "2", "3", "4"],
+        "<CYCLES>",
+    ),
+    (&["cq", "init"], "<DIR>"),
+    (
+        &["cq", "init", "q", "hourly", "1", "2", "3", "4", "five"],
+        "invalid value 'five' for '<CYCLES>'",
+    ),
+    (
+        &[
+            "cq",
+            "init",
+            "q",
+            "hourly",
+            "1",
+            "18446744073709551616",
+            "3",
+            "4",
+            "5",
+        ],
+        "invalid value '18446744073709551616' for '<CELLS>'",
+    ),
+    (
+        &["cq", "init", "q", "hourly", "-1", "2", "3", "4", "5"],
+        "unexpected argument '-1'",
+    ),
+    (
+        &["cq", "init", "q", "hourly", "1", "2", "3", "4", "5", "-a"],
+        "unexpected argument '-a'",
+    ),
+    (
+        &["cq", "init", "--help"],
+        "Usage: cq init <DIR> <ROLL> <EPOCH> <CELLS> <COUNT> <SPACING> <CYCLES> [NAMES]...",
+    ),
+];
 
 #[test]
 fn parses_the_words_of_a_new_queue(rt: HostRuntime) -> Result<(), Fail> {
-    let table: [(&[&str], &str); 10] = [
-        (
-            &["cq", "init", "q", "hourly", "1", "2", "3", "4", "5"],
-            "Init { folder: \"q\", settings: InitSettings { roll: \"hourly\", epoch: 1, cells: 2, index_count: 3, \
-             index_spacing: 4, cycles: 5, names: [] } }",
-        ),
-        (
-            &[
-                "cq",
-                "init",
-                "q",
-                "weekly",
-                "0",
-                "18446744073709551615",
-                "0",
-                "+4",
-                "005",
-                "b",
-                "a",
-                "b",
-            ],
-            "Init { folder: \"q\", settings: InitSettings { roll: \"weekly\", epoch: 0, cells: 18446744073709551615, \
-             index_count: 0, index_spacing: 4, cycles: 5, names: [\"b\", \"a\", \"b\"] } }",
-        ),
-        (
-            &[
-                "cq", "init", "q", "", "1", "2", "3", "4", "5", "--", "-a", "",
-            ],
-            "roll: \"\", epoch: 1, cells: 2, index_count: 3, index_spacing: 4, cycles: 5, names: [\"-a\", \"\"] } }",
-        ),
-        (
-            &["cq", "init", "q", "hourly", "1", "2", "3", "4"],
-            "<CYCLES>",
-        ),
-        (&["cq", "init"], "<DIR>"),
-        (
-            &["cq", "init", "q", "hourly", "1", "2", "3", "4", "five"],
-            "invalid value 'five' for '<CYCLES>'",
-        ),
-        (
-            &[
-                "cq",
-                "init",
-                "q",
-                "hourly",
-                "1",
-                "18446744073709551616",
-                "3",
-                "4",
-                "5",
-            ],
-            "invalid value '18446744073709551616' for '<CELLS>'",
-        ),
-        (
-            &["cq", "init", "q", "hourly", "-1", "2", "3", "4", "5"],
-            "unexpected argument '-1'",
-        ),
-        (
-            &["cq", "init", "q", "hourly", "1", "2", "3", "4", "5", "-a"],
-            "unexpected argument '-a'",
-        ),
-        (
-            &["cq", "init", "--help"],
-            "Usage: cq init <DIR> <ROLL> <EPOCH> <CELLS> <COUNT> <SPACING> <CYCLES> [NAMES]...",
-        ),
-    ];
-    expect(&rt, table.as_slice())
+    expect(rt.alloc(), &NEW_QUEUES)
 }
+
+/// Words of `read`, each list beside what it is.
+static READERS: [(&[&str], &str); 15] = [
+    (
+        &["cq", "read", "q"],
+        "Read { folder: \"q\", back: false, from: None }",
+    ),
+    (
+        &["cq", "read", "q", "--back"],
+        "Read { folder: \"q\", back: true, from: None }",
+    ),
+    (
+        &["cq", "read", "--back", "q"],
+        "Read { folder: \"q\", back: true, from: None }",
+    ),
+    (
+        &["cq", "read", "q", "--from", "0000000100000002"],
+        "Read { folder: \"q\", back: false, from: Some(\"0000000100000002\") }",
+    ),
+    (
+        &["cq", "read", "--from", "q", "r"],
+        "Read { folder: \"r\", back: false, from: Some(\"q\") }",
+    ),
+    (
+        &["cq", "read", "q", "--back", "--from", "no index"],
+        "Read { folder: \"q\", back: true, from: Some(\"no index\") }",
+    ),
+    (
+        &["cq", "read", "--from=", "q", "--back"],
+        "Read { folder: \"q\", back: true, from: Some(\"\") }",
+    ),
+    (
+        &["cq", "read", "--back", "--from", "7", "q"],
+        "Read { folder: \"q\", back: true, from: Some(\"7\") }",
+    ),
+    (&["cq", "read"], "<DIR>"),
+    (&["cq", "read", "q", "r"], "unexpected argument 'r'"),
+    (
+        &["cq", "read", "q", "--back", "--back"],
+        "'--back' cannot be used multiple times",
+    ),
+    (
+        &["cq", "read", "q", "--from", "1", "--from", "2"],
+        "'--from <INDEX>' cannot be used multiple times",
+    ),
+    (
+        &["cq", "read", "q", "--from"],
+        "a value is required for '--from <INDEX>'",
+    ),
+    (
+        &["cq", "read", "q", "--back=yes"],
+        "unexpected value 'yes' for '--back'",
+    ),
+    (
+        &["cq", "read", "q", "--forth"],
+        "unexpected argument '--forth'",
+    ),
+];
 
 #[test]
 fn parses_the_words_of_a_reader(rt: HostRuntime) -> Result<(), Fail> {
-    let table: [(&[&str], &str); 15] = [
-        (
-            &["cq", "read", "q"],
-            "Read { folder: \"q\", back: false, from: None }",
-        ),
-        (
-            &["cq", "read", "q", "--back"],
-            "Read { folder: \"q\", back: true, from: None }",
-        ),
-        (
-            &["cq", "read", "--back", "q"],
-            "Read { folder: \"q\", back: true, from: None }",
-        ),
-        (
-            &["cq", "read", "q", "--from", "0000000100000002"],
-            "Read { folder: \"q\", back: false, from: Some(\"0000000100000002\") }",
-        ),
-        (
-            &["cq", "read", "--from", "q", "r"],
-            "Read { folder: \"r\", back: false, from: Some(\"q\") }",
-        ),
-        (
-            &["cq", "read", "q", "--back", "--from", "no index"],
-            "Read { folder: \"q\", back: true, from: Some(\"no index\") }",
-        ),
-        (
-            &["cq", "read", "--from=", "q", "--back"],
-            "Read { folder: \"q\", back: true, from: Some(\"\") }",
-        ),
-        (
-            &["cq", "read", "--back", "--from", "7", "q"],
-            "Read { folder: \"q\", back: true, from: Some(\"7\") }",
-        ),
-        (&["cq", "read"], "<DIR>"),
-        (&["cq", "read", "q", "r"], "unexpected argument 'r'"),
-        (
-            &["cq", "read", "q", "--back", "--back"],
-            "'--back' cannot be used multiple times",
-        ),
-        (
-            &["cq", "read", "q", "--from", "1", "--from", "2"],
-            "'--from <INDEX>' cannot be used multiple times",
-        ),
-        (
-            &["cq", "read", "q", "--from"],
-            "a value is required for '--from <INDEX>'",
-        ),
-        (
-            &["cq", "read", "q", "--back=yes"],
-            "unexpected value 'yes' for '--back'",
-        ),
-        (
-            &["cq", "read", "q", "--forth"],
-            "unexpected argument '--forth'",
-        ),
-    ];
-    expect(&rt, table.as_slice())
+    expect(rt.alloc(), &READERS)
 }
+
+/// Words of the other commands on a folder, each list beside what it is.
+static OTHERS: [(&[&str], &str); 34] = [
+    (
+        &["cq", "write", "q", "18446744073709551615"],
+        "Write { folder: \"q\", moment: 18446744073709551615 }",
+    ),
+    (
+        &["cq", "write", "ein Ordner für Ähren", "0"],
+        "Write { folder: \"ein Ordner für Ähren\", moment: 0 }",
+    ),
+    (&["cq", "write", "q"], "<MOMENT>"),
+    (&["cq", "write", "q", "1", "2"], "unexpected argument '2'"),
+    (&["cq", "write", "q", "-1"], "unexpected argument '-1'"),
+    (
+        &["cq", "write", "q", "18446744073709551616"],
+        "invalid value '18446744073709551616' for '<MOMENT>'",
+    ),
+    (
+        &["cq", "write", "q", "now"],
+        "invalid value 'now' for '<MOMENT>'",
+    ),
+    (&["cq", "write", "q", ""], "invalid value '' for '<MOMENT>'"),
+    (
+        &["cq", "take", "q", "reader"],
+        "Take { folder: \"q\", name: \"reader\" }",
+    ),
+    (&["cq", "take", "q"], "<NAME>"),
+    (&["cq", "take", "q", "r", "s"], "unexpected argument 's'"),
+    (&["cq", "take", "--help"], "Usage: cq take <DIR> <NAME>"),
+    (
+        &["cq", "drop", "q", "20009"],
+        "DropBefore { folder: \"q\", cycle: 20009 }",
+    ),
+    (&["cq", "drop", "q"], "<CYCLE>"),
+    (
+        &["cq", "drop", "q", "20241009"],
+        "DropBefore { folder: \"q\", cycle: 20241009 }",
+    ),
+    (
+        &["cq", "drop", "q", "18446744073709551616"],
+        "invalid value '18446744073709551616' for '<CYCLE>'",
+    ),
+    (&["cq", "drop", "--help"], "Usage: cq drop <DIR> <CYCLE>"),
+    (&["cq", "check", "q"], "Check { folder: \"q\" }"),
+    (&["cq", "check", " "], "Check { folder: \" \" }"),
+    (&["cq", "check"], "<DIR>"),
+    (&["cq", "check", "q", "r"], "unexpected argument 'r'"),
+    (&["cq", "check", "q", "-x"], "unexpected argument '-x'"),
+    (
+        &["cq", "dump", "q", "2024 01.cq"],
+        "Dump { folder: \"q\", file: \"2024 01.cq\" }",
+    ),
+    (&["cq", "dump", "q"], "<FILE>"),
+    (&["cq", "dump", "q", "r", "s"], "unexpected argument 's'"),
+    (&["cq", "dump", "--help"], "Usage: cq dump <DIR> <FILE>"),
+    (
+        &["cq", "salvage", "q", "../x"],
+        "Salvage { folder: \"q\", file: \"../x\" }",
+    ),
+    (&["cq", "salvage", "q"], "<FILE>"),
+    (&["cq", "salvage", "q", "r", "s"], "unexpected argument 's'"),
+    (
+        &["cq", "salvage", "--help"],
+        "Usage: cq salvage <DIR> <FILE>",
+    ),
+    (&["cq", "migrate", "q"], "Migrate { folder: \"q\" }"),
+    (&["cq", "migrate"], "<DIR>"),
+    (&["cq", "migrate", "q", "r"], "unexpected argument 'r'"),
+    (&["cq", "migrate", "--help"], "Usage: cq migrate <DIR>"),
+];
 
 #[test]
 fn parses_the_words_of_other_commands(rt: HostRuntime) -> Result<(), Fail> {
-    let table: [(&[&str], &str); 34] = [
-        (
-            &["cq", "write", "q", "18446744073709551615"],
-            "Write { folder: \"q\", moment: 18446744073709551615 }",
-        ),
-        (
-            &["cq", "write", "ein Ordner für Ähren", "0"],
-            "Write { folder: \"ein Ordner für Ähren\", moment: 0 }",
-        ),
-        (&["cq", "write", "q"], "<MOMENT>"),
-        (&["cq", "write", "q", "1", "2"], "unexpected argument '2'"),
-        (&["cq", "write", "q", "-1"], "unexpected argument '-1'"),
-        (
-            &["cq", "write", "q", "18446744073709551616"],
-            "invalid value '18446744073709551616' for '<MOMENT>'",
-        ),
-        (
-            &["cq", "write", "q", "now"],
-            "invalid value 'now' for '<MOMENT>'",
-        ),
-        (&["cq", "write", "q", ""], "invalid value '' for '<MOMENT>'"),
-        (
-            &["cq", "take", "q", "reader"],
-            "Take { folder: \"q\", name: \"reader\" }",
-        ),
-        (&["cq", "take", "q"], "<NAME>"),
-        (&["cq", "take", "q", "r", "s"], "unexpected argument 's'"),
-        (&["cq", "take", "--help"], "Usage: cq take <DIR> <NAME>"),
-        (
-            &["cq", "drop", "q", "20009"],
-            "DropBefore { folder: \"q\", cycle: 20009 }",
-        ),
-        (&["cq", "drop", "q"], "<CYCLE>"),
-        (
-            &["cq", "drop", "q", "20241009"],
-            "DropBefore { folder: \"q\", cycle: 20241009 }",
-        ),
-        (
-            &["cq", "drop", "q", "18446744073709551616"],
-            "invalid value '18446744073709551616' for '<CYCLE>'",
-        ),
-        (&["cq", "drop", "--help"], "Usage: cq drop <DIR> <CYCLE>"),
-        (&["cq", "check", "q"], "Check { folder: \"q\" }"),
-        (&["cq", "check", " "], "Check { folder: \" \" }"),
-        (&["cq", "check"], "<DIR>"),
-        (&["cq", "check", "q", "r"], "unexpected argument 'r'"),
-        (&["cq", "check", "q", "-x"], "unexpected argument '-x'"),
-        (
-            &["cq", "dump", "q", "2024 01.cq"],
-            "Dump { folder: \"q\", file: \"2024 01.cq\" }",
-        ),
-        (&["cq", "dump", "q"], "<FILE>"),
-        (&["cq", "dump", "q", "r", "s"], "unexpected argument 's'"),
-        (&["cq", "dump", "--help"], "Usage: cq dump <DIR> <FILE>"),
-        (
-            &["cq", "salvage", "q", "../x"],
-            "Salvage { folder: \"q\", file: \"../x\" }",
-        ),
-        (&["cq", "salvage", "q"], "<FILE>"),
-        (&["cq", "salvage", "q", "r", "s"], "unexpected argument 's'"),
-        (
-            &["cq", "salvage", "--help"],
-            "Usage: cq salvage <DIR> <FILE>",
-        ),
-        (&["cq", "migrate", "q"], "Migrate { folder: \"q\" }"),
-        (&["cq", "migrate"], "<DIR>"),
-        (&["cq", "migrate", "q", "r"], "unexpected argument 'r'"),
-        (&["cq", "migrate", "--help"], "Usage: cq migrate <DIR>"),
-    ];
-    expect(&rt, table.as_slice())
+    expect(rt.alloc(), &OTHERS)
 }
+
+/// Words of `race`, each list beside what it is.
+static RACES: [(&[&str], &str); 9] = [
+    (&["cq", "race", "1"], "Race { messages: 1 }"),
+    (&["cq", "race", "1000"], "Race { messages: 1000 }"),
+    (&["cq", "race", "007"], "Race { messages: 7 }"),
+    (&["cq", "race", "0"], "invalid value '0' for '<MESSAGES>'"),
+    (
+        &["cq", "race", "1001"],
+        "invalid value '1001' for '<MESSAGES>'",
+    ),
+    (
+        &["cq", "race", "4294967297"],
+        "invalid value '4294967297' for '<MESSAGES>'",
+    ),
+    (
+        &["cq", "race", "ten"],
+        "invalid value 'ten' for '<MESSAGES>'",
+    ),
+    (&["cq", "race"], "<MESSAGES>"),
+    (&["cq", "race", "1", "2"], "unexpected argument '2'"),
+];
 
 #[test]
 fn parses_the_words_of_a_race(rt: HostRuntime) -> Result<(), Fail> {
-    let table: [(&[&str], &str); 9] = [
-        (&["cq", "race", "1"], "Race { messages: 1 }"),
-        (&["cq", "race", "1000"], "Race { messages: 1000 }"),
-        (&["cq", "race", "007"], "Race { messages: 7 }"),
-        (&["cq", "race", "0"], "invalid value '0' for '<MESSAGES>'"),
-        (
-            &["cq", "race", "1001"],
-            "invalid value '1001' for '<MESSAGES>'",
-        ),
-        (
-            &["cq", "race", "4294967297"],
-            "invalid value '4294967297' for '<MESSAGES>'",
-        ),
-        (
-            &["cq", "race", "ten"],
-            "invalid value 'ten' for '<MESSAGES>'",
-        ),
-        (&["cq", "race"], "<MESSAGES>"),
-        (&["cq", "race", "1", "2"], "unexpected argument '2'"),
-    ];
-    expect(&rt, table.as_slice())
+    expect(rt.alloc(), &RACES)
 }
+
+/// What the help of `race` says.
+static RACE_HELP: [(&str, &str); 4] = [
+    ("race", "Usage: cq race <MESSAGES>"),
+    (
+        "race",
+        " <MESSAGES>  How many messages each writer appends: from 1 to 1,000\n",
+    ),
+    (
+        "race",
+        "Prints 'writer W: K in order' for the writers 0 and 1: both readers read the first K\n\
+         messages of the writer in their order, and not one more. Then 'reader R: K read' for\n\
+         the readers 0 and 1, where K is how many messages the reader read.\n",
+    ),
+    ("race", "Example:\n  cq race 1000\n"),
+];
 
 #[test]
 fn help_says_what_a_race_prints(rt: HostRuntime) -> Result<(), Fail> {
-    let table = [
-        ("race", "Usage: cq race <MESSAGES>"),
-        (
-            "race",
-            " <MESSAGES>  How many messages each writer appends: from 1 to 1,000\n",
-        ),
-        (
-            "race",
-            "Prints 'writer W: K in order' for the writers 0 and 1: both readers read the first K\n\
-             messages of the writer in their order, and not one more. Then 'reader R: K read' for\n\
-             the readers 0 and 1, where K is how many messages the reader read.\n",
-        ),
-        ("race", "Example:\n  cq race 1000\n"),
-    ];
-    expect_help(&rt, table.as_slice())
+    expect_help(rt.alloc(), &RACE_HELP)
 }
+
+/// What the help of `init` says of limits.
+static INIT_HELP: [(&str, &str); 9] = [
+    (
+        "init",
+        " <DIR>       The folder of the queue, which is there already\n",
+    ),
+    (
+        "init",
+        " <ROLL>      How long a cycle is: daily, hourly or minutely\n",
+    ),
+    (
+        "init",
+        " <EPOCH>     When cycle 0 begins, in milliseconds of Unix time: at most 253,402,300,799,999\n",
+    ),
+    (
+        "init",
+        " <CELLS>     The cells of a cycle, of four bytes each: from 13 + 2 * (1 + COUNT) to 1,048,576\n",
+    ),
+    (
+        "init",
+        " <COUNT>     The entries of a table of the index: a power of two from 8 to 1,024\n",
+    ),
+    (
+        "init",
+        " <SPACING>   One message in so many has an entry in the index: a power of two from 1 to 256\n",
+    ),
+    (
+        "init",
+        " <CYCLES>    How many cycles may begin: from 1 to 64, and CYCLES * CELLS is at most 4,194,304\n",
+    ),
+    (
+        "init",
+        " [NAMES]...  The names of the tailers: at most 16, no two the same,\n",
+    ),
+    (
+        "init",
+        " each of 1 to 32 bytes of A-Z, a-z, 0-9, '_', '-' and '.'\n",
+    ),
+];
 
 #[test]
 fn help_names_the_limits_of_a_new_queue(rt: HostRuntime) -> Result<(), Fail> {
-    let table = [
-        (
-            "init",
-            " <DIR>       The folder of the queue, which is there already\n",
-        ),
-        (
-            "init",
-            " <ROLL>      How long a cycle is: daily, hourly or minutely\n",
-        ),
-        (
-            "init",
-            " <EPOCH>     When cycle 0 begins, in milliseconds of Unix time: at most 253,402,300,799,999\n",
-        ),
-        (
-            "init",
-            " <CELLS>     The cells of a cycle, of four bytes each: from 13 + 2 * (1 + COUNT) to 1,048,576\n",
-        ),
-        (
-            "init",
-            " <COUNT>     The entries of a table of the index: a power of two from 8 to 1,024\n",
-        ),
-        (
-            "init",
-            " <SPACING>   One message in so many has an entry in the index: a power of two from 1 to 256\n",
-        ),
-        (
-            "init",
-            " <CYCLES>    How many cycles may begin: from 1 to 64, and CYCLES * CELLS is at most 4,194,304\n",
-        ),
-        (
-            "init",
-            " [NAMES]...  The names of the tailers: at most 16, no two the same,\n",
-        ),
-        (
-            "init",
-            " each of 1 to 32 bytes of A-Z, a-z, 0-9, '_', '-' and '.'\n",
-        ),
-    ];
-    expect_help(&rt, table.as_slice())
+    expect_help(rt.alloc(), &INIT_HELP)
 }
+
+/// What the help of other commands says of limits.
+static LIMITS: [(&str, &str); 15] = [
+    (
+        "echo",
+        "Input: at most 129,000 bytes, in at most 1,000 lines of 1 to 128 bytes\n",
+    ),
+    (
+        "cycle",
+        " <ROLL>    How long a cycle is: daily, hourly or minutely\n",
+    ),
+    (
+        "cycle",
+        " <EPOCH>   When cycle 0 begins, in milliseconds of Unix time: at most 253,402,300,799,999\n",
+    ),
+    (
+        "cycle",
+        " <MOMENT>  The moment, in milliseconds of Unix time: from EPOCH to 253,402,300,799,999,\n",
+    ),
+    ("cycle", " and in a cycle up to 2,147,483,646\n"),
+    (
+        "write",
+        " <MOMENT>  The moment of the lines, in milliseconds of Unix time: from the queue's EPOCH\n",
+    ),
+    (
+        "write",
+        " to 253,402,300,799,999, and in a cycle up to 2,147,483,646\n",
+    ),
+    (
+        "write",
+        "Input: at most 8,388,608 bytes, of which no line is empty, and all fit into one cycle\n",
+    ),
+    (
+        "read",
+        " --from <INDEX>  The index to begin at: 16 lower-case hexadecimal digits\n",
+    ),
+    (
+        "take",
+        " <NAME>  The name of the tailer: one of the NAMES that the queue was made with\n",
+    ),
+    (
+        "drop",
+        " <CYCLE>  Reads pass over the cycles before this one. One above the last cycle counts as that\n",
+    ),
+    (
+        "check",
+        " <DIR>  The folder of the queue, which is there already\n",
+    ),
+    (
+        "dump",
+        " <FILE>  The image's file in DIR: yyyyMMdd.cqi, yyyyMMdd-HH.cqi or yyyyMMdd-HHmm.cqi, by the roll\n",
+    ),
+    (
+        "salvage",
+        " <FILE>  The image's file in DIR: yyyyMMdd.cqi, yyyyMMdd-HH.cqi or yyyyMMdd-HHmm.cqi, by the roll\n",
+    ),
+    (
+        "migrate",
+        "CELLS + 3 is to be at most 1,048,576, and CYCLES * (CELLS + 3) at most 4,194,304.\n",
+    ),
+];
 
 #[test]
 fn help_names_the_limits_of_other_words(rt: HostRuntime) -> Result<(), Fail> {
-    let table = [
-        (
-            "echo",
-            "Input: at most 129,000 bytes, in at most 1,000 lines of 1 to 128 bytes\n",
-        ),
-        (
-            "cycle",
-            " <ROLL>    How long a cycle is: daily, hourly or minutely\n",
-        ),
-        (
-            "cycle",
-            " <EPOCH>   When cycle 0 begins, in milliseconds of Unix time: at most 253,402,300,799,999\n",
-        ),
-        (
-            "cycle",
-            " <MOMENT>  The moment, in milliseconds of Unix time: from EPOCH to 253,402,300,799,999,\n",
-        ),
-        ("cycle", " and in a cycle up to 2,147,483,646\n"),
-        (
-            "write",
-            " <MOMENT>  The moment of the lines, in milliseconds of Unix time: from the queue's EPOCH\n",
-        ),
-        (
-            "write",
-            " to 253,402,300,799,999, and in a cycle up to 2,147,483,646\n",
-        ),
-        (
-            "write",
-            "Input: at most 8,388,608 bytes, of which no line is empty, and all fit into one cycle\n",
-        ),
-        (
-            "read",
-            " --from <INDEX>  The index to begin at: 16 lower-case hexadecimal digits\n",
-        ),
-        (
-            "take",
-            " <NAME>  The name of the tailer: one of the NAMES that the queue was made with\n",
-        ),
-        (
-            "drop",
-            " <CYCLE>  Reads pass over the cycles before this one. One above the last cycle counts as that\n",
-        ),
-        (
-            "check",
-            " <DIR>  The folder of the queue, which is there already\n",
-        ),
-        (
-            "dump",
-            " <FILE>  The image's file in DIR: yyyyMMdd.cqi, yyyyMMdd-HH.cqi or yyyyMMdd-HHmm.cqi, by the roll\n",
-        ),
-        (
-            "salvage",
-            " <FILE>  The image's file in DIR: yyyyMMdd.cqi, yyyyMMdd-HH.cqi or yyyyMMdd-HHmm.cqi, by the roll\n",
-        ),
-        (
-            "migrate",
-            "CELLS + 3 is to be at most 1,048,576, and CYCLES * (CELLS + 3) at most 4,194,304.\n",
-        ),
-    ];
-    expect_help(&rt, table.as_slice())
+    expect_help(rt.alloc(), &LIMITS)
 }
+
+/// Commands, each beside the example in its help.
+static EXAMPLES: [(&str, &str); 11] = [
+    ("echo", "Example:\n  printf 'hello\\nworld\\n' | cq echo\n"),
+    ("cycle", "Example:\n  cq cycle daily 0 $(date +%s%3N)\n"),
+    (
+        "init",
+        "Example:\n  mkdir journal && cq init journal daily 0 65536 32 1 8 reader\n",
+    ),
+    (
+        "write",
+        "Example:\n  printf 'hello\\nworld\\n' | cq write journal $(date +%s%3N)\n",
+    ),
+    (
+        "read",
+        "Example:\n  cq read journal --from 00004e2000000000\n",
+    ),
+    ("take", "Example:\n  cq take journal reader\n"),
+    ("drop", "Example:\n  cq drop journal 20005\n"),
+    ("check", "Example:\n  cq check journal\n"),
+    (
+        "dump",
+        "Example:\n  cq dump journal $(date -u +%Y%m%d).cqi\n",
+    ),
+    (
+        "salvage",
+        "Example:\n  cq salvage journal $(date -u +%Y%m%d).cqi\n",
+    ),
+    ("migrate", "Example:\n  cq migrate journal\n"),
+];
 
 #[test]
 fn help_gives_an_example(rt: HostRuntime) -> Result<(), Fail> {
-    let table = [
-        ("echo", "Example:\n  printf 'hello\\nworld\\n' | cq echo\n"),
-        ("cycle", "Example:\n  cq cycle daily 0 $(date +%s%3N)\n"),
-        (
-            "init",
-            "Example:\n  mkdir journal && cq init journal daily 0 65536 32 1 8 reader\n",
-        ),
-        (
-            "write",
-            "Example:\n  printf 'hello\\nworld\\n' | cq write journal $(date +%s%3N)\n",
-        ),
-        (
-            "read",
-            "Example:\n  cq read journal --from 00004e2000000000\n",
-        ),
-        ("take", "Example:\n  cq take journal reader\n"),
-        ("drop", "Example:\n  cq drop journal 20005\n"),
-        ("check", "Example:\n  cq check journal\n"),
-        (
-            "dump",
-            "Example:\n  cq dump journal $(date -u +%Y%m%d).cqi\n",
-        ),
-        (
-            "salvage",
-            "Example:\n  cq salvage journal $(date -u +%Y%m%d).cqi\n",
-        ),
-        ("migrate", "Example:\n  cq migrate journal\n"),
-    ];
-    expect_help(&rt, table.as_slice())
+    expect_help(rt.alloc(), &EXAMPLES)
 }
