@@ -255,19 +255,29 @@ fn ran<F: Folder>(alloc: Global, folder: &mut F, order: &Order) -> Result<String
     said(alloc, done, &output)
 }
 
-/// What an order writes behind these steps, and what `check` says then.
-fn ran_behind(alloc: Global, before: &[Step], asked: Asked) -> Result<String, Fail> {
-    let mut folder = MemoryFolder::new(alloc);
-    said_by(alloc, &mut folder, before)?;
-    said_asked(alloc, &mut folder, asked)
-}
-
 /// What an order writes over a folder, and what `check` says then.
-fn said_asked<F: Folder>(alloc: Global, folder: &mut F, asked: Asked) -> Result<String, Fail> {
-    let mut text = ran(alloc, folder, &order_of(alloc, asked)?)?;
+fn ran_and_checked<F: Folder>(
+    alloc: Global,
+    folder: &mut F,
+    order: &Order,
+) -> Result<String, Fail> {
+    let mut text = ran(alloc, folder, order)?;
     text.push_str("|")?;
     push_said(alloc, folder, &[Step::Check], &mut text)?;
     Ok(text)
+}
+
+/// What an order writes behind these steps, and what `check` says then.
+fn ran_behind(alloc: Global, before: &[Step], order: &Order) -> Result<String, Fail> {
+    let mut folder = MemoryFolder::new(alloc);
+    said_by(alloc, &mut folder, before)?;
+    ran_and_checked(alloc, &mut folder, order)
+}
+
+/// The same of an order that is asked for.
+fn ran_asked(alloc: Global, before: &[Step], asked: Asked) -> Result<String, Fail> {
+    let order = order_of(alloc, asked)?;
+    ran_behind(alloc, before, &order)
 }
 
 /// A queue with "hello" in cycle 1.
@@ -330,7 +340,7 @@ static ORDERS: [(&[Step], Asked, &str); 13] = [
 #[test]
 fn runs_orders(rt: HostRuntime) -> Result<(), Fail> {
     for &(before, asked, want) in &ORDERS {
-        expect_text(ran_behind(rt.alloc(), before, asked)?, want)?;
+        expect_text(ran_asked(rt.alloc(), before, asked)?, want)?;
     }
     Ok(())
 }

@@ -30,19 +30,13 @@ fn a_cycle_takes_what_fits(rt: HostRuntime) -> Result<(), Fail> {
 /// Whether the first line of each of 64 days has the index 0 of that day.
 fn begins_64_cycles<F: Folder>(alloc: Global, folder: &mut F) -> Result<bool, Fail> {
     for day in 0..64 {
-        if !begins_cycle(alloc, folder, day)? {
+        let said = said_at(alloc, folder, &Step::Write(day * DAY, b"a\n"))?;
+        let index = format!(in alloc; "{day:08x}00000000\n")?;
+        if said.as_str() != index.as_str() {
             return Ok(false);
         }
     }
     Ok(true)
-}
-
-/// Whether the first line of a day has the index 0 of that day.
-fn begins_cycle<F: Folder>(alloc: Global, folder: &mut F, day: u32) -> Result<bool, Fail> {
-    let moment = u64::from(day) * DAY;
-    let said = said_at(alloc, folder, &Step::Write(moment, b"a\n"))?;
-    let index = format!(in alloc; "{day:08x}00000000\n")?;
-    Ok(said.as_str() == index.as_str())
 }
 
 /// What is said over a folder of one more day in a queue of 64 cycles, and of one more line in its last one.

@@ -435,10 +435,19 @@ pub struct Failing {
 fn said_failing(alloc: Global, failing: &Failing, number: u64) -> Result<String, Fail> {
     let mut folder = MemoryFolder::new(alloc);
     said_by(alloc, &mut folder, failing.before)?;
-    let mut folder = match failing.writes {
+    let folder = match failing.writes {
         false => FailingFolder::new(folder, number),
         true => FailingFolder::written(folder, number),
     };
+    said_and_behind(alloc, folder, failing)
+}
+
+/// What is said at the step over a folder of which one call fails, and behind it.
+fn said_and_behind(
+    alloc: Global,
+    mut folder: FailingFolder<MemoryFolder>,
+    failing: &Failing,
+) -> Result<String, Fail> {
     let mut said = said_at(alloc, &mut folder, &failing.step)?;
     said.push_str("|")?;
     push_said(alloc, &mut folder.into_inner(), failing.after, &mut said)?;
