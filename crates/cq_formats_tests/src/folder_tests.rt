@@ -78,13 +78,13 @@ fn a_folder_in_memory_keeps_its_files(rt: HostRuntime) -> Result<(), Fail> {
     expect_no_more_files(rt.alloc(), &mut folder)
 }
 
-/// Files of these names and bytes, which are to be saved.
-fn changes(alloc: Global, files: &[(&str, &[u8])]) -> Result<Vec<NewFile>, AllocError> {
+/// Files of these names and texts, which are to be saved.
+pub fn changes(alloc: Global, files: &[(&str, &str)]) -> Result<Vec<NewFile>, AllocError> {
     let mut changes = Vec::new(alloc);
-    for &(name, bytes) in files {
+    for &(name, text) in files {
         changes.push(NewFile {
             name: String::from_str(alloc, name)?,
-            bytes: Vec::from_slice(alloc, bytes)?,
+            bytes: Vec::from_slice(alloc, text.as_bytes())?,
         })?;
     }
     Ok(changes)
@@ -123,7 +123,7 @@ fn push_last_calls<F: Folder>(
     text: &mut String,
 ) -> Result<(), AllocError> {
     text.push_str(read_text(alloc, folder, "b", 0)?.as_str())?;
-    let changes = changes(alloc, &[("b", b"1"), ("c", b"2")])?;
+    let changes = changes(alloc, &[("b", "1"), ("c", "2")])?;
     let saved = folder.save(changes.as_slice());
     folder.end();
     let failures = folder.failures();

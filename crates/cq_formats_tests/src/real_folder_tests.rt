@@ -1,7 +1,8 @@
 //! Folders of the system, and what is left in them by commands that were cut short.
+use crate::folder_tests::changes;
 use crate::wanted::{expect, expect_text};
 use cq_fixtures::push_missed;
-use cq_folder::{Access, Folder, NewFile, RealFolder};
+use cq_folder::{Access, Folder, RealFolder};
 use std::alloc::{AllocError, Global};
 use std::fmt::Debug;
 use std::fs::{self, File};
@@ -147,18 +148,23 @@ fn answer<E: Debug + Drop>(alloc: Global, done: Result<(), E>) -> Result<String,
     }
 }
 
+/// The path of a name in the folder at a path.
+fn within(alloc: Global, path: &str, name: &str) -> Result<String, AllocError> {
+    format!(in alloc; "{path}/{name}")
+}
+
 fn put<R: Files + AllocGlobal>(rt: &R, path: &str, name: &str, text: &str) -> Result<String, Fail> {
-    fs::write(rt, format!(in rt.alloc(); "{path}/{name}")?.as_str(), text)?;
+    fs::write(rt, within(rt.alloc(), path, name)?.as_str(), text)?;
     Ok(String::new(rt.alloc()))
 }
 
 fn link<R: Files + AllocGlobal>(rt: &R, path: &str, name: &str, to: &str) -> Result<String, Fail> {
-    let place = format!(in rt.alloc(); "{path}/{name}")?;
+    let place = within(rt.alloc(), path, name)?;
     answer(rt.alloc(), rt.symlink(to, place.as_str()))
 }
 
 fn make<R: Files + AllocGlobal>(rt: &R, path: &str, name: &str) -> Result<String, Fail> {
-    fs::create_dir(rt, format!(in rt.alloc(); "{path}/{name}")?.as_str())?;
+    fs::create_dir(rt, within(rt.alloc(), path, name)?.as_str())?;
     Ok(String::new(rt.alloc()))
 }
 
@@ -175,13 +181,7 @@ fn put_many<R: Files + AllocGlobal>(rt: &R, path: &str, count: usize) -> Result<
 }
 
 fn saved<F: Folder>(alloc: Global, folder: &mut F, files: &[(&str, &str)]) -> Result<String, Fail> {
-    let mut changes = Vec::new(alloc);
-    for &(name, text) in files {
-        changes.push(NewFile {
-            name: String::from_str(alloc, name)?,
-            bytes: Vec::from_slice(alloc, text.as_bytes())?,
-        })?;
-    }
+    let changes = changes(alloc, files)?;
     answer(alloc, folder.save(changes.as_slice()))
 }
 
@@ -384,7 +384,7 @@ fn keeps_mode<R>(rt: &R, path: &str) -> Result<bool, Fail>
 where
     R: Files<File = File> + AllocGlobal + Clone + Drop,
 {
-    let file = format!(in rt.alloc(); "{path}/1.cqi")?;
+    let file = within(rt.alloc(), path, "1.cqi")?;
     fs::write(rt, file.as_str(), "old")?;
     make_unwritable(rt, file.as_str())?;
     replace(rt, path)?;

@@ -59,7 +59,7 @@ fn expect_beginning(alloc: Global, len: usize, read: &str, want: &str) -> Result
 
 #[test]
 fn every_beginning_is_saved(rt: HostRuntime) -> Result<(), Fail> {
-    for (first, last, read, want) in BEGINNINGS {
+    for &(first, last, read, want) in &BEGINNINGS {
         for len in first..=last {
             expect_beginning(rt.alloc(), len, read, want)?;
         }
