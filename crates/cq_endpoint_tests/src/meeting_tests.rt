@@ -43,7 +43,9 @@ fn completed_by(alloc: Global, one: &mut Endpoint, other: &mut Endpoint) -> Resu
     one.begin(0, 5)?;
     other.meet(one);
     Call::Put("hello").push_answer(alloc, one, &mut out)?;
+    out.push_str("; ")?;
     Call::Complete.push_answer(alloc, one, &mut out)?;
+    out.push_str("; ")?;
     Call::Next.push_answer(alloc, other, &mut out)?;
     Ok(out)
 }
@@ -56,7 +58,7 @@ fn completed(alloc: Global) -> Result<String, Fail> {
 
 #[test]
 fn a_message_that_is_begun_stays_so_over_a_meeting(rt: HostRuntime) -> Result<(), Fail> {
-    assert_eq!(rt; completed(rt.alloc())?.as_str(), "Ok(())00 hello");
+    assert_eq!(rt; completed(rt.alloc())?.as_str(), "Ok(()); 0; 0 hello");
     Ok(())
 }
 
