@@ -5,7 +5,7 @@ use Rattle.std.specs.Prelude.{OnOk}
 use Rattle.std.specs.Io.KnownBytes.{Appends}
 use Rattle.std.proofs.lemmas.Result.{on_ok_weaker}
 use Rattle.cq_model.specs.Settings.{IsLawfulSettings, Settings, texts}
-use Rattle.cq_folder.specs.ConfigText.{IsTextOf}
+use Rattle.cq_config_text.specs.ConfigText.{IsTextOf}
 use Rattle.cq_folder.specs.Folder.{Files, KeepsFiles}
 use Rattle.cq_text.specs.declared.fault.ToolFault.{ToolFault}
 use Rattle.cq_text.specs.declared.fault.ToolFault.TheVariants.{BadCycleName, NoSuchFile, WriteFault}

@@ -6,14 +6,14 @@ use Rattle.cq_cycle.specs.declared.roll.TheConstants.{LAST_CYCLE}
 use Rattle.cq_model.specs.Settings.{IsLawfulSettings, Settings}
 use Rattle.cq_image.specs.declared.fault.ImageFault.{ImageFault}
 use Rattle.cq_image.specs.Reading.{read_of}
-use Rattle.cq_folder.specs.ConfigFault.{RefusesText}
-use Rattle.cq_folder.specs.ConfigText.{IsTextOf}
+use Rattle.cq_config_text.specs.ConfigFault.{RefusesText}
+use Rattle.cq_config_text.specs.ConfigText.{IsTextOf}
 use Rattle.cq_folder.specs.Folder.{Files}
-use Rattle.cq_folder.specs.Version.{version_of}
-use Rattle.cq_folder.specs.declared.version.FolderVersion.{FolderVersion}
-use Rattle.cq_folder.specs.declared.version.FolderVersion.TheVariants as version
-use Rattle.cq_folder.specs.declared.config_fault.ConfigFault.{ConfigFault}
-use Rattle.cq_folder.specs.declared.config_fault.ConfigFault.TheVariants as config
+use Rattle.cq_config_text.specs.Version.{version_of}
+use Rattle.cq_config_text.specs.declared.version.FolderVersion.{FolderVersion}
+use Rattle.cq_config_text.specs.declared.version.FolderVersion.TheVariants as version
+use Rattle.cq_config_text.specs.declared.config_fault.ConfigFault.{ConfigFault}
+use Rattle.cq_config_text.specs.declared.config_fault.ConfigFault.TheVariants as config
 use Rattle.cq_files.specs.declared.opening.CycleImage.{CycleImage}
 use Rattle.cq_files.specs.declared.opening.SavedQueue.{SavedQueue}
 use Rattle.cq_files.specs.Dumped.{IsDumped}

@@ -4,7 +4,7 @@ use Rattle.cq_layout.specs.Shape.{IsLawfulShape, Measures, measures}
 use Rattle.cq_cycle.specs.declared.roll.Roll.{Roll}
 use Rattle.cq_cycle.specs.RollWord.{roll_word}
 use Rattle.cq_model.specs.Settings.{IsLawfulSettings, Settings, new_settings, texts}
-use Rattle.cq_folder.specs.ConfigText.{IsTextOf}
+use Rattle.cq_config_text.specs.ConfigText.{IsTextOf}
 use Rattle.cq_folder.specs.Folder.{Files}
 use Rattle.cq_text.specs.declared.fault.ToolFault.{ToolFault}
 use Rattle.cq_text.specs.declared.fault.ToolFault.TheVariants.{BadConfig, BadShape, FolderFault, OutOfMemory, QueueThereAlready}

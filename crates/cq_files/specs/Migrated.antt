@@ -8,11 +8,11 @@ use Rattle.cq_image.specs.Image.{AreNext, image_of}
 use Rattle.cq_image.specs.Reading.{read_of}
 use Rattle.cq_image.specs.Versions.{begins_as}
 use Rattle.cq_image.specs.declared.fault.ImageFault.{ImageFault}
-use Rattle.cq_folder.specs.ConfigText.{IsTextOf}
+use Rattle.cq_config_text.specs.ConfigText.{IsTextOf}
 use Rattle.cq_folder.specs.Folder.{Files, KeepsFiles, NamedFile, WritesFiles}
-use Rattle.cq_folder.specs.Version.{version_of}
-use Rattle.cq_folder.specs.declared.config_text.SavedConfig.{SavedConfig}
-use Rattle.cq_folder.specs.declared.version.FolderVersion.TheVariants.{First, Second}
+use Rattle.cq_config_text.specs.Version.{version_of}
+use Rattle.cq_config_text.specs.declared.config_text.SavedConfig.{SavedConfig}
+use Rattle.cq_config_text.specs.declared.version.FolderVersion.TheVariants.{First, Second}
 use Rattle.cq_text.specs.declared.fault.ToolFault.{ToolFault}
 use Rattle.cq_text.specs.declared.fault.ToolFault.TheVariants.{BadConfig, BadCycleName, BadShape, FaultyImage, FileFault, FileTooLarge, OutOfMemory, WrongEnd}
 use Rattle.cq_files.specs.declared.files.TheConstants.{MOST_FILE_BYTES}

@@ -1,7 +1,7 @@
 -- A file that a command is given by its name, and what is shown of it.
 use Rattle.std.specs.Prelude.{◌≡◌, ℕ, List, Option, IfSome, IsSomeAnd, codes, string_bytes}
 use Rattle.cq_model.specs.Settings.{IsLawfulSettings, Settings}
-use Rattle.cq_folder.specs.ConfigText.{IsTextOf}
+use Rattle.cq_config_text.specs.ConfigText.{IsTextOf}
 use Rattle.cq_folder.specs.Folder.{Files}
 use Rattle.cq_files.specs.declared.given.GivenImage.{GivenImage}
 use Rattle.cq_files.specs.Queue.{IsImageFile, IsImageName}

@@ -8,7 +8,8 @@ ghost use Rattle.cq_files.specs.Shown.{IsGiven};
 
 use crate::files::has_name;
 use crate::opening::{ImageFile, QueueFolder, image_file, open_folder};
-use cq_folder::{Access, Folder, SavedConfig};
+use cq_config_text::SavedConfig;
+use cq_folder::{Access, Folder};
 use cq_text::ToolFault;
 use std::alloc::Global;
 

@@ -7,8 +7,9 @@ ghost use Rattle.cq_files.specs.Counted.{CountsFaults};
 
 use crate::files::{CONFIG_FILE, has_name, listed, write_file};
 use crate::names::copied_names;
+use cq_config_text::{FolderVersion, WantedConfig, write_config};
 use cq_cycle::{Roll, roll_named};
-use cq_folder::{Access, Folder, FolderVersion, WantedConfig, write_config};
+use cq_folder::{Access, Folder};
 use cq_model::Config;
 use cq_orders::InitSettings;
 use cq_text::ToolFault;

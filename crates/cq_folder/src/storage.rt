@@ -1,8 +1,9 @@
 //! A folder of files, as the commands of a queue see it.
 
-ghost use Rattle.std.specs.Prelude.{◌≡◌};
+ghost use Rattle.std.specs.Prelude.{◌≡◌, ◌≢◌, ◌<◌, ◌≤◌, ◌-◌, ◌^◌, ◌⊎◌};
 
 use std::alloc::{AllocError, AllocFailed, Global};
+use std::io::{self, ErrorKind};
 
 /// Why a call on a folder is not done (this project's profile).
 #[derive(Clone, Copy, Debug, PartialEq, Eq)]
@@ -33,6 +34,21 @@ impl<T: Drop> From<AllocFailed<T>> for FolderFault {
     fn from(_error: AllocFailed<T>) -> FolderFault {
         FolderFault::OutOfMemory
     }
+}
+
+/// The fault of a call on a folder that met this error of the system: `OutOfMemory` where a growth was refused, else
+/// `Device`. `failures` counts how often a call answered `Device`, this one too, up to 2^64 - 1, where the count stays.
+pub fn fault_of(failures: &mut u64, error: &io::Error) -> FolderFault
+    ensures fits { result ≢ FolderFault.TooLarge }
+    ensures later { failures.old ≤ failures.new }
+    ensures device { result ≡ FolderFault.Device → (failures.old < failures.new) ⊎ (failures.old ≡ 2 ^ 64 - 1) }
+    ensures others { result ≢ FolderFault.Device → failures.new ≡ failures.old }
+{
+    if error.kind() == ErrorKind::OutOfMemory {
+        return FolderFault::OutOfMemory;
+    }
+    *failures = failures.saturating_add(1);
+    FolderFault::Device
 }
 
 /// How a command comes to a folder.

@@ -1,7 +1,8 @@
 //! Folders and their files.
 use crate::noted_folder::NotedFolder;
 use crate::wanted::{expect, expect_text};
-use cq_folder::{Access, FailingFolder, Folder, FolderFault, MemoryFolder, NewFile, RealFolder};
+use cq_folder::{Access, FailingFolder, Folder, FolderFault, MemoryFolder, NewFile};
+use cq_real_folder::RealFolder;
 use std::alloc::{AllocError, Global};
 use std::fs::File;
 use std::rt::Files;

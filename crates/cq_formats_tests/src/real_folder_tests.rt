@@ -2,7 +2,8 @@
 use crate::folder_tests::changes;
 use crate::wanted::{expect, expect_text};
 use cq_fixtures::push_missed;
-use cq_folder::{Access, Folder, RealFolder};
+use cq_folder::{Access, Folder};
+use cq_real_folder::RealFolder;
 use std::alloc::{AllocError, Global};
 use std::fmt::Debug;
 use std::fs::{self, File};

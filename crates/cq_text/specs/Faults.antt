@@ -1,7 +1,7 @@
 -- The faults of a program that others become, and those of the device.
 use Rattle.std.specs.Prelude.{⊤}
-use Rattle.cq_folder.specs.declared.config_fault.ConfigFault.{ConfigFault}
-use Rattle.cq_folder.specs.declared.config_fault.ConfigFault.TheVariants as config
+use Rattle.cq_config_text.specs.declared.config_fault.ConfigFault.{ConfigFault}
+use Rattle.cq_config_text.specs.declared.config_fault.ConfigFault.TheVariants as config
 use Rattle.cq_text.specs.declared.fault.ToolFault.{ToolFault}
 use Rattle.cq_text.specs.declared.fault.ToolFault.TheVariants.{BadConfig, BadShape, ConfigLine, FileFault, FolderFault, OutOfMemory}
 

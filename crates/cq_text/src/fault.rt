@@ -1,7 +1,7 @@
 ghost use Rattle.std.specs.Prelude.{◌≡◌};
 ghost use Rattle.cq_text.specs.declared.fault.ToolFault.TheVariants.{OutOfMemory};
 
-use cq_folder::ConfigFault;
+use cq_config_text::ConfigFault;
 use cq_image::ImageFault;
 use cq_model::Refusal;
 use std::alloc::{AllocError, AllocFailed};

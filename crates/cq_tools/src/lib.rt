@@ -8,11 +8,10 @@ mod starting;
 
 pub use cq_command_line::{ParseFault, parse};
 pub use cq_commands::run;
-pub use cq_folder::{
-    ConfigFault, Folder, FolderFault, MemoryFolder, RealFolder, SavedConfig, read_config,
-    write_config,
-};
+pub use cq_config_text::{ConfigFault, SavedConfig, read_config, write_config};
+pub use cq_folder::{Folder, FolderFault, MemoryFolder};
 pub use cq_orders::{InitSettings, Order};
 pub use cq_race::{Gate, OpenGate, race};
+pub use cq_real_folder::RealFolder;
 pub use cq_text::{ToolFault, dump_text, echo};
 pub use starting::{DONE, FAULT, NOT_UNDERSTOOD, status};

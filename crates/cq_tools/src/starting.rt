@@ -4,9 +4,9 @@ ghost use Rattle.std.specs.Prelude.{◌≡◌};
 ghost use Rattle.cq_orders.specs.OrderFolder.{IsRace};
 
 use cq_command_line::{ParseFault, parse};
-use cq_folder::RealFolder;
 use cq_orders::Order;
 use cq_race::{OpenGate, race};
+use cq_real_folder::RealFolder;
 use cq_text::ToolFault;
 use std::fs::File;
 use std::io::{self, ErrorKind};

@@ -1,0 +1,34 @@
+use Rattle.std.proofs.Common.{◌≡◌, ◌++◌, ◌∷◌, [], ◌∙◌, ap, arith, string_bytes, sym, length, rules}
+use Rattle.std.proofs.lemmas.List.{map_push}
+use Rattle.cq_model.specs.Settings.{texts}
+use Rattle.cq_config_text.proofs.FaultLemmas.{no_fault_at_end}
+use Rattle.cq_config_text.proofs.TextLemmas.{one_name_more, writable_names_more}
+use Rattle.cq_config_text.proofs.config_text.read_names.Goals as goal
+
+pub loop-rest-preserved : goal.loop-rest-preserved
+loop-rest-preserved c =
+    let old = c.loop-rest.invariant in
+    let taken = c.in_ok-declared.ensures in
+    let name = c.in_ok-declared.declared.name.now in
+    let position = c.in_ok-declared.declared.position in
+    let more : texts c.push.new.self.items ≡ texts c.loop-rest.names.items ++ name ∷ [] =
+    ap texts c.in_ok-push.ensures.items ∙ map_push string_bytes c.loop-rest.names.items c.in_ok-from_str.field-0
+    ∙ ap (λ text. texts c.loop-rest.names.items ++ text ∷ []) c.in_ok-from_str.ensures.ok in
+    let placed = c.in_ok-push-2.ensures.items in
+    record {
+      declared =
+          writable_names_more (texts c.loop-rest.names.items) (texts c.push.new.self.items) c.loop-rest.positions.items
+          c.push-in-loop-rest.new.self.items name position more placed old.declared.paired old.declared taken.found.1
+          taken.found.0;
+      spelled =
+          one_name_more (texts c.loop-rest.names.items) (texts c.push.new.self.items) c.loop-rest.positions.items
+          c.push-in-loop-rest.new.self.items name position more placed old.declared.paired c.args.text.now
+          c.loop-rest.rest.now c.in_ok-declared.behind.now old.spelled taken.found.2;
+      checked = sym taken.next ∙ old.checked;
+      counted = omega (arith, old.counted, taken.shorter);
+    }
+
+pub returns-clause-whole : goal.returns-clause-whole
+returns-clause-whole c =
+    let empty : length c.loop-rest.rest.now ≡ 0 = search rules in
+    sym c.loop-rest.invariant.checked ∙ no_fault_at_end c.loop-rest.rest.now empty c.loop-rest.number

@@ -1,0 +1,79 @@
+use Rattle.std.proofs.Common.{refl, lit<, ◌≡◌, ◌∙◌, ◌++◌, ◌∷◌, [], List, ℕ, ap, codes, drop, sym}
+use Rattle.cq_model.specs.Settings.{Settings}
+use Rattle.cq_config_text.specs.ConfigText.{IsWritable, fault_from, floor_forms, head_forms, head_lines, line_at, line_of, lines_text, setting_words}
+use Rattle.cq_config_text.specs.Version.{store_in, version_of, version_word}
+use Rattle.cq_config_text.specs.declared.version.FolderVersion.{FolderVersion}
+use Rattle.cq_cycle.specs.RollWord.{roll_word}
+use Rattle.cq_config_text.specs.Written.{settings_in}
+use Rattle.cq_config_text.proofs.SpellingLemmas.{line_behind_head}
+use Rattle.cq_config_text.proofs.TextLemmas.{line_before, none_declared, version_kept}
+use Rattle.cq_config_text.proofs.config_text.take_head.Goals as goal
+
+pub returns-clause-found : goal.returns-clause-found
+returns-clause-found c =
+    let settings : Settings = settings_in (record {
+      version = c.in_ok-version.version;
+      roll = c.in_ok-roll.roll;
+      epoch = c.in_ok-epoch.epoch;
+      cells = c.in_ok-cells.cells;
+      index_count = c.in_ok-index_count.index_count;
+      index_spacing = c.in_ok-index_spacing.index_spacing;
+      cycles = c.in_ok-cycles.cycles;
+    }) [] in
+    let text = c.args.text.now in
+    let rest = c.in_ok-cycles.rest.now in
+    let kept : version_of settings.shape.store ≡ c.in_ok-version.version =
+    version_kept c.in_ok-version.version c.in_ok-roll.roll c.in_ok-epoch.epoch in
+    let lines : List (List (List ℕ)) = head_lines settings in
+    line_before (codes "cq" ∷ version_word (version_of settings.shape.store) ∷ []) (drop 1 lines) text
+    c.in_ok-version.rest.now rest
+    (c.in_ok-version.ensures.found ∙ ap (λ (v : FolderVersion). line_of (codes "cq" ∷ version_word v ∷ []) ++ 10
+    ∷ c.in_ok-version.rest.now) (sym kept))
+    (line_before (codes "roll" ∷ roll_word c.in_ok-roll.roll ∷ []) (drop 2 lines) c.in_ok-version.rest.now
+    c.in_ok-roll.rest.now rest c.in_ok-roll.ensures.found
+    (line_before (setting_words (codes "epoch") c.in_ok-epoch.epoch) (drop 3 lines) c.in_ok-roll.rest.now
+    c.in_ok-epoch.rest.now rest c.in_ok-epoch.ensures.found.1
+    (line_before (setting_words (codes "cells") c.in_ok-cells.cells) (drop 4 lines) c.in_ok-epoch.rest.now
+    c.in_ok-cells.rest.now rest c.in_ok-cells.ensures.found.1
+    (line_before (setting_words (codes "count") c.in_ok-index_count.index_count) (drop 5 lines) c.in_ok-cells.rest.now
+    c.in_ok-index_count.rest.now rest c.in_ok-index_count.ensures.found.1
+    (line_before (setting_words (codes "spacing") c.in_ok-index_spacing.index_spacing) (drop 6 lines)
+    c.in_ok-index_count.rest.now c.in_ok-index_spacing.rest.now rest c.in_ok-index_spacing.ensures.found.1
+    (line_before (setting_words (codes "cycles") c.in_ok-cycles.cycles) [] c.in_ok-index_spacing.rest.now
+    c.in_ok-cycles.rest.now rest c.in_ok-cycles.ensures.found.1 refl))))))
+
+pub returns-clause-next : goal.returns-clause-next
+returns-clause-next c =
+    let settings : Settings = settings_in (record {
+      version = c.in_ok-version.version;
+      roll = c.in_ok-roll.roll;
+      epoch = c.in_ok-epoch.epoch;
+      cells = c.in_ok-cells.cells;
+      index_count = c.in_ok-index_count.index_count;
+      index_spacing = c.in_ok-index_spacing.index_spacing;
+      cycles = c.in_ok-cycles.cycles;
+    }) [] in
+    let text = c.args.text.now in
+    let rest = c.in_ok-cycles.rest.now in
+    let kept : version_of settings.shape.store ≡ c.in_ok-version.version =
+    version_kept c.in_ok-version.version c.in_ok-roll.roll c.in_ok-epoch.epoch in
+    let writable : IsWritable settings [] 0 = record {
+      epoch = c.in_ok-epoch.ensures.found.0;
+      cells = c.in_ok-cells.ensures.found.0;
+      count = c.in_ok-index_count.ensures.found.0;
+      spacing = c.in_ok-index_spacing.ensures.found.0;
+      cycles = c.in_ok-cycles.ensures.found.0;
+      low = lit< tt;
+      declared = none_declared;
+      store = ap (λ (v : FolderVersion). store_in v c.in_ok-roll.roll c.in_ok-epoch.epoch) (sym kept);
+    } in
+    let found : text ≡ lines_text (head_lines settings) ++ rest = returns-clause-found c in
+    let forms = floor_forms (line_at text 7) in
+    c.in_ok-version.ensures.next (drop 1 head_forms ++ forms)
+    ∙ c.in_ok-roll.ensures.next (drop 2 head_forms ++ forms)
+    ∙ c.in_ok-epoch.ensures.next (drop 3 head_forms ++ forms)
+    ∙ c.in_ok-cells.ensures.next (drop 4 head_forms ++ forms)
+    ∙ c.in_ok-index_count.ensures.next (drop 5 head_forms ++ forms)
+    ∙ c.in_ok-index_spacing.ensures.next (drop 6 head_forms ++ forms)
+    ∙ c.in_ok-cycles.ensures.next forms
+    ∙ ap (λ (line : List ℕ). fault_from 8 (floor_forms line) rest) (line_behind_head settings [] 0 writable text rest found)

@@ -1,0 +1,19 @@
+use Rattle.std.proofs.Common.{[], arith, refl, sym}
+use Rattle.cq_config_text.proofs.FaultLemmas.{fault_at_end, fault_behind, fault_here}
+use Rattle.cq_config_text.proofs.lines.take_name.Goals as goal
+
+pub returns-in_default-clause-fault : goal.returns-in_default-clause-fault
+returns-in_default-clause-fault c =
+    (refl, fault_at_end c.args.text.now c.in_default.ensures.none c.args.number [] (omega (arith, c.requires)))
+
+pub returns-in_default-name_in-clause-fault : goal.returns-in_default-name_in-clause-fault
+returns-in_default-name_in-clause-fault c = (
+  refl,
+  fault_here c.args.text.now c.in-Some.line.now c.in-Some.rest.now c.in-Some.ensures.parts c.args.number []
+      (sym c.in_default-name_in.ensures.test),
+)
+
+pub returns-clause-next : goal.returns-clause-next
+returns-clause-next c =
+    fault_behind c.args.text.now c.in-Some.line.now c.in-Some.rest.now c.in-Some.ensures.parts c.args.number []
+    (sym c.in-Some-name_in.ensures.test)

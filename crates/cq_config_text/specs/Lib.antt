@@ -1,0 +1,4 @@
+pub mod ConfigFault
+pub mod ConfigText
+pub mod Version
+pub mod Written

@@ -1,0 +1,126 @@
+ghost use Rattle.std.specs.Prelude.{◌≡◌, None};
+
+mod entering;
+mod reading;
+mod replacing;
+
+use crate::record::Record;
+use cq_folder::{Access, Folder, FolderFault, NewFile, fault_of};
+use std::alloc::{AllocError, Global};
+use std::fs::{File, OpenFile};
+use std::io::{self, ErrorKind};
+use std::rt::Files;
+
+/// A folder of the system. What its files hold is not known to any contract.
+///
+/// It is locked as a whole, where the system has locks: whoever is alone waits for all others, and the system frees the
+/// lock of a process that ends.
+///
+/// The new bytes of a file are written and synced beside its place, to a part that is made anew: its name is that of
+/// the file, with a dot, the number of the process and `.part` behind it. Then it takes the file's place. Where several
+/// files are saved, the record `queue.save` stands while their parts take their places: from the moment that it stands
+/// they are saved.
+#[derive(Drop)]
+pub struct RealFolder<'a, R: Files<File = File> + AllocGlobal + Clone + Drop> {
+    rt: &'a R,
+    path: String,
+    /// The number of this process.
+    process: u32,
+    /// The open folder, which holds the lock.
+    lock: Option<File>,
+    /// The record that stands, which is read through.
+    record: Option<Record>,
+    /// How often a call answered `Device`, up to 2^64 - 1.
+    pub failures: u64,
+}
+
+impl<'a, R: Files<File = File> + AllocGlobal + Clone + Drop> RealFolder<'a, R> {
+    /// The folder at this path, for the process with this number. It is not looked at yet.
+    pub fn new(rt: &'a R, path: String, process: u32) -> Self
+        ensures path { result.path ≡ path }
+        ensures process { result.process ≡ process }
+        ensures unlocked { result.lock ≡ None }
+        ensures none { result.failures ≡ 0 }
+    {
+        RealFolder {
+            rt,
+            path,
+            process,
+            lock: None,
+            record: None,
+            failures: 0,
+        }
+    }
+
+    fn path_of(&self, name: &str) -> Result<String, AllocError> {
+        format!(in self.rt.alloc(); "{}/{name}", self.path)
+    }
+
+    fn part_of(&self, name: &str, process: u32) -> Result<String, AllocError> {
+        format!(in self.rt.alloc(); "{}/{name}.{process}.part", self.path)
+    }
+
+    /// Brings what the folder lists to the device.
+    fn sync(&self) -> io::Result<()> {
+        File::open(self.rt, self.path.as_str())?.sync_all()
+    }
+}
+
+/// Passes over the error that there is no such file.
+fn unless_missing(done: io::Result<()>) -> io::Result<()> {
+    match done {
+        Err(error) if error.kind() == ErrorKind::NotFound => Ok(()),
+        done => done,
+    }
+}
+
+impl<'a, R: Files<File = File> + AllocGlobal + Clone + Drop> Folder for RealFolder<'a, R> {
+    ghost failed = { λ folder. folder.failures };
+
+    fn begin(&mut self, alloc: Global, access: Access) -> Result<(), FolderFault> {
+        match self.enter(alloc, access) {
+            Ok(()) => Ok(()),
+            Err(error) => {
+                self.leave();
+                Err(fault_of(&mut self.failures, &error))
+            }
+        }
+    }
+
+    fn end(&mut self) {
+        self.leave();
+    }
+
+    fn names(&mut self, alloc: Global) -> Result<Vec<String>, FolderFault> {
+        match self.list_through(alloc) {
+            Ok(names) => Ok(names),
+            Err(error) => Err(fault_of(&mut self.failures, &error)),
+        }
+    }
+
+    fn read(&mut self, alloc: Global, name: &str, limit: usize) -> Result<Vec<u8>, FolderFault> {
+        match self.read_through(alloc, name, limit) {
+            Ok(bytes) if bytes.len() > limit => Err(FolderFault::TooLarge),
+            Ok(bytes) => Ok(bytes),
+            Err(error) => Err(fault_of(&mut self.failures, &error)),
+        }
+    }
+
+    fn write(&mut self, name: &str, bytes: &[u8]) -> Result<(), FolderFault> {
+        match self.replace(name, bytes) {
+            Ok(()) => Ok(()),
+            Err(error) => Err(fault_of(&mut self.failures, &error)),
+        }
+    }
+
+    fn save(&mut self, changes: &[NewFile]) -> Result<(), FolderFault> {
+        match self.replace_some(changes) {
+            Ok(()) => Ok(()),
+            Err(error) => Err(fault_of(&mut self.failures, &error)),
+        }
+    }
+
+    fn failures(&self) -> u64 {
+        self.failures
+    }
+}

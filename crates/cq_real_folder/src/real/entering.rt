@@ -1,0 +1,113 @@
+//! A command comes into a folder: the lock, and what is left of a save that was cut short.
+
+ghost use Rattle.std.specs.Prelude.{◌≡◌};
+
+use super::{RealFolder, unless_missing};
+use crate::record::{RECORD_FILE, Record, is_part_name};
+use cq_folder::Access;
+use std::alloc::Global;
+use std::fs::{self, File};
+use std::io::{self, ErrorKind};
+use std::rt::Files;
+
+/// The most bytes of a record.
+const MOST_RECORD_BYTES: usize = 1_048_576;
+
+impl<'a, R: Files<File = File> + AllocGlobal + Clone + Drop> RealFolder<'a, R> {
+    /// Waits for the lock, and looks for a save that was cut short.
+    pub(super) fn enter(&mut self, alloc: Global, access: Access) -> io::Result<()>
+        ensures { self.new.failures ≡ self.old.failures }
+    {
+        self.leave();
+        let (folder, is_locked) = self.opened(access)?;
+        self.lock = Some(folder);
+        self.record = self.standing(alloc)?;
+        if access == Access::Alone {
+            self.settle()?;
+            // Without locks, a part may be that of a process at work.
+            if is_locked {
+                self.sweep(alloc)?;
+            }
+        }
+        Ok(())
+    }
+
+    /// Gives the lock back.
+    pub(super) fn leave(&mut self)
+        ensures { self.new.failures ≡ self.old.failures }
+    {
+        self.lock = None;
+        self.record = None;
+    }
+
+    /// The open folder, and whether it is locked: a system that has no locks is used without.
+    fn opened(&self, access: Access) -> io::Result<(File, bool)> {
+        // A FIFO would be waited for.
+        if !fs::metadata(self.rt, self.path.as_str())?.is_dir() {
+            return Err(io::Error::from(ErrorKind::NotADirectory));
+        }
+        let folder = File::open(self.rt, self.path.as_str())?;
+        let locked = match access {
+            Access::Alone => folder.lock(),
+            Access::Shared => folder.lock_shared(),
+        };
+        match locked {
+            Ok(()) => Ok((folder, true)),
+            Err(error) if has_no_locks(&error) => Ok((folder, false)),
+            Err(error) => Err(error),
+        }
+    }
+
+    /// The record that stands.
+    fn standing(&self, alloc: Global) -> io::Result<Option<Record>> {
+        let path = self.path_of(RECORD_FILE)?;
+        match self.read_plain(alloc, path.as_str(), MOST_RECORD_BYTES) {
+            Ok(text) => match Record::read(alloc, text.as_slice())? {
+                Some(record) => Ok(Some(record)),
+                None => Err(io::Error::from(ErrorKind::InvalidData)),
+            },
+            Err(error) if error.kind() == ErrorKind::NotFound => Ok(None),
+            Err(error) => Err(error),
+        }
+    }
+
+    /// Does what is left of the save whose record stands.
+    pub(super) fn settle(&mut self) -> io::Result<()>
+        ensures { self.new.failures ≡ self.old.failures }
+    {
+        if let Some(record) = &self.record {
+            self.finish(record)?;
+        }
+        self.record = None;
+        Ok(())
+    }
+
+    /// Renames the parts that are left, and removes the record. A part that is gone has taken its place.
+    fn finish(&self, record: &Record) -> io::Result<()> {
+        for name in &record.names {
+            let part = self.part_of(name.as_str(), record.process)?;
+            let path = self.path_of(name.as_str())?;
+            unless_missing(fs::rename(self.rt, part.as_str(), path.as_str()))?;
+        }
+        self.sync()?;
+        fs::remove_file(self.rt, self.path_of(RECORD_FILE)?.as_str())?;
+        // Else the record could come back after the machine stops, when a later save fills parts of the same names.
+        self.sync()
+    }
+
+    /// Removes the parts of saves that were cut short before their record stood.
+    fn sweep(&self, alloc: Global) -> io::Result<()> {
+        for name in self.list(alloc)? {
+            if is_part_name(name.as_str()) {
+                let _ = fs::remove_file(self.rt, self.path_of(name.as_str())?.as_str());
+            }
+        }
+        Ok(())
+    }
+}
+
+/// Whether the error says that the system, or this file system, has no locks on folders: a bad descriptor, an invalid
+/// argument, no locks, no such call, not supported.
+fn has_no_locks(error: &io::Error) -> bool {
+    matches!(error.raw_os_error(), Some(9 | 22 | 37 | 38 | 95))
+}

@@ -1,0 +1,143 @@
+//! Files take new bytes: whole, and all of a save or none.
+
+ghost use Rattle.std.specs.Prelude.{◌≡◌};
+
+use super::{RealFolder, unless_missing};
+use crate::record::{RECORD_FILE, Record, is_file_name};
+use cq_folder::NewFile;
+use std::fs::{self, File, OpenFile, Permissions};
+use std::io::{self, ErrorKind, Write};
+use std::rt::Files;
+
+impl<'a, R: Files<File = File> + AllocGlobal + Clone + Drop> RealFolder<'a, R> {
+    /// Writes a file so that it holds all of the bytes or what it held, also where the system stops in between.
+    pub(super) fn replace(&self, name: &str, bytes: &[u8]) -> io::Result<()> {
+        let placed = match self.prepare(name, bytes) {
+            Ok(()) => self.place(name),
+            Err(error) => Err(error),
+        };
+        if let Err(error) = placed {
+            self.discard(name);
+            return Err(error);
+        }
+        self.confirm()
+    }
+
+    /// Writes files together. One file takes its place at once, and so needs no record.
+    pub(super) fn replace_some(&mut self, changes: &[NewFile]) -> io::Result<()>
+        ensures { self.new.failures ≡ self.old.failures }
+    {
+        match changes {
+            [] => Ok(()),
+            [file] => self.replace(file.name.as_str(), file.bytes.as_slice()),
+            _ => self.replace_all(changes),
+        }
+    }
+
+    /// Writes files so that all of them hold their bytes or what they held. Where the record stands on the device, the
+    /// files are saved, and a fault after that is none: whoever is next alone does what is left.
+    fn replace_all(&mut self, changes: &[NewFile]) -> io::Result<()>
+        ensures { self.new.failures ≡ self.old.failures }
+    {
+        let record = self.record_of(changes)?;
+        if let Err(error) = self.promise(&record, changes) {
+            self.give_up(changes);
+            return Err(error);
+        }
+        let promised = self.confirm();
+        self.record = Some(record);
+        promised?;
+        let _ = self.settle();
+        Ok(())
+    }
+
+    /// The record of a save. Answers an error where it cannot name a file.
+    fn record_of(&self, changes: &[NewFile]) -> io::Result<Record> {
+        let alloc = self.rt.alloc();
+        let mut names = Vec::new(alloc);
+        for file in changes {
+            if !is_file_name(file.name.as_str()) {
+                return Err(io::Error::from(ErrorKind::InvalidFilename));
+            }
+            names.push(String::from_str(alloc, file.name.as_str())?)?;
+        }
+        Ok(Record {
+            process: self.process,
+            names,
+        })
+    }
+
+    /// Writes the parts of files and then their record.
+    fn promise(&self, record: &Record, changes: &[NewFile]) -> io::Result<()> {
+        for file in changes {
+            self.prepare(file.name.as_str(), file.bytes.as_slice())?;
+        }
+        let text = record.text(self.rt.alloc())?;
+        self.prepare(RECORD_FILE, text.as_bytes())?;
+        self.place(RECORD_FILE)
+    }
+
+    /// Removes what a save wrote whose record does not stand. A rename may answer an error and be done all the same, so the
+    /// record goes first, and where it does not go the parts stay.
+    fn give_up(&self, changes: &[NewFile]) {
+        if self.remove(RECORD_FILE).is_err() {
+            return;
+        }
+        self.discard(RECORD_FILE);
+        for file in changes {
+            self.discard(file.name.as_str());
+        }
+    }
+
+    /// Removes a file, if there is one.
+    fn remove(&self, name: &str) -> io::Result<()> {
+        unless_missing(fs::remove_file(self.rt, self.path_of(name)?.as_str()))
+    }
+
+    /// Removes the part of a file, if there is one.
+    fn discard(&self, name: &str) {
+        if let Ok(part) = self.part_of(name, self.process) {
+            let _ = fs::remove_file(self.rt, part.as_str());
+        }
+    }
+
+    /// Writes the part of a file, which is made anew: what has its name, a link or a FIFO too, goes first.
+    fn prepare(&self, name: &str, bytes: &[u8]) -> io::Result<()> {
+        let permissions = self.permissions(name)?;
+        let part = self.part_of(name, self.process)?;
+        unless_missing(fs::remove_file(self.rt, part.as_str()))?;
+        let mut file = File::create_new(self.rt, part.as_str())?;
+        if let Some(permissions) = permissions {
+            file.set_permissions(permissions)?;
+        }
+        file.write_all(bytes)?;
+        file.sync_all()
+    }
+
+    /// Who may do what with the file, where it stands already. Answers an error where it is no plain file.
+    fn permissions(&self, name: &str) -> io::Result<Option<Permissions>> {
+        match fs::symlink_metadata(self.rt, self.path_of(name)?.as_str()) {
+            Ok(data) if data.is_file() => Ok(Some(data.permissions())),
+            Ok(_) => Err(io::Error::from(ErrorKind::InvalidInput)),
+            Err(error) if error.kind() == ErrorKind::NotFound => Ok(None),
+            Err(error) => Err(error),
+        }
+    }
+
+    /// Brings what the folder lists to the device behind a rename from which on the new bytes are seen. So an error is never
+    /// that of want of memory, after which no file has changed.
+    fn confirm(&self) -> io::Result<()> {
+        match self.sync() {
+            Err(error) if error.kind() == ErrorKind::OutOfMemory => {
+                Err(io::Error::from(ErrorKind::Other))
+            }
+            synced => synced,
+        }
+    }
+
+    /// Lets the part of a file take its place.
+    fn place(&self, name: &str) -> io::Result<()> {
+        let part = self.part_of(name, self.process)?;
+        fs::rename(self.rt, part.as_str(), self.path_of(name)?.as_str())
+    }
+}
