@@ -5,7 +5,7 @@ use crate::appending::{MOST_TRIES, append_one};
 use crate::fault::BenchFault;
 use crate::figures::{Figure, Label, print_line};
 use crate::queues::{SharedAppender, SharedQueue, SharedTailer, message_count};
-use crate::reading::{Target, read_one};
+use crate::reading::read_copy;
 use crate::running::{Gate, now};
 use crate::settings::Settings;
 use cq_append::Appender;
@@ -82,10 +82,9 @@ fn receive_all<R: AllocGlobal + Clock>(
 ) -> Result<(), BenchFault>
     requires { IsOf queue.now tailer.old.caller }
 {
-    let mut target = Target::Copies(rt.alloc());
     read.come();
     for _ in 0..count {
-        read_one(&mut target, queue, tailer, MOST_TRIES)?;
+        read_copy(rt.alloc(), queue, tailer, MOST_TRIES)?;
         let end = now(rt)?;
         read.come();
         if received.push(end).is_err() {

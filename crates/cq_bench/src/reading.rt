@@ -38,20 +38,6 @@ impl Target {
             Reading::Into => Ok(Target::Room(Vec::from_elem(alloc, 0, ROOM)?)),
         }
     }
-
-    /// Reads the next message, if it has come, and answers whether it has.
-    #[inline(always)]
-    fn look(&mut self, queue: &Queue, tailer: &mut Tailer) -> Result<bool, BenchFault>
-        requires { IsOf queue.now tailer.old.caller }
-        ensures of { IsOf queue.now tailer.new.caller }
-        ensures read { IfOk result (λ come.
-            messages_read tailer.old.caller + of_a_look come ≤ messages_read tailer.new.caller) }
-    {
-        match self {
-            Target::Copies(alloc) => look_for_copy(*alloc, queue, tailer),
-            Target::Room(room) => look_into(queue, tailer, room.as_mut_slice()),
-        }
-    }
 }
 
 /// Reads the next message, if it has come, as an owned copy, and answers whether it has.
@@ -68,8 +54,8 @@ fn look_for_copy(alloc: Global, queue: &Queue, tailer: &mut Tailer) -> Result<bo
     }
 }
 
-/// Reads the next message, if it has come, into a room, and answers whether it has. It stands apart from reads of owned copies, which
-/// would pay for a frame of both.
+/// Reads the next message, if it has come, into a room, and answers whether it has. It is not inlined: its figure is that of a call,
+/// beside which that of a call from C stands.
 #[inline(never)]
 fn look_into(queue: &Queue, tailer: &mut Tailer, room: &mut [u8]) -> Result<bool, BenchFault>
     requires { IsOf queue.now tailer.old.caller }
@@ -84,9 +70,10 @@ fn look_into(queue: &Queue, tailer: &mut Tailer, room: &mut [u8]) -> Result<bool
     }
 }
 
-/// Reads the next message. Where none has come it looks again, so many times altogether.
-pub fn read_one(
-    target: &mut Target,
+/// Reads the next message as an owned copy. Where none has come it looks again, so many times altogether.
+#[inline(always)]
+pub fn read_copy(
+    alloc: Global,
     queue: &Queue,
     tailer: &mut Tailer,
     tries: u32,
@@ -96,12 +83,69 @@ pub fn read_one(
     ensures read { OnOk result (messages_read tailer.old.caller + 1 ≤ messages_read tailer.new.caller) }
 {
     for _ in 0..tries {
-        if target.look(queue, tailer)? {
+        if look_for_copy(alloc, queue, tailer)? {
             return Ok(());
         }
         spin_loop();
     }
     Err(BenchFault::Missing)
+}
+
+/// The same into a room.
+#[inline(always)]
+fn read_into(
+    queue: &Queue,
+    tailer: &mut Tailer,
+    room: &mut [u8],
+    tries: u32,
+) -> Result<(), BenchFault>
+    requires { IsOf queue.now tailer.old.caller }
+    ensures of { IsOf queue.now tailer.new.caller }
+    ensures read { OnOk result (messages_read tailer.old.caller + 1 ≤ messages_read tailer.new.caller) }
+{
+    for _ in 0..tries {
+        if look_into(queue, tailer, room)? {
+            return Ok(());
+        }
+        spin_loop();
+    }
+    Err(BenchFault::Missing)
+}
+
+/// Reads so many messages as owned copies. Where the next one has not come it looks again, so many times for each.
+fn read_copies(
+    alloc: Global,
+    queue: &Queue,
+    tailer: &mut Tailer,
+    count: u32,
+    tries: u32,
+) -> Result<(), BenchFault>
+    requires { IsOf queue.now tailer.old.caller }
+    ensures of { IsOf queue.now tailer.new.caller }
+    ensures read { OnOk result (messages_read tailer.old.caller + count ≤ messages_read tailer.new.caller) }
+{
+    for _ in 0..count {
+        read_copy(alloc, queue, tailer, tries)?;
+    }
+    Ok(())
+}
+
+/// The same into a room, one after the other.
+fn read_all_into(
+    queue: &Queue,
+    tailer: &mut Tailer,
+    room: &mut [u8],
+    count: u32,
+    tries: u32,
+) -> Result<(), BenchFault>
+    requires { IsOf queue.now tailer.old.caller }
+    ensures of { IsOf queue.now tailer.new.caller }
+    ensures read { OnOk result (messages_read tailer.old.caller + count ≤ messages_read tailer.new.caller) }
+{
+    for _ in 0..count {
+        read_into(queue, tailer, room, tries)?;
+    }
+    Ok(())
 }
 
 /// Reads so many messages. Where the next one has not come it looks again, so many times for each.
@@ -116,8 +160,8 @@ pub fn read_all(
     ensures of { IsOf queue.now tailer.new.caller }
     ensures read { OnOk result (messages_read tailer.old.caller + count ≤ messages_read tailer.new.caller) }
 {
-    for _ in 0..count {
-        read_one(target, queue, tailer, tries)?;
+    match target {
+        Target::Copies(alloc) => read_copies(*alloc, queue, tailer, count, tries),
+        Target::Room(room) => read_all_into(queue, tailer, room.as_mut_slice(), count, tries),
     }
-    Ok(())
 }
