@@ -1,5 +1,5 @@
 //! Appenders that are lost between any two steps as a cycle begins.
-use crate::queues::{Call, Lost, assert_none, push_missed_lost};
+use crate::queues::{Call, Lost, Outcome, assert_none, push_missed_lost};
 use cq_fixtures::DAY;
 use std::test::Fail;
 
@@ -10,17 +10,17 @@ static ADVANCE: Lost<'static> = Lost {
     call: Call::Advance(5 * DAY),
 };
 
-/// For each number of steps what the last one finds, and what is left.
-static ADVANCES: [(Option<u32>, &str); 5] = [
-    (None, "0[] at [0], 0"),
+/// For each number of steps how the advance comes out, and what is left.
+static ADVANCES: [(Outcome, &str); 5] = [
+    (Outcome::Lost, "0[] at [0], 0"),
     // The tail was looked at.
-    (None, "0[] at [0], 0"),
+    (Outcome::Lost, "0[] at [0], 0"),
     // The cycle of the next slot was loaded.
-    (None, "0[] at [0], 0"),
+    (Outcome::Lost, "0[] at [0], 0"),
     // The cycle is reserved.
-    (None, "0[] at [0], 0"),
+    (Outcome::Lost, "0[] at [0], 0"),
     // The one before has ended.
-    (Some(0), "0[] 5[] at [0], 21474836480"),
+    (Outcome::Advanced(0), "0[] 5[] at [0], 21474836480"),
 ];
 
 #[test]

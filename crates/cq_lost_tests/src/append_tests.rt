@@ -1,6 +1,6 @@
 //! Appenders that are lost between any two steps of an append.
 use crate::queues::{
-    Call, Lost, Measures, assert_none, push_missed_lost, shape_of, steps_to_stand,
+    Call, Lost, Measures, Outcome, assert_none, push_missed_lost, shape_of, steps_to_stand,
 };
 use cq_chain::message_length;
 use cq_layout::store_size;
@@ -24,15 +24,15 @@ struct Append<'a> {
 }
 
 impl Append<'_> {
-    /// What is to be answered and left after so many steps. The message stands after `stands` of them, behind which two fill in
+    /// How the append is to come out, and what is left, after so many steps. The message stands after `stands` of them, behind which two fill in
     /// entries of the index, and one raises the write position.
-    fn wanted(&self, stands: u32, steps: u32) -> (Option<u32>, &str) {
+    fn wanted(&self, stands: u32, steps: u32) -> (Outcome, &str) {
         if steps < stands {
-            return (None, self.before);
+            return (Outcome::Lost, self.before);
         }
         match steps - stands {
-            3 => (Some(0), self.behind),
-            _ => (None, self.behind),
+            3 => (Outcome::Made, self.behind),
+            _ => (Outcome::Lost, self.behind),
         }
     }
 }

@@ -2,7 +2,9 @@
 ghost use Rattle.std.specs.Prelude.{◌≡◌, None};
 ghost use Rattle.cq_words.specs.Values.{IsOf};
 
-use crate::queues::{Call, Lost, Measures, assert_none, new_queue, push_left, push_missed_lost};
+use crate::queues::{
+    Call, Lost, Measures, Outcome, assert_none, new_queue, push_left, push_missed_lost,
+};
 use cq_append::{Appender, NoRoom, Writing};
 use cq_fixtures::push_missed;
 use cq_words::{Caller, Queue};
@@ -122,13 +124,19 @@ fn missed_of(alloc: Global, given: &GiveUp) -> Result<String, Fail> {
         call: Call::GiveUp(given.text),
     };
     for steps in 0..given.steps {
-        push_missed_lost(alloc, &lost, steps, (None, given.left), &mut missed)?;
+        push_missed_lost(
+            alloc,
+            &lost,
+            steps,
+            (Outcome::Lost, given.left),
+            &mut missed,
+        )?;
     }
     push_missed_lost(
         alloc,
         &lost,
         given.steps,
-        (Some(0), given.left),
+        (Outcome::Made, given.left),
         &mut missed,
     )?;
     Ok(missed)
