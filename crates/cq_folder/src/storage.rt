@@ -1,6 +1,7 @@
 //! A folder of files, as the commands of a queue see it.
 
-ghost use Rattle.std.specs.Prelude.{◌≡◌, ◌≢◌, ◌<◌, ◌≤◌, ◌-◌, ◌^◌, ◌⊎◌};
+ghost use Rattle.std.specs.Prelude.{◌≡◌, ◌↔◌, ◌≢◌, ◌<◌, ◌≤◌, ◌+◌, ◌-◌, ◌^◌, ◌⊎◌};
+ghost use Rattle.std.specs.IoError.{error_kind};
 
 use std::alloc::{AllocError, AllocFailed, Global};
 use std::io::{self, ErrorKind};
@@ -40,7 +41,9 @@ impl<T: Drop> From<AllocFailed<T>> for FolderFault {
 /// `Device`. `failures` counts how often a call answered `Device`, this one too, up to 2^64 - 1, where the count stays.
 pub fn fault_of(failures: &mut u64, error: &io::Error) -> FolderFault
     ensures fits { result ≢ FolderFault.TooLarge }
+    ensures memory { (result ≡ FolderFault.OutOfMemory) ↔ (error_kind error.now ≡ ErrorKind.OutOfMemory) }
     ensures later { failures.old ≤ failures.new }
+    ensures once { failures.new ≤ failures.old + 1 }
     ensures device { result ≡ FolderFault.Device → (failures.old < failures.new) ⊎ (failures.old ≡ 2 ^ 64 - 1) }
     ensures others { result ≢ FolderFault.Device → failures.new ≡ failures.old }
 {
