@@ -1,7 +1,7 @@
 use Rattle.std.proofs.Common.{◌≤◌}
 use Rattle.cq_bench.specs.Counts.{messages_read}
 use Rattle.cq_words.specs.Values.{IsOf}
-use Rattle.cq_bench.proofs.reading.read_copy.Given as goal
+use Rattle.cq_bench.proofs.reading.read_copy_again.Given as goal
 
 abbrev pub invariant-loop : goal.invariant-loop
 invariant-loop l =
