@@ -80,7 +80,7 @@ static double rate(uint32_t length, bool is_append) {
 
 /* Measures a case. Answers whether there is one of that name. */
 static bool measure(const char *name) {
-    bool is_append = !strcmp(name, "append");
+    bool is_append = !strcmp(name, "append_by_call");
     if (!is_append && strcmp(name, "read_into")) return false;
     for (size_t k = 0; k < sizeof PAYLOADS / sizeof *PAYLOADS; k++) {
         double best = 0;
@@ -107,7 +107,7 @@ int main(int count, char **words) {
         }
     }
     if (count == 1) {
-        measure("append");
+        measure("append_by_call");
         measure("read_into");
     }
     return 0;

@@ -18,6 +18,15 @@ pub const MOST_TRIES: u32 = 1 << 30;
 /// How many times a caller pauses before it tries again.
 const PAUSES: u32 = 32;
 
+/// How an append stands in the loop that is measured.
+#[derive(Clone, Copy)]
+pub enum Appending {
+    /// Its common case is code of the loop.
+    Inlined,
+    /// It is a function that the loop calls: beside its figure stands that of a call from C.
+    Called,
+}
+
 /// A short spin.
 fn pause() {
     for _ in 0..PAUSES {
@@ -73,4 +82,49 @@ pub fn append_all(
         append_one(queue, appender, bytes)?;
     }
     Ok(())
+}
+
+/// Appends a message by a function that is not inlined.
+#[inline(never)]
+fn append_called(queue: &Queue, appender: &mut Appender, bytes: &[u8]) -> Result<(), BenchFault>
+    requires { IsOf queue.now appender.old }
+    ensures of { IsOf queue.now appender.new }
+    ensures appended { OnOk result (messages_appended appender.old + 1 ≤ messages_appended appender.new) }
+{
+    append_one(queue, appender, bytes)
+}
+
+/// Appends a message so many times, each by a call.
+fn append_all_called(
+    queue: &Queue,
+    appender: &mut Appender,
+    bytes: &[u8],
+    count: u32,
+) -> Result<(), BenchFault>
+    requires { IsOf queue.now appender.old }
+    ensures of { IsOf queue.now appender.new }
+    ensures appended { OnOk result (messages_appended appender.old + count ≤ messages_appended appender.new) }
+{
+    for _ in 0..count {
+        append_called(queue, appender, bytes)?;
+    }
+    Ok(())
+}
+
+/// Appends a message so many times, in this way.
+pub fn append_so(
+    appending: Appending,
+    queue: &Queue,
+    appender: &mut Appender,
+    bytes: &[u8],
+    count: u32,
+) -> Result<(), BenchFault>
+    requires { IsOf queue.now appender.old }
+    ensures of { IsOf queue.now appender.new }
+    ensures appended { OnOk result (messages_appended appender.old + count ≤ messages_appended appender.new) }
+{
+    match appending {
+        Appending::Inlined => append_all(queue, appender, bytes, count),
+        Appending::Called => append_all_called(queue, appender, bytes, count),
+    }
 }

@@ -1,4 +1,5 @@
 //! The cases, and the words for them.
+use crate::appending::Appending;
 use crate::crews::{Crew, print_crews};
 use crate::fault::BenchFault;
 use crate::growing::{Growth, print_growth};
@@ -15,6 +16,8 @@ use std::thread::Threads;
 pub enum Case {
     /// Appenders fill a cycle together.
     Append,
+    /// One does, by a call for each message.
+    AppendByCall,
     /// Tailers read a full cycle, each all of it.
     Read,
     /// The same into rooms of theirs.
@@ -36,8 +39,13 @@ pub enum Case {
 }
 
 /// The word of each case, and what it measures.
-pub static CASES: [(&str, Case, &str); 10] = [
+pub static CASES: [(&str, Case, &str); 11] = [
     ("append", Case::Append, "1, 2 and 4 appenders fill a cycle"),
+    (
+        "append_by_call",
+        Case::AppendByCall,
+        "1 does, by a call for each",
+    ),
     ("read", Case::Read, "1, 2 and 4 tailers read a full cycle"),
     ("read_into", Case::ReadInto, "the same into rooms of theirs"),
     ("flow", Case::Flow, "tailers read while appenders append"),
@@ -56,15 +64,25 @@ const FLOW_LENGTHS: [u32; 2] = [64, 1024];
 /// A crew of so many appenders and tailers, which read owned copies.
 const fn crew(appenders: u32, tailers: u32) -> Crew {
     Crew {
+        appending: Appending::Inlined,
         appenders,
         tailers,
         reading: Reading::Copies,
     }
 }
 
+/// One appender, by a call for each message.
+const CALLER: Crew = Crew {
+    appending: Appending::Called,
+    appenders: 1,
+    tailers: 0,
+    reading: Reading::Copies,
+};
+
 /// A crew of so many tailers, which read into rooms.
 const fn crew_into(tailers: u32) -> Crew {
     Crew {
+        appending: Appending::Inlined,
         appenders: 0,
         tailers,
         reading: Reading::Into,
@@ -103,6 +121,7 @@ pub fn print_case<R: AllocGlobal + Clock + Print + Threads + Sync>(
             let crews = [crew(1, 0), crew(2, 0), crew(4, 0)];
             print_crews(rt, settings, "append", &LENGTHS, &crews)
         }
+        Case::AppendByCall => print_crews(rt, settings, "append_by_call", &LENGTHS, &[CALLER]),
         Case::Read => {
             let crews = [crew(0, 1), crew(0, 2), crew(0, 4)];
             print_crews(rt, settings, "read", &LENGTHS, &crews)

@@ -1,5 +1,5 @@
 //! Appenders and tailers on threads of one queue.
-use crate::appending::MOST_TRIES;
+use crate::appending::{Appending, MOST_TRIES};
 use crate::fault::BenchFault;
 use crate::figures::{Figure, Label, print_line};
 use crate::queues::{SharedQueue, message_count};
@@ -12,9 +12,10 @@ use std::rt::Clock;
 use std::thread::Threads;
 use std::time::Duration;
 
-/// How many of each share a queue, and how the tailers read. Where there is no appender the queue is full before.
+/// How many of each share a queue, and how they append and read. Where there is no appender the queue is full before.
 #[derive(Clone, Copy)]
 pub struct Crew {
+    pub appending: Appending,
     pub appenders: u32,
     pub tailers: u32,
     pub reading: Reading,
@@ -54,6 +55,7 @@ impl Crew {
     /// How it is called in a line.
     fn name(self, alloc: Global) -> Result<String, AllocError> {
         let Crew {
+            appending: _,
             appenders,
             tailers,
             reading: _,
@@ -76,7 +78,7 @@ impl Crew {
     ) -> Result<Vec<Job>, AllocError> {
         let mut jobs = Vec::new(alloc);
         for _ in 0..self.appenders {
-            jobs.push(Job::Append(shared.appender()?, share.each))?;
+            jobs.push(Job::Append(shared.appender()?, self.appending, share.each))?;
         }
         // Where nobody appends, a message that is not there will not come.
         let looks = if self.appenders == 0 { 1 } else { MOST_TRIES };

@@ -130,7 +130,7 @@ fn print_help<R: Print>(rt: &R) -> Result<(), BenchFault> {
 
 /// Prints a word, and what is measured for it.
 fn print_meaning<R: Print>(rt: &R, word: &str, what: &str) -> Result<(), BenchFault> {
-    match println!(rt; "{word:11} {what}") {
+    match println!(rt; "{word:14} {what}") {
         Ok(()) => Ok(()),
         Err(_) => Err(BenchFault::NotPrinted),
     }

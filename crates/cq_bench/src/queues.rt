@@ -4,7 +4,7 @@ ghost use Rattle.std.specs.Arc.{arc_value};
 ghost use Rattle.cq_bench.specs.Counts.{messages_appended, messages_read};
 ghost use Rattle.cq_words.specs.Values.{IsOf};
 
-use crate::appending::{MOMENT, append_all};
+use crate::appending::{Appending, MOMENT, append_all, append_so};
 use crate::fault::BenchFault;
 use crate::reading::{Target, read_all};
 use cq_append::Appender;
@@ -89,6 +89,18 @@ impl SharedAppender {
         ensures { OnOk result (messages_appended self.old.appender + count ≤ messages_appended self.new.appender) }
     {
         append_all(&self.queue, &mut self.appender, bytes, count)
+    }
+
+    /// The same in this way.
+    pub fn append_so(
+        &mut self,
+        appending: Appending,
+        bytes: &[u8],
+        count: u32,
+    ) -> Result<(), BenchFault>
+        ensures { OnOk result (messages_appended self.old.appender + count ≤ messages_appended self.new.appender) }
+    {
+        append_so(appending, &self.queue, &mut self.appender, bytes, count)
     }
 }
 

@@ -1,4 +1,5 @@
 //! Callers on threads that share a queue, and the time that they take together.
+use crate::appending::Appending;
 use crate::fault::BenchFault;
 use crate::queues::{SharedAppender, SharedTailer};
 use crate::reading::Target;
@@ -45,8 +46,8 @@ impl Gate {
 /// What one thread does.
 #[derive(Drop)]
 pub enum Job {
-    /// Appends so many messages.
-    Append(SharedAppender, u32),
+    /// Appends so many messages, in this way.
+    Append(SharedAppender, Appending, u32),
     /// Reads so many messages to a target, with so many looks for each.
     Read(SharedTailer, Target, u32, u32),
 }
@@ -69,7 +70,7 @@ pub fn now(clock: &impl Clock) -> Result<Instant, BenchFault> {
 /// Does a job, with messages of these bytes.
 fn run(job: Job, bytes: &[u8]) -> Result<(), BenchFault> {
     match job {
-        Job::Append(mut shared, count) => shared.append_all(bytes, count),
+        Job::Append(mut shared, appending, count) => shared.append_so(appending, bytes, count),
         Job::Read(mut shared, mut target, count, looks) => shared.read_all(
             &mut target,
             count,
