@@ -1,4 +1,5 @@
-//! How many atomic steps calls take on headers and hints over many messages: all but those on the cells of payloads.
+//! How many atomic steps calls take on headers and hints over many messages: all but those on the cells of payloads, and the load
+//! of the floor with which a read ends.
 
 ghost use Rattle.std.specs.Prelude.{◌≡◌};
 ghost use Rattle.cq_words.specs.Values.{IsOf};
@@ -47,7 +48,7 @@ fn most_steps_of_reads(alloc: Global) -> Result<u64, Fail> {
 
 #[test]
 fn a_read_by_index_takes_few_steps(rt: HostRuntime) -> Result<(), Fail> {
-    assert!(rt; most_steps_of_reads(rt.alloc())? <= 12 + u64::from(SPACING));
+    assert!(rt; most_steps_of_reads(rt.alloc())? <= 11 + u64::from(SPACING));
     Ok(())
 }
 
@@ -91,10 +92,10 @@ fn most_steps_of_forward_reads(alloc: Global, wanted: &[u32]) -> Result<u64, Fai
 }
 
 #[test]
-fn a_read_behind_the_last_one_takes_three_steps(rt: HostRuntime) -> Result<(), Fail> {
+fn a_read_behind_the_last_one_takes_two_steps(rt: HostRuntime) -> Result<(), Fail> {
     // An index table stands before message 4,096.
     let wanted = [1, 2, 16, 4_095, 4_096, 4_097, 12_345, 29_999];
-    assert!(rt; most_steps_of_forward_reads(rt.alloc(), &wanted)? <= 3);
+    assert!(rt; most_steps_of_forward_reads(rt.alloc(), &wanted)? <= 2);
     Ok(())
 }
 
@@ -136,9 +137,9 @@ fn steps_of_backward_reads(alloc: Global) -> Result<u64, Fail> {
 }
 
 #[test]
-fn reads_backwards_look_at_two_headers_a_message(rt: HostRuntime) -> Result<(), Fail> {
+fn reads_backwards_look_at_one_header_a_message(rt: HostRuntime) -> Result<(), Fail> {
     // In each block of 64 messages the slot's cycle, the write position and two entries are loaded too.
-    let most = u64::from(2 * COUNT + 4 * (COUNT / 64 + 2));
+    let most = u64::from(COUNT + 4 * (COUNT / 64 + 2));
     assert!(rt; steps_of_backward_reads(rt.alloc())? <= most);
     Ok(())
 }
@@ -150,11 +151,11 @@ fn steps_of_backward_reads_without_hints(alloc: Global) -> Result<u64, Fail> {
 }
 
 #[test]
-fn reads_backwards_without_hints_look_at_three_headers_a_message(
+fn reads_backwards_without_hints_look_at_two_headers_a_message(
     rt: HostRuntime,
 ) -> Result<(), Fail> {
     assert!(rt;
-        steps_of_backward_reads_without_hints(rt.alloc())? <= u64::from(3 * COUNT + COUNT / 64)
+        steps_of_backward_reads_without_hints(rt.alloc())? <= u64::from(2 * COUNT + COUNT / 64)
     );
     Ok(())
 }
