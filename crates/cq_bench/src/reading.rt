@@ -143,6 +143,27 @@ fn read_copies(
     ensures of { IsOf queue.now tailer.new.caller }
     ensures read { OnOk result (messages_read tailer.old.caller + count ≤ messages_read tailer.new.caller) }
 {
+    for done in 0..count {
+        if !look_for_copy(alloc, queue, tailer)? {
+            return wait_for_copies(alloc, queue, tailer, count - done, tries);
+        }
+    }
+    Ok(())
+}
+
+/// The same where the next one had not come. It stands apart, so that where messages are there nothing is kept for more looks.
+#[inline(never)]
+fn wait_for_copies(
+    alloc: Global,
+    queue: &Queue,
+    tailer: &mut Tailer,
+    count: u32,
+    tries: u32,
+) -> Result<(), BenchFault>
+    requires { IsOf queue.now tailer.old.caller }
+    ensures of { IsOf queue.now tailer.new.caller }
+    ensures read { OnOk result (messages_read tailer.old.caller + count ≤ messages_read tailer.new.caller) }
+{
     for _ in 0..count {
         read_copy(alloc, queue, tailer, tries)?;
     }
