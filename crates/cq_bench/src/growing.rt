@@ -16,10 +16,10 @@ const LENGTH: u32 = 8;
 const MESSAGE: [u8; 8] = [b'x'; 8];
 
 /// How many new appenders append in each eighth, so many one behind the other each time.
-const BATCHES: u32 = 8;
+const BATCHES: u32 = 2;
 
-/// How many new appenders append one behind the other.
-const BATCH: u32 = 16;
+/// How many new appenders append one behind the other: so many that the two looks at the clock round them count for little.
+const BATCH: u32 = 64;
 
 /// The time of the measured appends in the first and in the last eighth of a cycle.
 #[derive(Clone, Copy)]
