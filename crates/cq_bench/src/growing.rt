@@ -81,7 +81,7 @@ fn new_appenders(
 fn batch_time<R: Clock>(rt: &R, appenders: &mut [SharedAppender]) -> Result<Duration, BenchFault> {
     let start = now(rt)?;
     for appender in appenders.iter_mut() {
-        appender.append_all(&MESSAGE, 1)?;
+        appender.append_one(&MESSAGE)?;
     }
     Ok(now(rt)?.duration_since(start))
 }

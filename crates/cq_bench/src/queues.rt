@@ -4,7 +4,7 @@ ghost use Rattle.std.specs.Arc.{arc_value};
 ghost use Rattle.cq_bench.specs.Counts.{messages_appended, messages_read};
 ghost use Rattle.cq_words.specs.Values.{IsOf};
 
-use crate::appending::{Appending, MOMENT, append_all, append_so};
+use crate::appending::{Appending, MOMENT, append_all, append_one, append_so};
 use crate::fault::BenchFault;
 use crate::reading::{Target, read_all};
 use cq_append::Appender;
@@ -84,6 +84,14 @@ pub struct SharedAppender {
 }
 
 impl SharedAppender {
+    /// Appends a message of these bytes.
+    #[inline(always)]
+    pub fn append_one(&mut self, bytes: &[u8]) -> Result<(), BenchFault>
+        ensures { OnOk result (messages_appended self.old.appender + 1 ≤ messages_appended self.new.appender) }
+    {
+        append_one(&self.queue, &mut self.appender, bytes)
+    }
+
     /// Appends so many messages of these bytes.
     pub fn append_all(&mut self, bytes: &[u8], count: u32) -> Result<(), BenchFault>
         ensures { OnOk result (messages_appended self.old.appender + count ≤ messages_appended self.new.appender) }
