@@ -1,5 +1,0 @@
-use Rattle.cq_words.specs.Values.{IsOf}
-use Rattle.cq_lost_tests.proofs.hint_tests.push_reads.Given as goal
-
-abbrev pub invariant-loop-index : goal.invariant-loop-index
-invariant-loop-index l = IsOf l.queue l.tailer.caller

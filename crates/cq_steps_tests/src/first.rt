@@ -1,0 +1,29 @@
+//! Steps at the first header of a queue that has no message.
+
+ghost use Rattle.std.specs.Prelude.{◌≡◌, None, Some};
+ghost use Rattle.cq_layout.specs.Room.{IsMessageLength};
+ghost use Rattle.cq_words.specs.Rule.{first_mark};
+ghost use Rattle.cq_words.specs.Values.{IsOf};
+ghost use Rattle.cq_steps_tests.specs.First.{AfterClaim};
+
+use cq_chain::Walker;
+use cq_layout::fits;
+use cq_words::{Caller, Queue};
+
+/// Claims the first header of the first slot for a message of at most so many bytes, where one fits a cycle that has none.
+/// Answers the header that was found.
+pub fn claim_first(queue: &Queue, caller: &mut Caller, room: u32) -> Option<u32>
+    requires of { IsOf queue.now caller.old }
+    requires idle { caller.old.view.claim ≡ None }
+    requires mark { caller.old.view.mark ≡ first_mark }
+    requires length { IsMessageLength room }
+    ensures of { IsOf queue.now caller.new }
+    ensures claim { AfterClaim caller.old.view caller.new.view result }
+{
+    let shape = queue.config().shape();
+    if !fits(shape, &[], room) {
+        return None;
+    }
+    let walker = Walker::new(shape);
+    Some(queue.claim(caller, 0, walker, 0, room))
+}
