@@ -112,7 +112,7 @@ ROWS = [
 WANT = b"cq: want of memory\n"
 
 # Threads of these ask for memory as their schedule has it, and say of a call without memory that it gave no message.
-THREADS = ["growing_tests", "many_tests", "parts_tests", "sharing_tests", "thread_tests"]
+THREADS = ["filling_tests", "growing_tests", "many_tests", "parts_tests", "sharing_tests", "thread_tests"]
 
 # How a test ends that failed, or whose comparison did, and how its text names want of memory.
 FAILED, STOPPED = 101, -6

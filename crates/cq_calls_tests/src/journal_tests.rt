@@ -1,8 +1,8 @@
 //! Queues whose opener is their only caller.
-use crate::lives::{Cycles, Start, push_contents};
+use crate::lives::{Start, push_contents};
 use crate::queues::{push_message, push_number};
 use cq_cycle::Index;
-use cq_fixtures::{DAY, small_config};
+use cq_fixtures::{Cycles, DAY, small_config};
 use cq_journal::{Journal, JournalReader, JournalWriter};
 use cq_model::Message;
 use cq_tail::Direction;

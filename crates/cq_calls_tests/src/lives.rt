@@ -1,7 +1,7 @@
 //! Lives of queues: how they begin, their calls, and their ends, beside what is answered.
 
 use crate::queues::{Call, Fixture};
-use cq_fixtures::{contents_of, contents_text, small_config};
+use cq_fixtures::{Cycles, contents_of, contents_text, small_config};
 use cq_journal::Journal;
 use cq_model::{Config, Contents};
 use cq_shown::{CreateError, Stopped, recover};
@@ -9,9 +9,6 @@ use cq_words::Queue;
 use std::alloc::{AllocError, Global};
 use std::process::Abort;
 use std::test::Fail;
-
-/// Cycles, each with its messages.
-pub type Cycles = &'static [(u32, &'static [&'static str])];
 
 /// How a queue begins.
 #[derive(Clone, Copy)]
@@ -60,8 +57,12 @@ pub enum End {
     Dropped,
     /// What it holds once it was stopped.
     Stopped,
+    /// What it holds once a caller stopped it that met no other.
+    StoppedBeside,
     /// Which cells of its first cycle are not 0 once it was stopped, from this one on.
     Cells(u32),
+    /// What these cells of its first cycle hold once a caller stopped it that met no other, and its write position.
+    Published(&'static [u32]),
     /// What these calls answer once it was stopped and opened again.
     Reopened(&'static [Call]),
 }
@@ -81,14 +82,16 @@ pub struct Life {
 }
 
 impl Life {
-    /// A queue that begins so.
-    fn fixture(&self, alloc: Global) -> Result<Fixture, Fail> {
-        Ok(self.start.queue(alloc, small_config(alloc, self.cycles)?)?)
+    /// What is answered from its start to its end, or why there is no queue.
+    fn push_answers(&self, alloc: Global, out: &mut String) -> Result<(), Fail> {
+        match self.start.queue(alloc, small_config(alloc, self.cycles)?) {
+            Ok(fixture) => self.push_life(alloc, fixture, out),
+            Err(refusal) => Ok(write!(out, "{refusal}")?),
+        }
     }
 
-    /// What is answered from its start to its end.
-    fn push_answers(&self, alloc: Global, out: &mut String) -> Result<(), Fail> {
-        let mut fixture = self.fixture(alloc)?;
+    /// What is answered to its calls, and at its end.
+    fn push_life(&self, alloc: Global, mut fixture: Fixture, out: &mut String) -> Result<(), Fail> {
         fixture.answers(alloc, self.calls, out)?;
         self.push_end(alloc, fixture, out)
     }
@@ -98,7 +101,9 @@ impl Life {
         match self.end {
             End::Dropped => Ok(()),
             End::Stopped => push_held(alloc, &fixture.stop(), out),
+            End::StoppedBeside => push_held(alloc, &fixture.stop_beside(), out),
             End::Cells(from) => push_cells(&fixture.stop(), from, out),
+            End::Published(cells) => Ok(push_published(&fixture.stop_beside(), cells, out)?),
             End::Reopened(calls) => self.push_again(alloc, &fixture.stop(), calls, out),
         }
     }
@@ -149,6 +154,18 @@ fn push_cell(k: u32, cell: u32, out: &mut String) -> Result<(), AllocError> {
         return Ok(());
     }
     write!(out, "{k}:{cell:08x} ")
+}
+
+/// What cells of the first slot hold, and its write position.
+fn push_published(stopped: &Stopped, cells: &[u32], out: &mut String) -> Result<(), AllocError> {
+    let count = stopped.config().shape().cells();
+    let _cycles = stopped.config().cycles();
+    for k in cells {
+        if *k < count {
+            write!(out, "{} ", stopped.cell(0, *k))?;
+        }
+    }
+    write!(out, "at {}", stopped.write_position(0))
 }
 
 /// Lives through each of these, and compares what is answered.

@@ -1,27 +1,26 @@
 //! What is left of queues that are stopped.
 use crate::lives::{End, Life, Start, assert_lives};
 use crate::queues::Call;
-use cq_fixtures::{DAY, small_config};
+use cq_fixtures::{DAY, expect_row, small_config};
 use cq_image::image;
-use cq_shown::CreateError;
 use std::alloc::Global;
 use std::test::Fail;
 
 /// "hello", and seven bytes of another message, beside which nobody else appends.
 const BEGUN_BEHIND_HELLO: &[Call] = &[
     Call::Append(0, "hello"),
-    Call::Begin(12),
+    Call::Begin(0, 12),
     Call::Put("1234567"),
-    Call::AppendBeside("x"),
+    Call::AppendAndRead("x"),
 ];
 
 /// The same, where the other message is dropped first.
 const DROPPED_BEHIND_HELLO: &[Call] = &[
     Call::Append(0, "hello"),
-    Call::Begin(12),
+    Call::Begin(0, 12),
     Call::Put("1234567"),
     Call::DropWriting,
-    Call::AppendBeside("x"),
+    Call::AppendAndRead("x"),
 ];
 
 static BEGUN: [Life; 4] = [
@@ -86,7 +85,7 @@ static IMAGES: [(u32, bool, &[u8]); 2] = [(0, true, &[0, 0, 0, 0xc0]), (5, false
 fn cycles_without_messages_have_images(rt: HostRuntime) -> Result<(), Fail> {
     for &(cycle, has_ended, want) in &IMAGES {
         let bytes = image_without_messages(rt.alloc(), cycle, has_ended)?;
-        assert_eq!(rt; bytes.as_slice(), want);
+        expect_row(bytes.as_slice() == want, u64::from(cycle))?;
     }
     Ok(())
 }
@@ -104,19 +103,17 @@ fn a_stopped_queue_keeps_what_it_was_opened_with(rt: HostRuntime) -> Result<(), 
     assert_lives(&rt, rt.alloc(), &OPENED_AGAIN)
 }
 
-/// Whether no queue is opened again with no cycle.
-fn is_refused_without_cycles(alloc: Global) -> Result<bool, Fail> {
-    match Start::Held(&[], &[0]).queue(alloc, small_config(alloc, 4)?) {
-        Ok(_fixture) => Ok(false),
-        Err(CreateError::BadContents) => Ok(true),
-        Err(error) => Err(error.into()),
-    }
-}
+static WITHOUT_CYCLES: [Life; 1] = [Life {
+    cycles: 4,
+    start: Start::Held(&[], &[0]),
+    calls: &[],
+    end: End::Dropped,
+    answers: "BadContents",
+}];
 
 #[test]
 fn a_queue_without_cycles_is_refused(rt: HostRuntime) -> Result<(), Fail> {
-    assert!(rt; is_refused_without_cycles(rt.alloc())?);
-    Ok(())
+    assert_lives(&rt, rt.alloc(), &WITHOUT_CYCLES)
 }
 
 static LATER: [Life; 1] = [Life {

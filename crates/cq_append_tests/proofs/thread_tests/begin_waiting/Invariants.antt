@@ -1,5 +1,0 @@
-use Rattle.cq_words.specs.Values.{IsOf}
-use Rattle.cq_append_tests.proofs.thread_tests.begin_waiting.Given as goal
-
-abbrev pub invariant-loop : goal.invariant-loop
-invariant-loop g l = IsOf l.fn.queue l.appender

@@ -1,0 +1,23 @@
+//! Tests of the calls of one queue by threads beside one another: what they append, read, take, drop and snapshot.
+//!
+//! They are proved apart from the calls, so that these go on side by side.
+#![tactic(auto)]
+
+#[cfg(test)]
+mod beginnings;
+#[cfg(test)]
+mod claim_tests;
+#[cfg(test)]
+mod filling_tests;
+#[cfg(test)]
+mod growing_tests;
+#[cfg(test)]
+mod many_tests;
+#[cfg(test)]
+mod numbering;
+#[cfg(test)]
+mod parts_tests;
+#[cfg(test)]
+mod sharing_tests;
+#[cfg(test)]
+mod thread_tests;
