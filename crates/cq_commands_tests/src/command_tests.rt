@@ -1,8 +1,8 @@
 //! What the commands do and print.
 use crate::steps::{DAY, Step, expect, push_said, said_by};
 use crate::streams::said;
-use crate::wanted::expect_text;
 use cq_commands::{InitSettings, Order, run};
+use cq_fixtures::expect_text;
 use cq_folder::{Folder, MemoryFolder};
 use std::alloc::{AllocError, Global};
 use std::test::Fail;

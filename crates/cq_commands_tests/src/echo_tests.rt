@@ -1,12 +1,21 @@
 //! What `echo` and `cycle` print, which need no folder, and the texts of faults.
 use crate::streams::said;
-use crate::wanted::{expect_bytes, expect_text};
 use cq_commands::{ToolFault, cycle, echo};
+use cq_fixtures::expect_text;
 use cq_model::Refusal;
 use std::alloc::Global;
 use std::io;
 use std::io::{ErrorKind, Read, Write};
 use std::test::Fail;
+
+/// Fails where bytes are not those that are wanted, with both.
+fn expect_bytes(said: Vec<u8>, want: &[u8]) -> Result<(), Fail> {
+    if said.as_slice() == want {
+        return Ok(());
+    }
+    let said = said.as_slice();
+    Err(Fail::new(format_args!("{said:?} in place of {want:?}")))
+}
 
 /// Adds how many lines `echo` gives to what it wrote, or the text of its fault.
 fn told(mut output: Vec<u8>, done: Result<u64, ToolFault>) -> Result<Vec<u8>, Fail> {

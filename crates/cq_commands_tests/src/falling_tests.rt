@@ -2,7 +2,7 @@
 use crate::falling::FallingFolder;
 use crate::images::{A, HELLO};
 use crate::steps::{DAY, Step, expect_each, said_by};
-use crate::wanted::expect_text;
+use cq_fixtures::expect_text;
 use cq_folder::Folder;
 use std::alloc::Global;
 use std::test::Fail;

@@ -4,7 +4,7 @@ use crate::steps::{
     DAY, Failing, MOST_BYTES, Step, Unprinted, expect, expect_each, expect_failing, push_said,
     said_anew, said_by,
 };
-use crate::wanted::expect_text;
+use cq_fixtures::expect_text;
 use cq_folder::{Folder, MemoryFolder};
 use std::alloc::{AllocError, Global};
 use std::test::Fail;

@@ -1,4 +1,5 @@
-//! Tests of the commands, over folders in memory where they need one: worked examples, the order of faults, and limits.
+//! Tests of the commands: the words that name them, what they do over folders in memory where they need one, in worked examples,
+//! the order of faults, and limits, and the race, whose threads no contract speaks of.
 //!
 //! They are proved apart from the commands, so that both go on side by side.
 #![tactic(auto)]
@@ -24,6 +25,8 @@ mod migrate_tests;
 #[cfg(test)]
 mod pair_tests;
 #[cfg(test)]
+mod race_tests;
+#[cfg(test)]
 mod salvage_tests;
 #[cfg(test)]
 mod steps;
@@ -34,4 +37,4 @@ mod take_tests;
 #[cfg(test)]
 mod version_tests;
 #[cfg(test)]
-mod wanted;
+mod word_tests;

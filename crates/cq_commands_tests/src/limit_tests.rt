@@ -1,6 +1,6 @@
 //! Limits of queues, of the input and of files.
 use crate::steps::{DAY, MOST_BYTES, Step, expect, expect_each, push_said, said_at};
-use crate::wanted::expect_text;
+use cq_fixtures::expect_text;
 use cq_folder::{Folder, MemoryFolder};
 use std::alloc::Global;
 use std::test::Fail;

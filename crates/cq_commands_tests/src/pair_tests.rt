@@ -1,8 +1,7 @@
 //! Two faults that compete, over a folder that lists its names in falling order: the first one of the command's order is told.
 use crate::falling::FallingFolder;
 use crate::steps::{DAY, MOST_BYTES, Step, Unprinted, said_at, said_by};
-use crate::wanted::expect_none;
-use cq_fixtures::push_missed;
+use cq_fixtures::{expect_text, push_missed};
 use cq_folder::FailingFolder;
 use std::alloc::Global;
 use std::test::Fail;
@@ -48,7 +47,7 @@ fn push_missed_pairs(alloc: Global, pairs: &'static [Pair], text: &mut String) -
 fn expect_first(alloc: Global, pairs: &'static [Pair]) -> Result<(), Fail> {
     let mut missed = String::new(alloc);
     push_missed_pairs(alloc, pairs, &mut missed)?;
-    expect_none(missed)
+    expect_text(missed, "")
 }
 
 /// An image that ended with no message.

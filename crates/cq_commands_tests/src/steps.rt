@@ -1,10 +1,9 @@
 //! Steps over a folder in memory, and what is said at each.
 use crate::streams::{Broken, BrokenBehind, said};
-use crate::wanted::expect_none;
 use cq_commands::{
     InitSettings, ToolFault, check, drop_before, dump, init, migrate, read, salvage, take, write,
 };
-use cq_fixtures::push_missed;
+use cq_fixtures::{expect_text, push_missed};
 use cq_folder::{FailingFolder, Folder, FolderFault, MemoryFolder};
 use std::alloc::{AllocError, Global};
 use std::fmt::Write as _;
@@ -146,8 +145,8 @@ fn put_old<F: Folder>(
     put(alloc, folder, "queue.cqc", text.as_bytes())
 }
 
-/// Texts of their own.
-fn texts(alloc: Global, words: &[&str]) -> Result<Vec<String>, AllocError> {
+/// Words, each in memory of its own.
+pub fn texts(alloc: Global, words: &[&str]) -> Result<Vec<String>, AllocError> {
     let mut texts = Vec::new(alloc);
     for word in words {
         texts.push(String::from_str(alloc, word)?)?;
@@ -391,7 +390,7 @@ pub fn expect(alloc: Global, steps: &'static [(Step, &'static str)]) -> Result<(
     let mut folder = MemoryFolder::new(alloc);
     let mut missed = String::new(alloc);
     push_missed_steps(alloc, &mut folder, steps, &mut missed)?;
-    expect_none(missed)
+    expect_text(missed, "")
 }
 
 /// Adds what is said by lists of steps, each over a folder of its own, to a text, where it is something else than stands
@@ -414,7 +413,7 @@ pub fn expect_each(
 ) -> Result<(), Fail> {
     let mut missed = String::new(alloc);
     push_missed_lists(alloc, table, &mut missed)?;
-    expect_none(missed)
+    expect_text(missed, "")
 }
 
 /// A step over a folder of which one call fails.
@@ -472,5 +471,5 @@ fn push_missed_calls(
 pub fn expect_failing(alloc: Global, failing: &'static Failing) -> Result<(), Fail> {
     let mut missed = String::new(alloc);
     push_missed_calls(alloc, failing, &mut missed)?;
-    expect_none(missed)
+    expect_text(missed, "")
 }

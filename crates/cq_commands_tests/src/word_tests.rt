@@ -1,16 +1,8 @@
 //! What the words of a command line are.
+use crate::steps::texts;
 use cq_command_line::{ParseFault, parse};
 use std::alloc::{AllocError, Global};
 use std::test::Fail;
-
-/// Words, each in memory of its own.
-fn texts(alloc: Global, words: &[&str]) -> Result<Vec<String>, AllocError> {
-    let mut texts = Vec::new(alloc);
-    for word in words {
-        texts.push(String::from_str(alloc, word)?)?;
-    }
-    Ok(texts)
-}
 
 /// What words are, or what is said of them.
 fn parsed(alloc: Global, words: &[String]) -> Result<String, AllocError> {

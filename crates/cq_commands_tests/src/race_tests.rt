@@ -1,10 +1,10 @@
 //! Races with several gates: what is printed, which calls a gate is asked for, and that the workers run beside one another.
+use crate::streams::said;
+use cq_fixtures::expect_text;
 use cq_race::{Gate, OpenGate, race};
-use cq_text::ToolFault;
+use std::alloc::{AllocError, Global};
 use std::hint::spin_loop;
 use std::io::{self, ErrorKind, Write};
-use std::process::Abort;
-use std::str;
 use std::sync::atomic::{AtomicU64, Ordering};
 use std::test::Fail;
 use std::thread::Threads;
@@ -18,11 +18,7 @@ fn raced<R: AllocGlobal + Threads + Sync, G: Gate + Sync>(
     let alloc = rt.alloc();
     let mut output = Vec::new(alloc);
     let done = race(rt, messages, gate, &mut output);
-    let text = str::from_utf8(output.as_slice())?;
-    match done {
-        Ok(()) => Ok(String::from_str(alloc, text)?),
-        Err(fault) => Ok(format!(in alloc; "{text}cq: {fault}")?),
-    }
+    said(alloc, done, &output)
 }
 
 /// How many messages each appender appends, and what is printed then.
@@ -44,8 +40,8 @@ const TEN: &str =
 
 #[test]
 fn all_messages_are_read_in_order(rt: HostRuntime) -> Result<(), Fail> {
-    for (messages, want) in &TALLIES {
-        assert_eq!(rt; raced(&rt, *messages, &OpenGate)?.as_str(), *want);
+    for &(messages, want) in &TALLIES {
+        expect_text(raced(&rt, messages, &OpenGate)?, want)?;
     }
     Ok(())
 }
@@ -91,17 +87,10 @@ static LIMITS: [(usize, u64); 8] = [
 
 #[test]
 fn a_worker_that_is_not_let_in_gives_up(rt: HostRuntime) -> Result<(), Fail> {
-    assert_eq!(rt; raced(&rt, 10, &ClosedGate)?.as_str(), "cq: gave up");
-    for (worker, calls) in &LIMITS {
-        let gate = LimitedGate {
-            worker: *worker,
-            calls: *calls,
-        };
-        assert_eq!(rt;
-            raced(&rt, 10, &gate)?.as_str(),
-            "cq: gave up",
-            "worker {worker}"
-        );
+    expect_text(raced(&rt, 10, &ClosedGate)?, "cq: gave up")?;
+    for &(worker, calls) in &LIMITS {
+        let gate = LimitedGate { worker, calls };
+        expect_text(raced(&rt, 10, &gate)?, "cq: gave up")?;
     }
     Ok(())
 }
@@ -169,13 +158,20 @@ impl Gate for CountingGate {
     }
 }
 
+/// What a counting gate has counted: how many calls came out of turn, whether each appender was answered for each of its messages
+/// at least, and whether each tailer was for those of both.
+fn counted_text(alloc: Global, gate: &CountingGate) -> Result<String, AllocError> {
+    let strays = gate.strays.load(Ordering::SeqCst);
+    let appended = gate.least_answered(0, 1) >= 10;
+    let read = gate.least_answered(2, 3) >= 20;
+    format!(in alloc; "{strays} {appended} {read}")
+}
+
 #[test]
 fn each_call_is_entered_and_answered_in_turn(rt: HostRuntime) -> Result<(), Fail> {
     let gate = CountingGate::new();
-    assert_eq!(rt; raced(&rt, 10, &gate)?.as_str(), TEN);
-    assert_eq!(rt; gate.strays.load(Ordering::SeqCst), 0);
-    assert!(rt; gate.least_answered(0, 1) >= 10 && gate.least_answered(2, 3) >= 20);
-    Ok(())
+    expect_text(raced(&rt, 10, &gate)?, TEN)?;
+    expect_text(counted_text(rt.alloc(), &gate)?, "0 true true")
 }
 
 /// How often an appender looks for the other one before it gives up.
@@ -218,8 +214,7 @@ fn race_overlaps(rt: HostRuntime) -> Result<(), Fail> {
         zero: AtomicU64::new(0),
         one: AtomicU64::new(0),
     };
-    assert_eq!(rt; raced(&rt, 10, &gate)?.as_str(), TEN);
-    Ok(())
+    expect_text(raced(&rt, 10, &gate)?, TEN)
 }
 
 /// A writer that takes so many bytes and then fails.
@@ -243,13 +238,16 @@ impl Write for Broken {
     }
 }
 
+/// What is said of a race whose writer takes so many bytes and then fails.
+fn said_broken<R: AllocGlobal + Threads + Sync>(rt: &R, left: usize) -> Result<String, Fail> {
+    let done = race(rt, 1, &OpenGate, &mut Broken { left });
+    said(rt.alloc(), done, &[])
+}
+
 #[test]
-fn a_writer_that_fails_is_a_fault(rt: HostRuntime) {
+fn a_writer_that_fails_is_a_fault(rt: HostRuntime) -> Result<(), Fail> {
     for left in [0, 7] {
-        let done = race(&rt, 1, &OpenGate, &mut Broken { left });
-        assert!(rt;
-            matches!(done, Err(ToolFault::WriteFault)),
-            "after {left} bytes"
-        );
+        expect_text(said_broken(&rt, left)?, "cq: write fault")?;
     }
+    Ok(())
 }
