@@ -1,8 +1,6 @@
-//! How the types of a queue are called: a caller of each, proved, and run by the tests. `docs/CALLING.md` shows them.
+//! How the types of a queue are called: a caller of each, proved, and run by a test. `docs/CALLING.md` shows them.
 #![tactic(auto)]
 
-#[cfg(test)]
-mod caller_tests;
 mod copying;
 mod dropping;
 mod endpoints;

@@ -1,7 +1,9 @@
 //! Tests of endpoints: their calls in turn, reads into rooms, endpoints that meet, endpoints in threads, and the last one of a
-//! queue.
+//! queue; and of the callers that `docs/CALLING.md` shows.
 #![tactic(auto)]
 
+#[cfg(test)]
+mod caller_tests;
 #[cfg(test)]
 mod calls;
 #[cfg(test)]

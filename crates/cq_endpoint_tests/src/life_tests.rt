@@ -2,7 +2,7 @@
 use crate::calls::Call;
 use crate::new_queues::two_endpoints;
 use cq_endpoint::{Direction, Endpoint};
-use cq_fixtures::{DAY, contents_of, contents_text, small_config};
+use cq_fixtures::{DAY, contents_of, contents_text, expect, expect_text, small_config};
 use cq_shown::{CreateError, Stopped, recover};
 use std::alloc::Global;
 use std::test::Fail;
@@ -187,7 +187,7 @@ Refused(Busy); EmptyMessage; Ok(()); Err(NoRoom); Ok(()); NotYet; 0; 0 hello; 1;
 fn endpoints_append_and_read(rt: HostRuntime) -> Result<(), Fail> {
     let alloc = rt.alloc();
     for life in &LIVES {
-        assert_eq!(rt; answers(alloc, life.calls)?.as_str(), life.answers);
+        expect_text(answers(alloc, life.calls)?, life.answers)?;
     }
     Ok(())
 }
@@ -213,17 +213,24 @@ fn opened_text(alloc: Global) -> Result<String, Fail> {
 
 #[test]
 fn a_queue_is_opened_with_contents(rt: HostRuntime) -> Result<(), Fail> {
-    assert_eq!(rt; opened_text(rt.alloc())?.as_str(), "12884901888 old");
-    Ok(())
+    expect_text(opened_text(rt.alloc())?, "12884901888 old")
+}
+
+/// Why no queue is opened with contents that have no position for its name.
+fn fault_of_contents(alloc: Global) -> Result<Option<CreateError>, Fail> {
+    let contents = contents_of(alloc, &[(3, &["old"])], &[])?;
+    Ok(Endpoint::open(alloc, small_config(alloc, 4)?, &contents).err())
+}
+
+/// Why no queue is created behind the last moment.
+fn fault_of_moment(alloc: Global) -> Result<Option<CreateError>, Fail> {
+    Ok(Endpoint::create(alloc, small_config(alloc, 4)?, u64::MAX).err())
 }
 
 #[test]
 fn no_queue_is_opened_with_other_contents(rt: HostRuntime) -> Result<(), Fail> {
-    let alloc = rt.alloc();
-    let contents = contents_of(alloc, &[(3, &["old"])], &[])?;
-    let fault = Endpoint::open(alloc, small_config(alloc, 4)?, &contents).err();
-    assert!(rt; matches!(fault, Some(CreateError::BadContents)));
-    let fault = Endpoint::create(alloc, small_config(alloc, 4)?, u64::MAX).err();
-    assert!(rt; matches!(fault, Some(CreateError::BadMoment)));
-    Ok(())
+    let fault = fault_of_contents(rt.alloc())?;
+    expect(matches!(fault, Some(CreateError::BadContents)), "contents")?;
+    let fault = fault_of_moment(rt.alloc())?;
+    expect(matches!(fault, Some(CreateError::BadMoment)), "a moment")
 }

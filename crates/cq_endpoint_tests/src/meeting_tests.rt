@@ -6,7 +6,7 @@ use crate::calls::Call;
 use crate::new_queues::two_endpoints;
 use cq_append::Appender;
 use cq_endpoint::Endpoint;
-use cq_fixtures::small_config;
+use cq_fixtures::{expect, expect_text, small_config};
 use cq_tail::Tailer;
 use cq_words::{Caller, Queue};
 use std::alloc::Global;
@@ -31,8 +31,10 @@ fn ends(alloc: Global) -> Result<(u64, u64, u64, u64), Fail> {
 
 #[test]
 fn endpoints_meet(rt: HostRuntime) -> Result<(), Fail> {
-    assert_eq!(rt; ends(rt.alloc())?, (0, 0, 1, 1));
-    Ok(())
+    expect(
+        ends(rt.alloc())? == (0, 0, 1, 1),
+        "the ends that two have seen",
+    )
 }
 
 /// What becomes of a message that one endpoint begins as it meets another.
@@ -58,8 +60,7 @@ fn completed(alloc: Global) -> Result<String, Fail> {
 
 #[test]
 fn a_message_that_is_begun_stays_so_over_a_meeting(rt: HostRuntime) -> Result<(), Fail> {
-    assert_eq!(rt; completed(rt.alloc())?.as_str(), "Ok(()); 0; 0 hello");
-    Ok(())
+    expect_text(completed(rt.alloc())?, "Ok(()); 0; 0 hello")
 }
 
 /// The ends that a tailer and another one that is split off it have seen, before and behind a note that an appender gave.
@@ -101,6 +102,8 @@ fn noted(alloc: Global) -> Result<(u64, u64, u64), Fail> {
 
 #[test]
 fn an_appender_and_a_tailer_meet_in_place(rt: HostRuntime) -> Result<(), Fail> {
-    assert_eq!(rt; noted(rt.alloc())?, (0, 1, 1));
-    Ok(())
+    expect(
+        noted(rt.alloc())? == (0, 1, 1),
+        "the ends that two have seen",
+    )
 }

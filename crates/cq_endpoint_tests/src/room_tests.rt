@@ -3,7 +3,7 @@ use crate::calls::Call;
 use crate::new_queues::new_endpoint;
 use crate::room_calls::Step;
 use cq_endpoint::{AppendFault, Direction, Endpoint};
-use cq_fixtures::DAY;
+use cq_fixtures::{DAY, expect_text};
 use std::alloc::Global;
 use std::test::Fail;
 
@@ -108,7 +108,7 @@ fn answers(alloc: Global, steps: &[Step]) -> Result<String, Fail> {
 fn endpoints_read_into_rooms(rt: HostRuntime) -> Result<(), Fail> {
     let alloc = rt.alloc();
     for rooms in &ROOMS {
-        assert_eq!(rt; answers(alloc, rooms.steps)?.as_str(), rooms.answers);
+        expect_text(answers(alloc, rooms.steps)?, rooms.answers)?;
     }
     Ok(())
 }
@@ -143,10 +143,9 @@ fn lengths(alloc: Global) -> Result<String, Fail> {
 
 #[test]
 fn messages_are_read_backwards_one_after_the_other(rt: HostRuntime) -> Result<(), Fail> {
-    assert_eq!(rt;
-        lengths(rt.alloc())?.as_str(),
+    expect_text(
+        lengths(rt.alloc())?,
         "5 6 [abcdef](5, 6)4 5 [abcde.](4, 6)3 4 [abcd..](3, 6)2 3 [abc...](2, 6)\
-1 2 [ab....](1, 6)0 1 [a.....](0, 6)BeforeStart [......](0, 6)"
-    );
-    Ok(())
+1 2 [ab....](1, 6)0 1 [a.....](0, 6)BeforeStart [......](0, 6)",
+    )
 }

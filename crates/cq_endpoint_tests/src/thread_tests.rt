@@ -1,7 +1,7 @@
 //! Endpoints in threads: no closure asks for anything.
 use crate::new_queues::two_of;
 use cq_endpoint::{AppendFault, Endpoint, Found};
-use cq_fixtures::config_of;
+use cq_fixtures::{config_of, expect};
 use cq_layout::{Refusal, Shape};
 use std::alloc::Global;
 use std::test::Fail;
@@ -76,6 +76,8 @@ fn worked<R: Threads + Sync>(rt: &R, alloc: Global) -> Result<Vec<u32>, Fail> {
 #[test]
 fn threads_share_a_queue(rt: HostRuntime) -> Result<(), Fail> {
     let done = worked(&rt, rt.alloc())?;
-    assert_eq!(rt; done.as_slice(), [3 * EACH, 3 * EACH].as_slice());
-    Ok(())
+    expect(
+        done.as_slice() == [3 * EACH, 3 * EACH].as_slice(),
+        "all reads and appends are done",
+    )
 }

@@ -1,16 +1,16 @@
-//! Runs each caller once.
+//! Runs each caller of `docs/CALLING.md` once.
 
 ghost use Rattle.std.specs.Prelude.{◌≡◌, None};
 ghost use Rattle.cq_words.specs.Values.{IsOf};
 
-use crate::{
+use cq_append::Appender;
+use cq_callers::{
     append_beside, append_then_read, append_written, copied, drop_old, next_message, read_in,
     reopened, sent, take_next,
 };
-use cq_append::Appender;
 use cq_cycle::Index;
 use cq_endpoint::Endpoint;
-use cq_fixtures::{DAY, message_text, small_config};
+use cq_fixtures::{DAY, expect, expect_row, expect_text, message_text, small_config};
 use cq_model::Message;
 use cq_tail::Tailer;
 use cq_words::{Caller, Queue};
@@ -31,16 +31,14 @@ fn answer_text(alloc: Global, answer: Option<(Index, Message)>) -> Result<String
 fn a_message_is_appended_and_read(rt: HostRuntime) -> Result<(), Fail> {
     let alloc = rt.alloc();
     let read = append_then_read(alloc, small_config(alloc, 4)?, 0, b"hello")?;
-    assert_eq!(rt; answer_text(alloc, read)?.as_str(), "0 hello");
-    Ok(())
+    expect_text(answer_text(alloc, read)?, "0 hello")
 }
 
 #[test]
 fn a_message_is_sent_by_an_endpoint(rt: HostRuntime) -> Result<(), Fail> {
     let alloc = rt.alloc();
     let read = sent(alloc, small_config(alloc, 4)?, 0, b"hello")?;
-    assert_eq!(rt; answer_text(alloc, read)?.as_str(), "0 hello");
-    Ok(())
+    expect_text(answer_text(alloc, read)?, "0 hello")
 }
 
 /// What an endpoint reads next into a room of so many bytes.
@@ -75,8 +73,7 @@ fn read_in_rooms(alloc: Global, sizes: &[usize]) -> Result<String, Fail> {
 
 #[test]
 fn a_message_is_read_into_a_room(rt: HostRuntime) -> Result<(), Fail> {
-    assert_eq!(rt; read_in_rooms(rt.alloc(), &[4, 8])?.as_str(), "none hello");
-    Ok(())
+    expect_text(read_in_rooms(rt.alloc(), &[4, 8])?, "none hello")
 }
 
 /// What two threads and a caller that puts bytes make of a queue: whether each thread appended, and the index that comes then.
@@ -157,11 +154,9 @@ fn new_queue_taken<R: Threads + Wait + Sync>(
 #[test]
 fn threads_append_and_one_message_is_taken(rt: HostRuntime) -> Result<(), Fail> {
     let (one, two, index, taken) = new_queue_taken(&rt, rt.alloc())?;
-    assert_eq!(rt;
-        (one, two, index, taken.as_str()),
-        (true, true, Some(Index::new(0, 2)), "0 hello")
-    );
-    Ok(())
+    expect(one && two, "both threads append")?;
+    expect(index == Some(Index::new(0, 2)), "the index behind them")?;
+    expect_text(taken, "0 hello")
 }
 
 /// What is read first of a queue that was stopped and opened again.
@@ -181,8 +176,7 @@ fn new_queue_again(alloc: Global) -> Result<String, Fail> {
 
 #[test]
 fn a_queue_is_opened_again(rt: HostRuntime) -> Result<(), Fail> {
-    assert_eq!(rt; new_queue_again(rt.alloc())?.as_str(), "0 hello");
-    Ok(())
+    expect_text(new_queue_again(rt.alloc())?, "0 hello")
 }
 
 /// What is read first of a copy of a queue.
@@ -204,8 +198,7 @@ fn new_queue_copy(alloc: Global) -> Result<String, Fail> {
 
 #[test]
 fn a_queue_is_copied(rt: HostRuntime) -> Result<(), Fail> {
-    assert_eq!(rt; new_queue_copy(rt.alloc())?.as_str(), "0 hello");
-    Ok(())
+    expect_text(new_queue_copy(rt.alloc())?, "0 hello")
 }
 
 /// Appends "old" and, in a later cycle, "new", by an appender that is split off a caller.
@@ -241,6 +234,6 @@ fn new_queue_behind(alloc: Global) -> Result<(u32, String), Fail> {
 #[test]
 fn old_cycles_are_dropped(rt: HostRuntime) -> Result<(), Fail> {
     let (floor, read) = new_queue_behind(rt.alloc())?;
-    assert_eq!(rt; (floor, read.as_str()), (5, "21474836480 new"));
-    Ok(())
+    expect_row(floor == 5, u64::from(floor))?;
+    expect_text(read, "21474836480 new")
 }
