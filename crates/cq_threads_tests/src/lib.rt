@@ -18,6 +18,8 @@ mod numbering;
 #[cfg(test)]
 mod parts_tests;
 #[cfg(test)]
+mod shared;
+#[cfg(test)]
 mod sharing_tests;
 #[cfg(test)]
 mod thread_tests;

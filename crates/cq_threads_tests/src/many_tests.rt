@@ -1,19 +1,19 @@
 //! Four threads that append, beside others that read or take, while cycles begin.
 
-ghost use Rattle.std.specs.Prelude.{◌≡◌, None};
 ghost use Rattle.cq_words.specs.Values.{IsOf};
 
+use crate::shared::{SharedAppender, SharedQueue, SharedTailer};
 use cq_append::Appender;
 use cq_fixtures::{DAY, config_of, expect};
 use cq_layout::Shape;
 use cq_model::Config;
 use cq_tail::{Found, Tailer, Take, TakeFault};
-use cq_words::{Caller, Queue};
+use cq_words::Queue;
 use std::alloc::{AllocError, Global};
 use std::sync::Wait;
 use std::sync::atomic::{AtomicU64, Ordering};
 use std::test::Fail;
-use std::thread::{Threads, join, yield_now};
+use std::thread::{Threads, map_vec, yield_now};
 
 /// How many messages each of the four threads appends, at most 10,000.
 const EACH: u32 = 200;
@@ -40,8 +40,9 @@ fn moment_of(number: u32) -> u64 {
 }
 
 /// Appends all messages of a writer. Answers whether none was refused.
-fn append_all<R: Wait>(rt: &R, queue: &Queue, mut appender: Appender, writer: u8) -> bool
-    requires { IsOf queue.now appender }
+fn append_all<R: Wait>(rt: &R, queue: &Queue, appender: &mut Appender, writer: u8) -> bool
+    requires { IsOf queue.now appender.old }
+    ensures { IsOf queue.now appender.new }
 {
     for number in 0..EACH {
         let message = message_of(writer, number);
@@ -53,52 +54,6 @@ fn append_all<R: Wait>(rt: &R, queue: &Queue, mut appender: Appender, writer: u8
         }
     }
     true
-}
-
-/// Whether each of two writers appended all its messages.
-fn append_two<R: Threads + Wait + Sync>(
-    rt: &R,
-    queue: &Queue,
-    one: Appender,
-    two: Appender,
-    writers: (u8, u8),
-) -> (bool, bool)
-    requires one { IsOf queue.now one }
-    requires two { IsOf queue.now two }
-{
-    join(
-        rt,
-        move || -> bool
-            requires { IsOf queue.now one }
-        { append_all(rt, queue, one, writers.0) },
-        move || -> bool
-            requires { IsOf queue.now two }
-        { append_all(rt, queue, two, writers.1) },
-    )
-}
-
-/// Whether four writers appended all their messages.
-fn append_four<R: Threads + Wait + Sync>(
-    rt: &R,
-    queue: &Queue,
-    one: Appender,
-    two: Appender,
-    three: Appender,
-    four: Appender,
-) -> bool
-    requires first { IsOf queue.now one × IsOf queue.now two }
-    requires second { IsOf queue.now three × IsOf queue.now four }
-{
-    let (first, second) = join(
-        rt,
-        move || -> (bool, bool)
-            requires { IsOf queue.now one × IsOf queue.now two }
-        { append_two(rt, queue, one, two, (0, 1)) },
-        move || -> (bool, bool)
-            requires { IsOf queue.now three × IsOf queue.now four }
-        { append_two(rt, queue, three, four, (2, 3)) },
-    );
-    first == (true, true) && second == (true, true)
 }
 
 /// What a reader has read.
@@ -180,6 +135,7 @@ fn read_next(alloc: Global, queue: &Queue, tailer: &mut Tailer, tally: &mut Tall
 /// Reads all messages, or up to one that is not the next of its writer.
 fn read_all(alloc: Global, queue: &Queue, tailer: &mut Tailer) -> Tally
     requires { IsOf queue.now tailer.old.caller }
+    ensures { IsOf queue.now tailer.new.caller }
 {
     let mut tally = no_tally();
     for _ in 0..TURNS {
@@ -190,167 +146,9 @@ fn read_all(alloc: Global, queue: &Queue, tailer: &mut Tailer) -> Tally
     tally
 }
 
-/// What each of two tailers reads.
-fn read_two<R: Threads + Sync>(
-    rt: &R,
-    alloc: Global,
-    queue: &Queue,
-    mut one: Tailer,
-    mut two: Tailer,
-) -> (Tally, Tally)
-    requires one { IsOf queue.now one.caller }
-    requires two { IsOf queue.now two.caller }
-{
-    join(
-        rt,
-        move || -> Tally
-            requires { IsOf queue.now one.caller }
-        { read_all(alloc, queue, &mut one) },
-        move || -> Tally
-            requires { IsOf queue.now two.caller }
-        { read_all(alloc, queue, &mut two) },
-    )
-}
-
-/// Whether four tailers read all messages, and the same.
-fn read_four<R: Threads + Sync>(
-    rt: &R,
-    alloc: Global,
-    queue: &Queue,
-    one: Tailer,
-    two: Tailer,
-    three: Tailer,
-    four: Tailer,
-) -> bool
-    requires first { IsOf queue.now one.caller × IsOf queue.now two.caller }
-    requires second { IsOf queue.now three.caller × IsOf queue.now four.caller }
-{
-    let (first, second) = join(
-        rt,
-        move || -> (Tally, Tally)
-            requires { IsOf queue.now one.caller × IsOf queue.now two.caller }
-        { read_two(rt, alloc, queue, one, two) },
-        move || -> (Tally, Tally)
-            requires { IsOf queue.now three.caller × IsOf queue.now four.caller }
-        { read_two(rt, alloc, queue, three, four) },
-    );
-    first == second && first.0 == first.1 && is_all(&first.0)
-}
-
-/// Four new appenders of a queue.
-#[derive(Drop)]
-struct Appenders {
-    one: Appender,
-    two: Appender,
-    three: Appender,
-    four: Appender,
-}
-
-/// Four new tailers of a queue.
-#[derive(Drop)]
-struct Tailers {
-    one: Tailer,
-    two: Tailer,
-    three: Tailer,
-    four: Tailer,
-}
-
-fn four_appenders(queue: &Queue, caller: &mut Caller) -> Appenders
-    requires { IsOf queue.now caller.old }
-    ensures of { IsOf queue.now caller.new }
-    ensures first { IsOf queue.now result.one × IsOf queue.now result.two }
-    ensures second { IsOf queue.now result.three × IsOf queue.now result.four }
-{
-    let one = Appender::new(queue.split(caller));
-    let two = Appender::new(queue.split(caller));
-    let three = Appender::new(queue.split(caller));
-    let four = Appender::new(queue.split(caller));
-    Appenders {
-        one,
-        two,
-        three,
-        four,
-    }
-}
-
-fn four_tailers(queue: &Queue, caller: &mut Caller) -> Tailers
-    requires { IsOf queue.now caller.old }
-    ensures of { IsOf queue.now caller.new }
-    ensures first { IsOf queue.now result.one.caller × IsOf queue.now result.two.caller }
-    ensures second { IsOf queue.now result.three.caller × IsOf queue.now result.four.caller }
-{
-    let one = Tailer::new(queue.split(caller));
-    let two = Tailer::new(queue.split(caller));
-    let three = Tailer::new(queue.split(caller));
-    let four = Tailer::new(queue.split(caller));
-    Tailers {
-        one,
-        two,
-        three,
-        four,
-    }
-}
-
-/// Whether four writers appended all, and whether four tailers beside them read all in the same order.
-fn append_and_read<R: Threads + Wait + Sync>(
-    rt: &R,
-    alloc: Global,
-    queue: &Queue,
-    writing: Appenders,
-    reading: Tailers,
-) -> (bool, bool)
-    requires writers { IsOf queue.now writing.one × IsOf queue.now writing.two }
-    requires other_writers { IsOf queue.now writing.three × IsOf queue.now writing.four }
-    requires readers { IsOf queue.now reading.one.caller × IsOf queue.now reading.two.caller }
-    requires other_readers { IsOf queue.now reading.three.caller × IsOf queue.now reading.four.caller }
-{
-    join(
-        rt,
-        move || -> bool
-            requires writers { IsOf queue.now writing.one × IsOf queue.now writing.two }
-            requires others { IsOf queue.now writing.three × IsOf queue.now writing.four }
-        {
-            let Appenders {
-                one,
-                two,
-                three,
-                four,
-            } = writing;
-            append_four(rt, queue, one, two, three, four)
-        },
-        move || -> bool
-            requires readers { IsOf queue.now reading.one.caller × IsOf queue.now reading.two.caller }
-            requires others { IsOf queue.now reading.three.caller × IsOf queue.now reading.four.caller }
-        {
-            let Tailers {
-                one,
-                two,
-                three,
-                four,
-            } = reading;
-            read_four(rt, alloc, queue, one, two, three, four)
-        },
-    )
-}
-
 /// A queue of 8 cycles of a day each.
 fn config(alloc: Global) -> Result<Config, Fail> {
     config_of(alloc, Shape::new(262_144, 256, 1)?, 8)
-}
-
-/// The same of a new queue.
-fn all_read<R: Threads + Wait + Sync>(rt: &R, alloc: Global) -> Result<(bool, bool), Fail> {
-    let (queue, mut caller) = Queue::create(alloc, config(alloc)?, 0)?;
-    let writing = four_appenders(&queue, &mut caller);
-    let reading = four_tailers(&queue, &mut caller);
-    Ok(append_and_read(rt, alloc, &queue, writing, reading))
-}
-
-#[test]
-fn four_tailers_read_what_four_writers_append(rt: HostRuntime) -> Result<(), Fail> {
-    let (appended, read) = all_read(&rt, rt.alloc())?;
-    expect(appended, "four writers append all")?;
-    expect(read, "four tailers read all, and the same")
 }
 
 /// Keeps the index of what was taken, if it is a message. Answers whether it is.
@@ -372,6 +170,7 @@ fn take_next(alloc: Global, queue: &Queue, tailer: &mut Tailer, taken: &mut Vec<
 /// The indexes of the messages that were taken until two takers have taken all.
 fn take_all(alloc: Global, queue: &Queue, tailer: &mut Tailer, count: &AtomicU64) -> Vec<u64>
     requires { IsOf queue.now tailer.old.caller }
+    ensures { IsOf queue.now tailer.new.caller }
 {
     let mut taken = Vec::new(alloc);
     for _ in 0..TURNS {
@@ -384,29 +183,6 @@ fn take_all(alloc: Global, queue: &Queue, tailer: &mut Tailer, count: &AtomicU64
         }
     }
     taken
-}
-
-/// The indexes that each of two takers of one name took.
-fn take_two<R: Threads + Sync>(
-    rt: &R,
-    alloc: Global,
-    queue: &Queue,
-    mut one: Tailer,
-    mut two: Tailer,
-    count: &AtomicU64,
-) -> (Vec<u64>, Vec<u64>)
-    requires one { IsOf queue.now one.caller }
-    requires two { IsOf queue.now two.caller }
-{
-    join(
-        rt,
-        move || -> Vec<u64>
-            requires { IsOf queue.now one.caller }
-        { take_all(alloc, queue, &mut one, count) },
-        move || -> Vec<u64>
-            requires { IsOf queue.now two.caller }
-        { take_all(alloc, queue, &mut two, count) },
-    )
 }
 
 /// Whether each index is above the one before it.
@@ -453,54 +229,155 @@ fn is_taken_once(one: &[u64], two: &[u64]) -> bool {
     one.len().wrapping_add(two.len()) == ALL as usize && count_once(one, two) == ALL
 }
 
-/// Whether four writers appended all, and whether two takers of one name beside them took each message once.
-fn append_and_take<R: Threads + Wait + Sync>(
-    rt: &R,
-    alloc: Global,
-    queue: &Queue,
-    writing: Appenders,
-    one: Tailer,
-    two: Tailer,
-    count: &AtomicU64,
-) -> (bool, bool)
-    requires writers { IsOf queue.now writing.one × IsOf queue.now writing.two }
-    requires other_writers { IsOf queue.now writing.three × IsOf queue.now writing.four }
-    requires takers { IsOf queue.now one.caller × IsOf queue.now two.caller }
-{
-    let (appended, (first, second)) = join(
-        rt,
-        move || -> bool
-            requires writers { IsOf queue.now writing.one × IsOf queue.now writing.two }
-            requires others { IsOf queue.now writing.three × IsOf queue.now writing.four }
-        {
-            let Appenders {
-                one,
-                two,
-                three,
-                four,
-            } = writing;
-            append_four(rt, queue, one, two, three, four)
-        },
-        move || -> (Vec<u64>, Vec<u64>)
-            requires { IsOf queue.now one.caller × IsOf queue.now two.caller }
-        { take_two(rt, alloc, queue, one, two, count) },
-    );
-    (appended, is_taken_once(first.as_slice(), second.as_slice()))
+/// What a thread does.
+#[derive(Drop)]
+enum Job {
+    /// Appends all messages of a writer.
+    Append(SharedAppender, u8),
+    /// Reads all messages.
+    Read(SharedTailer),
+    /// Takes messages until all were taken.
+    Take(SharedTailer),
 }
 
-/// The same of a new queue.
-fn all_taken<R: Threads + Wait + Sync>(rt: &R, alloc: Global) -> Result<(bool, bool), Fail> {
-    let (queue, mut caller) = Queue::create(alloc, config(alloc)?, 0)?;
-    let writing = four_appenders(&queue, &mut caller);
-    let one = Tailer::new(queue.split(&mut caller));
-    let two = Tailer::new(queue.split(&mut caller));
+/// What came of it.
+#[derive(Drop)]
+enum Outcome {
+    /// Whether no message was refused.
+    Appended(bool),
+    /// What was read.
+    Read(Tally),
+    /// The indexes that were taken.
+    Taken(Vec<u64>),
+}
+
+/// Does a job beside others, of which those that take count together.
+fn done<R: Wait>(rt: &R, alloc: Global, job: Job, count: &AtomicU64) -> Outcome {
+    match job {
+        Job::Append(mut shared, writer) => {
+            let shared = &mut shared;
+            Outcome::Appended(append_all(rt, &shared.queue, &mut shared.appender, writer))
+        }
+        Job::Read(mut shared) => {
+            let shared = &mut shared;
+            Outcome::Read(read_all(alloc, &shared.queue, &mut shared.tailer))
+        }
+        Job::Take(mut shared) => {
+            let shared = &mut shared;
+            Outcome::Taken(take_all(alloc, &shared.queue, &mut shared.tailer, count))
+        }
+    }
+}
+
+/// What comes of jobs that are done beside one another.
+fn outcomes<R: Threads + Wait + Sync>(
+    rt: &R,
+    alloc: Global,
+    jobs: Vec<Job>,
+) -> Result<Vec<Outcome>, AllocError> {
     let count = AtomicU64::new(0);
-    Ok(append_and_take(rt, alloc, &queue, writing, one, two, &count))
+    map_vec(
+        rt,
+        jobs,
+        &|job: Job| -> Outcome { done(rt, alloc, job, &count) },
+    )
+}
+
+/// Four writers.
+fn push_writers(queue: &mut SharedQueue, jobs: &mut Vec<Job>) -> Result<(), AllocError> {
+    for writer in 0..4u8 {
+        jobs.push(Job::Append(queue.appender()?, writer))?;
+    }
+    Ok(())
+}
+
+/// Four readers.
+fn push_readers(queue: &mut SharedQueue, jobs: &mut Vec<Job>) -> Result<(), AllocError> {
+    for _ in 0..4u8 {
+        jobs.push(Job::Read(queue.tailer()?))?;
+    }
+    Ok(())
+}
+
+/// Two takers of one name.
+fn push_takers(queue: &mut SharedQueue, jobs: &mut Vec<Job>) -> Result<(), AllocError> {
+    for _ in 0..2u8 {
+        jobs.push(Job::Take(queue.tailer()?))?;
+    }
+    Ok(())
+}
+
+/// Four writers beside four readers of a new queue.
+fn writers_and_readers(alloc: Global) -> Result<Vec<Job>, Fail> {
+    let mut queue = SharedQueue::new(alloc, config(alloc)?)?;
+    let mut jobs = Vec::new(alloc);
+    push_writers(&mut queue, &mut jobs)?;
+    push_readers(&mut queue, &mut jobs)?;
+    Ok(jobs)
+}
+
+/// Four writers beside two takers of a new queue.
+fn writers_and_takers(alloc: Global) -> Result<Vec<Job>, Fail> {
+    let mut queue = SharedQueue::new(alloc, config(alloc)?)?;
+    let mut jobs = Vec::new(alloc);
+    push_writers(&mut queue, &mut jobs)?;
+    push_takers(&mut queue, &mut jobs)?;
+    Ok(jobs)
+}
+
+/// How many writers appended all their messages.
+fn count_appended(outcomes: &[Outcome]) -> u32 {
+    let mut count = 0u32;
+    for outcome in outcomes {
+        if matches!(outcome, Outcome::Appended(true)) {
+            count = count.wrapping_add(1);
+        }
+    }
+    count
+}
+
+/// How many readers read all messages, and in the same order as the last one.
+fn count_alike(outcomes: &[Outcome]) -> u32 {
+    let Some(Outcome::Read(last)) = outcomes.last() else {
+        return 0;
+    };
+    let mut count = 0u32;
+    for outcome in outcomes {
+        if let Outcome::Read(tally) = outcome {
+            if is_all(tally) && tally == last {
+                count = count.wrapping_add(1);
+            }
+        }
+    }
+    count
+}
+
+/// Whether two takers behind four writers took all messages, each just once.
+fn are_taken_once(outcomes: &[Outcome]) -> bool {
+    match (outcomes.get(4), outcomes.get(5)) {
+        (Some(Outcome::Taken(one)), Some(Outcome::Taken(two))) => {
+            is_taken_once(one.as_slice(), two.as_slice())
+        }
+        _ => false,
+    }
+}
+
+#[test]
+fn four_tailers_read_what_four_writers_append(rt: HostRuntime) -> Result<(), Fail> {
+    let outcomes = outcomes(&rt, rt.alloc(), writers_and_readers(rt.alloc())?)?;
+    expect(count_appended(&outcomes) == 4, "four writers append all")?;
+    expect(
+        count_alike(&outcomes) == 4,
+        "four tailers read all, and the same",
+    )
 }
 
 #[test]
 fn two_takers_take_each_message_once(rt: HostRuntime) -> Result<(), Fail> {
-    let (appended, taken) = all_taken(&rt, rt.alloc())?;
-    expect(appended, "four writers append all")?;
-    expect(taken, "two takers take each message once")
+    let outcomes = outcomes(&rt, rt.alloc(), writers_and_takers(rt.alloc())?)?;
+    expect(count_appended(&outcomes) == 4, "four writers append all")?;
+    expect(
+        are_taken_once(&outcomes),
+        "two takers take each message once",
+    )
 }
