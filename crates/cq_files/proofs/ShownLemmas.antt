@@ -1,12 +1,14 @@
 -- Why nothing is shown of a file, and what is.
 use Rattle.std.proofs.Common.{◌≡◌, ◌⊎◌, ◌∙◌, Bool, Global, ℕ, List, ap, inl, inr, subst, sym, true, false}
 use Rattle.std.specs.Prelude.{String, Option, None, Some, IfErr, IfSome, IsSomeAnd, Result, Ok, Err, codes, string_bytes}
-use Rattle.std.specs.Prelude.{OnOk}
+use Rattle.std.specs.Prelude.{OnErr, OnOk}
 use Rattle.std.specs.Io.KnownBytes.{Appends}
 use Rattle.std.proofs.lemmas.Result.{on_ok_weaker}
 use Rattle.cq_model.specs.Settings.{IsLawfulSettings, Settings, texts}
 use Rattle.cq_config_text.specs.ConfigText.{IsTextOf}
 use Rattle.cq_folder.specs.Folder.{Files, KeepsFiles}
+use Rattle.cq_text.proofs.OutputLemmas.{cut_short}
+use Rattle.cq_text.specs.Output.{AppendsBeginning}
 use Rattle.cq_text.specs.declared.fault.ToolFault.{ToolFault}
 use Rattle.cq_text.specs.declared.fault.ToolFault.TheVariants.{BadCycleName, NoSuchFile, WriteFault}
 use Rattle.cq_files.specs.FolderFaults.{HasCause, HasSettings, IsNoFault, IsShowFault}
@@ -119,6 +121,12 @@ given_shown Shows a b file text printed given is kept same shown = record {
 pub printed_as : {T E : Type 0} (IsText : List ℕ → Type 0) (old new : Option (List ℕ)) (text : List ℕ) (result : Result T E)
     → IsText text → OnOk result (Appends old new text) → OnOk result ((text : List ℕ) × IsText text × Appends old new text)
 printed_as IsText old new text result is written = on_ok_weaker result (λ w. (text, is, w)) written
+
+-- where they were not written to their end, a beginning of those of the file was
+pub cut_short_as : {T : Type 0} (IsText : List ℕ → Type 0) (old new : Option (List ℕ)) (text : List ℕ) (result : Result T ToolFault)
+    → IsText text → OnErr result (AppendsBeginning old new text)
+    → IfErr result (λ fault. fault ≡ WriteFault → (text : List ℕ) × IsText text × AppendsBeginning old new text)
+cut_short_as IsText old new text result is begun = cut_short result (λ b. (text, is, b)) begun
 
 -- what holds of the one fault that a call has holds of its fault
 pub of_fault : {T : Type 0} (result : Result T ToolFault) (is : ToolFault) (P : ToolFault → Type 0)
