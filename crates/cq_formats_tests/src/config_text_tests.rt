@@ -1,8 +1,8 @@
 //! The text of the file `queue.cqc`.
 use crate::settings::settings_text;
-use crate::wanted::{expect, expect_text};
 use cq_config_text::{SavedConfig, read_config, write_config};
 use cq_cycle::LAST_CYCLE;
+use cq_fixtures::{expect, expect_text};
 use std::alloc::{AllocError, Global};
 use std::test::Fail;
 

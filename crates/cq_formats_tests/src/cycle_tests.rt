@@ -1,9 +1,9 @@
 //! Roll cycles, their names, and indexes.
-use crate::wanted::{expect, expect_row, expect_text};
 use cq_cycle::{
     BadMoment, Index, LAST_MOMENT, NameFault, Roll, cycle_named, cycle_of, has_cycle, name_of,
     roll_named,
 };
+use cq_fixtures::{expect, expect_row, expect_text};
 use std::alloc::{AllocError, Global};
 use std::test::Fail;
 

@@ -1,6 +1,6 @@
 //! Folders and their files.
 use crate::noted_folder::NotedFolder;
-use crate::wanted::{expect, expect_text};
+use cq_fixtures::{expect, expect_text};
 use cq_folder::{Access, FailingFolder, Folder, FolderFault, MemoryFolder, NewFile};
 use cq_real_folder::RealFolder;
 use std::alloc::{AllocError, Global};

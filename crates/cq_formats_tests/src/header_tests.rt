@@ -1,5 +1,5 @@
 //! The header of a record.
-use crate::wanted::expect_row;
+use cq_fixtures::expect_row;
 use cq_header::{BadHeader, Header, read, write};
 use std::test::Fail;
 

@@ -2,7 +2,7 @@
 
 ghost use Rattle.std.specs.Prelude.{◌≤◌};
 
-use crate::wanted::{expect, expect_row, expect_text};
+use cq_fixtures::{expect, expect_row, expect_text};
 use cq_layout::{BadShape, Origin, Shape, cells_for, fits, needs, pack, unpack};
 use std::alloc::{AllocError, Global};
 use std::test::Fail;

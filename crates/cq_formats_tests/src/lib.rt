@@ -34,5 +34,3 @@ mod settings;
 mod tables_tests;
 #[cfg(test)]
 mod text_tests;
-#[cfg(test)]
-mod wanted;

@@ -1,8 +1,7 @@
 //! Settings with their limits, and contents.
 use crate::settings::{names_of, settings_text};
-use crate::wanted::{expect_row, expect_text};
 use cq_cycle::{LAST_MOMENT, Roll};
-use cq_fixtures::{contents_of, contents_text};
+use cq_fixtures::{contents_of, contents_text, expect_row, expect_text};
 use cq_layout::Shape;
 use cq_model::Config;
 use std::alloc::{AllocError, Global};

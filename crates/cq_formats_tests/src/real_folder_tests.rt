@@ -1,7 +1,6 @@
 //! Folders of the system, and what is left in them by commands that were cut short.
 use crate::folder_tests::changes;
-use crate::wanted::{expect, expect_text};
-use cq_fixtures::push_missed;
+use cq_fixtures::{expect, expect_text, push_missed};
 use cq_folder::{Access, Folder};
 use cq_real_folder::RealFolder;
 use std::alloc::{AllocError, Global};

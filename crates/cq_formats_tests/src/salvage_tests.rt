@@ -3,7 +3,7 @@ use crate::image_tests::{
     Change, DAYS, HELLO, HELLO_OF_VERSION_2, HELLO_RECORD, changed, image_of_copies, image_with,
     outcome,
 };
-use crate::wanted::expect_text;
+use cq_fixtures::expect_text;
 use cq_image::{ImageFault, Salvaged, salvage};
 use cq_layout::{Messages, Shape};
 use std::alloc::Global;

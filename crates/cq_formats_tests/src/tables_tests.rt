@@ -1,6 +1,6 @@
 //! Entries of the index, and hints at where a walk may begin.
 
-use crate::wanted::expect_row;
+use cq_fixtures::expect_row;
 use cq_layout::Shape;
 use cq_tables::{entry_places, pack_hint, start_for, unpack_hint};
 use std::test::Fail;

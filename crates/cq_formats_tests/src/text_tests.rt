@@ -1,7 +1,7 @@
 //! The texts of faults and rolls.
-use crate::wanted::expect_text;
 use cq_config_text::ConfigFault;
 use cq_cycle::{BadMoment, NameFault, Roll};
+use cq_fixtures::expect_text;
 use cq_header::BadHeader;
 use cq_image::{FaultKind, ImageFault, ReadFault};
 use cq_layout::BadShape;

@@ -92,10 +92,17 @@ fn most_steps_of_forward_reads(alloc: Global, wanted: &[u32]) -> Result<u64, Fai
 }
 
 #[test]
-fn a_read_behind_the_last_one_takes_two_steps(rt: HostRuntime) -> Result<(), Fail> {
-    // An index table stands before message 4,096.
-    let wanted = [1, 2, 16, 4_095, 4_096, 4_097, 12_345, 29_999];
-    assert!(rt; most_steps_of_forward_reads(rt.alloc(), &wanted)? <= 2);
+fn a_read_behind_the_last_one_takes_one_step(rt: HostRuntime) -> Result<(), Fail> {
+    let wanted = [1, 2, 16, 4_095, 4_097, 12_345, 29_999];
+    assert!(rt; most_steps_of_forward_reads(rt.alloc(), &wanted)? <= 1);
+    Ok(())
+}
+
+#[test]
+fn a_read_over_an_index_table_takes_three_steps(rt: HostRuntime) -> Result<(), Fail> {
+    // An index table stands before each 4,096th message.
+    let wanted = [4_096, 8_192, 28_672];
+    assert!(rt; most_steps_of_forward_reads(rt.alloc(), &wanted)? <= 3);
     Ok(())
 }
 
