@@ -1,11 +1,14 @@
 -- The command line of the program, in the words of clap.
-use Rattle.std.specs.Prelude.{◌≡◌, ℕ, ◌-◌, ◌^◌, List, true, false, codes, Some}
+use Rattle.std.specs.Prelude.{◌≡◌, ℕ, ◌-◌, ◌^◌, List, [], ◌∷◌, true, false, codes, fold, Some, ⊤}
 use Rattle.clap.specs.Words.{App, Rule, app_of, new_app, new_rule, rule_of, with_rule, with_subcommand}
 use Rattle.clap.specs.declared.builder.arg.Arg.{Arg}
 use Rattle.clap.specs.declared.builder.command.Command.{Command}
 use Rattle.clap.specs.declared.builder.command.Command.TheViews.{out-Command}
 use Rattle.clap.specs.declared.builder.ArgAction.TheVariants.{Append, Set, SetTrue}
 use Rattle.clap.specs.declared.builder.value_parser.ValueParser.TheVariants.{Unsigned}
+use Rattle.cq_command_line.specs.declared.arguments.Argument.{Argument}
+use Rattle.cq_command_line.specs.declared.commands.Description.{Description}
+use Rattle.cq_command_line.specs.declared.arguments.Argument.TheVariants.{Word, Number, Between, Words, Flag, Option}
 use Rattle.cq_orders.specs.declared.order.Order.{Order}
 use Rattle.cq_orders.specs.declared.order.Order.TheVariants.{Echo, Cycle, Init, Write, Read, Take, Check, Dump, Salvage, Race, DropBefore, Migrate}
 
@@ -45,6 +48,31 @@ flag_rule name = record (new_rule name) { long = Some name; action = Some SetTru
 abbrev pub option_rule : List ℕ → Rule
 option_rule name = record (new_rule name) { long = Some name; action = Some Set; value_names = 1 }
 
+-- the rule of an argument
+abbrev pub rule_for : Argument → Rule
+rule_for (Word name help) = word_rule name.now
+rule_for (Number name help) = number_rule name.now
+rule_for (Between name low high help) = between_rule name.now low high
+rule_for (Words name help) = words_rule name.now
+rule_for (Flag name help) = flag_rule name.now
+rule_for (Option name value_name help) = option_rule name.now
+
+-- the command with these arguments behind those that it has
+abbrev pub with_arguments : App → List Argument → App
+with_arguments app arguments = fold (λ before argument. with_rule before (rule_for argument)) app arguments
+
+-- the command with this description, without its arguments and with them
+abbrev pub bare_command : Description → App
+bare_command description = new_app description.name.now
+
+abbrev pub command_for : Description → App
+command_for description = with_arguments (bare_command description) description.arguments.now
+
+-- the program with these commands behind those that it has
+abbrev pub with_commands : App → List Description → App
+with_commands app [] = app
+with_commands app (first ∷ rest) = with_commands (with_subcommand app (command_for first).top) rest
+
 -- the program without its commands, of which one is to be named
 abbrev pub program : App
 program = let app = new_app (codes "cq") in record { top = record app.top { subcommand_required = true }; subs = app.subs }
@@ -59,18 +87,11 @@ cycle_command =
 abbrev pub race_command : App
 race_command = with_rule (new_app (codes "race")) (between_rule (codes "MESSAGES") 1 1000)
 
--- a queue's folder, its roll and its epoch; then the sizes of the queue; then the names of its tailers
-abbrev pub init_place : App
-init_place =
-    with_rule (with_rule (with_rule (new_app (codes "init")) (word_rule (codes "DIR"))) (word_rule (codes "ROLL"))) (number_rule (codes "EPOCH"))
-
-abbrev pub with_sizes : App → App
-with_sizes app =
-    with_rule (with_rule (with_rule (with_rule app (number_rule (codes "CELLS"))) (number_rule (codes "COUNT"))) (number_rule (codes "SPACING")))
-    (number_rule (codes "CYCLES"))
-
 abbrev pub init_command : App
-init_command = with_rule (with_sizes init_place) (words_rule (codes "NAMES"))
+init_command =
+    with_rule (with_rule (with_rule (with_rule (with_rule (with_rule (with_rule (with_rule (new_app (codes "init"))
+    (word_rule (codes "DIR"))) (word_rule (codes "ROLL"))) (number_rule (codes "EPOCH"))) (number_rule (codes "CELLS"))) (number_rule (codes "COUNT")))
+    (number_rule (codes "SPACING"))) (number_rule (codes "CYCLES"))) (words_rule (codes "NAMES"))
 
 abbrev pub write_command : App
 write_command = with_rule (with_rule (new_app (codes "write")) (word_rule (codes "DIR"))) (number_rule (codes "MOMENT"))
@@ -120,3 +141,10 @@ pub record Follows (arg : Arg) (rule : Rule) : Type 0 where
 pub record Makes (command : Command) (app : App) : Type 0 where
   pub is : app_of command ≡ app
   pub local : (out-Command command).has_globals ≡ false
+
+-- the commands are those with these descriptions, in their order
+abbrev pub MakesAll : List Command → List Description → Type 0
+MakesAll [] [] = ⊤
+MakesAll (command ∷ commands) (description ∷ descriptions) = Makes command (command_for description) × MakesAll commands descriptions
+MakesAll [] (description ∷ descriptions) = ⊥
+MakesAll (command ∷ commands) [] = ⊥

@@ -4,7 +4,9 @@
 //! `cq_commands`.
 #![tactic(auto)]
 
+mod arguments;
 mod command_line;
+mod commands;
 mod orders;
 mod parsing;
 

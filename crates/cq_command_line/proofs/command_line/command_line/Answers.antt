@@ -1,8 +1,10 @@
 use Rattle.std.proofs.Common.{rules}
-use Rattle.cq_command_line.specs.CommandLine.{Makes, plain_commands, program}
+use Rattle.std.proofs.lemmas.Result.{IfOk-weaker}
+use Rattle.cq_command_line.specs.CommandLine.{Makes, program}
+use Rattle.cq_command_line.proofs.CommandLemmas.{made-with_commands}
 use Rattle.cq_command_line.proofs.command_line.command_line.Goals as goal
 
 pub returns : goal.returns
 returns c =
-    let plain : Makes c.subcommand_required-program.result program = search rules in
-    c.queue_commands.ensures (plain_commands program) (c.plain_commands.ensures program plain)
+    let plain : Makes c.subcommand_required.result program = search rules in
+    IfOk-weaker c.subcommands.result _ _ (λ command adds. made-with_commands _ _ _ _ program adds plain c.in_ok-below.ensures) c.subcommands.ensures
