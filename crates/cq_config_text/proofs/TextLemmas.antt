@@ -1,5 +1,5 @@
 -- The text of a configuration, line by line.
-use Rattle.std.proofs.Common.{◌≡◌, ℕ, ◌<◌, ◌^◌, List, [], ◌∷◌, ◌++◌, All, length, refl, ap, sym, ◌∙◌, arith, append_assoc, append-nil, get_or, Fits, w64, String, ◌⊎◌, inl, inr}
+use Rattle.std.proofs.Common.{◌≡◌, ℕ, ◌<◌, ◌^◌, List, [], ◌∷◌, ◌++◌, All, length, refl, ap, ap₂, sym, ◌∙◌, arith, append_assoc, append-nil, get_or, Fits, w64, String, ◌⊎◌, inl, inr}
 use Rattle.std.proofs.lemmas.List.{get_or_default, length_push}
 use Rattle.std.proofs.lemmas.Grind.{flat_map-append}
 use Rattle.std.proofs.lemmas.List.Elements.{All-push, All-weaker}
@@ -10,7 +10,7 @@ use Rattle.cq_config_text.specs.Version.{store_in, version_of}
 use Rattle.cq_config_text.specs.declared.version.FolderVersion.{FolderVersion}
 use Rattle.cq_config_text.specs.declared.version.FolderVersion.TheVariants.{First, Second}
 use Rattle.cq_model.specs.Settings.{IsLawfulSettings, IsStoreOf, IsTailerName, Settings, texts}
-use Rattle.cq_config_text.specs.ConfigText.{AreWritableNames, IsNameWord, IsWritable, line_of, lines_text, name_lines, name_words}
+use Rattle.cq_config_text.specs.ConfigText.{AreWritableNames, IsNameWord, IsWritable, config_text, floor_lines, head_lines, line_of, lines_text, name_lines, name_words}
 
 -- one more name comes behind the others
 name_lines_more : (names : List (List ℕ)) (positions : List ℕ) (name : List ℕ) (position : ℕ)
@@ -27,6 +27,32 @@ name_lines_more (one ∷ names) (at ∷ positions) name position paired =
 pub lines_text-append : (lines more : List (List (List ℕ)))
     → lines_text (lines ++ more) ≡ lines_text lines ++ lines_text more
 lines_text-append lines more = flat_map-append (λ words. line_of words ++ 10 ∷ []) lines more
+
+-- a text that was taken apart in three
+pub parts_joined : (head floor names : List (List (List ℕ))) (text behind rest : List ℕ) → text ≡ lines_text head ++ behind
+    → behind ≡ lines_text floor ++ rest → rest ≡ lines_text names → text ≡ lines_text (head ++ (floor ++ names))
+parts_joined head floor names text behind rest front middle last =
+    front
+    ∙ ap (λ (more : List ℕ). lines_text head ++ more)
+    (middle ∙ ap (λ (more : List ℕ). lines_text floor ++ more) last ∙ sym (lines_text-append floor names))
+    ∙ sym (lines_text-append head (floor ++ names))
+
+-- a text of which nothing is left
+pub at_end : (text lines rest : List ℕ) → text ≡ lines ++ rest → length rest ≡ 0 → text ≡ lines
+at_end text lines [] spelled empty = spelled ∙ append-nil lines
+at_end text lines (byte ∷ rest) spelled empty = absurd (omega (arith, empty))
+
+-- what is written before the names, and the lines of all names, are the whole
+pub begun : (settings : Settings) (positions : List ℕ) (floor : ℕ) (head written : List ℕ) (names : List (List ℕ)) (places : List ℕ)
+    → head ≡ lines_text (head_lines settings) → written ≡ head ++ lines_text (floor_lines floor) → names ≡ settings.names → places ≡ positions
+    → written ++ lines_text (name_lines names places) ≡ config_text settings positions floor
+begun settings positions floor head written names places is_head is_written all placed =
+    let front : written ≡ lines_text (head_lines settings) ++ lines_text (floor_lines floor) =
+    is_written ∙ ap (λ (bytes : List ℕ). bytes ++ lines_text (floor_lines floor)) is_head in
+    let rest = lines_text (name_lines names places) in
+    parts_joined (head_lines settings) (floor_lines floor) (name_lines names places) (written ++ rest) (lines_text (floor_lines floor) ++ rest) rest
+    (ap (λ (bytes : List ℕ). bytes ++ rest) front ∙ append_assoc (lines_text (head_lines settings)) (lines_text (floor_lines floor)) rest) refl refl
+    ∙ ap₂ (λ (ns : List (List ℕ)) (ps : List ℕ). config_text (record settings { names = ns }) ps floor) all placed
 
 lines_text_more : (lines : List (List (List ℕ))) (words : List (List ℕ)) (rest : List ℕ)
     → lines_text (lines ++ words ∷ []) ++ rest ≡ lines_text lines ++ (line_of words ++ 10 ∷ rest)

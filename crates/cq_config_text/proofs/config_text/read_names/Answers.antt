@@ -2,7 +2,7 @@ use Rattle.std.proofs.Common.{◌≡◌, ◌++◌, ◌∷◌, [], ◌∙◌, ap,
 use Rattle.std.proofs.lemmas.List.{map_push}
 use Rattle.cq_model.specs.Settings.{texts}
 use Rattle.cq_config_text.proofs.FaultLemmas.{no_fault_at_end}
-use Rattle.cq_config_text.proofs.TextLemmas.{one_name_more, writable_names_more}
+use Rattle.cq_config_text.proofs.TextLemmas.{at_end, one_name_more, writable_names_more}
 use Rattle.cq_config_text.proofs.config_text.read_names.Goals as goal
 
 pub loop-rest-preserved : goal.loop-rest-preserved
@@ -27,6 +27,11 @@ loop-rest-preserved c =
       checked = sym taken.next ∙ old.checked;
       counted = omega (arith, old.counted, taken.shorter);
     }
+
+pub returns-clause-found : goal.returns-clause-found
+returns-clause-found c =
+    let empty : length c.loop-rest.rest.now ≡ 0 = search rules in
+    at_end c.args.text.now _ c.loop-rest.rest.now c.loop-rest.invariant.spelled empty
 
 pub returns-clause-whole : goal.returns-clause-whole
 returns-clause-whole c =
