@@ -1,9 +1,9 @@
 -- Which failures of a folder were counted, over several calls.
 use Rattle.std.proofs.Common.{◌≡◌, ◌⊎◌, ℕ, ◌<◌, ◌≤◌, arith, inl, inr, subst}
 use Rattle.std.proofs.lemmas.Bool.{cases_lt}
-use Rattle.std.specs.Prelude.{Err, IsErrAnd, Ok, Result}
+use Rattle.std.specs.Prelude.{Err, IfErr, IsErrAnd, Ok, Result}
 use Rattle.cq_text.specs.declared.fault.ToolFault.{ToolFault}
-use Rattle.cq_text.specs.declared.fault.ToolFault.TheVariants.{OutOfMemory}
+use Rattle.cq_text.specs.declared.fault.ToolFault.TheVariants.{OutOfMemory, WriteFault}
 use Rattle.cq_text.specs.Faults.{IsDeviceFault}
 use Rattle.cq_files.specs.Counted.{CountsFaults, HasCounted}
 
@@ -39,3 +39,16 @@ pub counts_scarce : {T : Type 0} (before now : ℕ) (result : Result T ToolFault
     → IsErrAnd result (λ passed. passed ≡ OutOfMemory) → CountsFaults before now result
 counts_scarce before now (Ok value) later is = record { later = later; device = tt }
 counts_scarce before now (Err fault) later is = record { later = later; device = λ device. absurd (subst IsDeviceFault is device) }
+
+-- a fault that is none of the device, and is passed on
+pub counts_other : {T : Type 0} (before now : ℕ) (fault : ToolFault) (result : Result T ToolFault) → before ≤ now
+    → ¬ IsDeviceFault fault → IsErrAnd result (λ passed. passed ≡ fault) → CountsFaults before now result
+counts_other before now fault (Ok value) later other is = record { later = later; device = tt }
+counts_other before now fault (Err passed) later other is =
+    record { later = later; device = λ device. absurd (other (subst IsDeviceFault is device)) }
+
+-- a fault of the writer
+pub counts_printed : {T : Type 0} (before now : ℕ) (result : Result T ToolFault) → before ≤ now
+    → IfErr result (λ fault. fault ≡ WriteFault) → CountsFaults before now result
+counts_printed before now (Ok value) later is = record { later = later; device = tt }
+counts_printed before now (Err fault) later is = record { later = later; device = λ device. absurd (subst IsDeviceFault is device) }

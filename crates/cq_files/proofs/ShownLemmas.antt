@@ -1,6 +1,6 @@
 -- Why nothing is shown of a file, and what is.
-use Rattle.std.proofs.Common.{◌≡◌, ◌⊎◌, ◌∙◌, Bool, Global, ℕ, List, ap, inl, inr, subst, sym, true, false}
-use Rattle.std.specs.Prelude.{String, Option, None, Some, IfErr, IfSome, IsSomeAnd, Result, Ok, Err, codes, string_bytes}
+use Rattle.std.proofs.Common.{◌≡◌, ◌≢◌, ◌⊎◌, ◌∙◌, Bool, Global, ℕ, List, ap, inl, inr, subst, sym, true, false}
+use Rattle.std.specs.Prelude.{String, Option, None, Some, IfErr, IfSome, IsErrAnd, IsSomeAnd, Result, Ok, Err, codes, string_bytes}
 use Rattle.std.specs.Prelude.{OnErr, OnOk}
 use Rattle.std.specs.Io.KnownBytes.{Appends}
 use Rattle.std.proofs.lemmas.Result.{on_ok_weaker}
@@ -11,7 +11,7 @@ use Rattle.cq_text.proofs.OutputLemmas.{cut_short}
 use Rattle.cq_text.specs.Output.{AppendsBeginning}
 use Rattle.cq_text.specs.declared.fault.ToolFault.{ToolFault}
 use Rattle.cq_text.specs.declared.fault.ToolFault.TheVariants.{BadCycleName, NoSuchFile, WriteFault}
-use Rattle.cq_files.specs.FolderFaults.{HasCause, HasSettings, IsNoFault, IsShowFault}
+use Rattle.cq_files.specs.FolderFaults.{HasCause, HasSettings, IsFolderFault, IsMissing, IsNameFault, IsNoFault, IsShowFault, NamesCycle}
 use Rattle.cq_files.specs.Queue.{IsImageFile, IsImageName, ListsImages}
 use Rattle.cq_files.specs.Shown.{IsGiven, IsShown}
 use Rattle.cq_files.specs.declared.given.GivenImage.{GivenImage}
@@ -78,6 +78,32 @@ bad_name (Some a) settings names name file fault opened is same bad =
       );
     }))
 
+-- the folder is not opened
+pub not_opened : (a : Option Files) (file : List ℕ) (fault : ToolFault) → IsFolderFault fault → IfSome a (λ files. HasCause files fault)
+    → IfSome a (λ files. IsShowFault IsNoFault file files fault)
+not_opened None file fault folder cause = tt
+not_opened (Some a) file fault folder cause = inl (folder, cause)
+
+-- why a file is not given is why nothing is shown of it
+pub not_given : (Refuses : Settings → Files → ToolFault → Type 0) (a : Option Files) (file : List ℕ) (fault : ToolFault)
+    → IfSome a (λ files. IsShowFault IsNoFault file files fault) → IfSome a (λ files. IsShowFault Refuses file files fault)
+not_given Refuses None file fault why = tt
+not_given Refuses (Some a) file fault (inl folder) = inl folder
+not_given Refuses (Some a) file fault (inr refused) = inr (record {
+  settings = refused.settings;
+  configured = refused.configured;
+  lawful = refused.lawful;
+  cause = so refused.cause;
+})
+  where
+    so : {settings : Settings} → IsMissing file a fault ⊎ (IsImageFile a file
+        × ((IsNameFault file fault × HasCause a fault) ⊎ (NamesCycle settings file × IsNoFault settings a fault)))
+        → IsMissing file a fault ⊎ (IsImageFile a file
+        × ((IsNameFault file fault × HasCause a fault) ⊎ (NamesCycle settings file × Refuses settings a fault)))
+    so (inl missing) = inl missing
+    so (inr (there, inl name)) = inr (there, inl name)
+    so (inr (there, inr held)) = absurd held.1
+
 -- what is wrong with one that is given is why nothing is shown of it
 pub given_refused : (Refuses : Settings → Files → ToolFault → Type 0) (a : Option Files) (file : List ℕ) (given : GivenImage) (fault : ToolFault)
     → IsGiven file a given → IfSome a (λ files. Refuses given.saved.config files fault)
@@ -133,3 +159,15 @@ pub of_fault : {T : Type 0} (result : Result T ToolFault) (is : ToolFault) (P : 
     → IfErr result (λ fault. fault ≡ is) → P is → IfErr result P
 of_fault (Ok value) is P same holds = tt
 of_fault (Err fault) is P same holds = subst P (sym same) holds
+
+-- a fault that is passed on and none of the writer
+pub never_cut_short : {T : Type 0} (P : Type 0) (result : Result T ToolFault) (fault : ToolFault) → IsErrAnd result (λ passed. passed ≡ fault)
+    → fault ≢ WriteFault → IfErr result (λ fault. fault ≡ WriteFault → P)
+never_cut_short P (Ok value) fault is other = tt
+never_cut_short P (Err passed) fault is other = λ same. absurd (other (sym is ∙ same))
+
+-- at a fault of the writer nothing is asked of the others
+pub others_silent : {T : Type 0} (P : Type 0) (result : Result T ToolFault) → IfErr result (λ fault. fault ≡ WriteFault)
+    → IfErr result (λ fault. fault ≢ WriteFault → P)
+others_silent P (Ok value) is = tt
+others_silent P (Err fault) is = λ other. absurd (other is)
