@@ -38,15 +38,11 @@ fn expect_answers(alloc: Global, head: &str, table: &[(&str, &str)]) -> Result<(
 
 /// Whether the same text is written from what a text says, which has a position for each name and a floor within its limit.
 fn is_written_again(alloc: Global, text: &str, saved: &SavedConfig) -> Result<bool, AllocError> {
-    if saved.positions.len() != saved.config.names().len() || saved.floor > LAST_CYCLE {
+    let positions = saved.positions.as_slice();
+    if positions.len() != saved.config.names().len() || saved.floor > LAST_CYCLE {
         return Ok(false);
     }
-    let written = write_config(
-        alloc,
-        &saved.config,
-        saved.positions.as_slice(),
-        saved.floor,
-    )?;
+    let written = write_config(alloc, &saved.config, positions, saved.floor)?;
     Ok(written.as_slice() == text.as_bytes())
 }
 

@@ -4,8 +4,6 @@ use cq_fixtures::{expect, expect_text};
 use cq_folder::{Access, FailingFolder, Folder, FolderFault, MemoryFolder, NewFile};
 use cq_real_folder::RealFolder;
 use std::alloc::{AllocError, Global};
-use std::fs::File;
-use std::rt::Files;
 use std::test::Fail;
 
 /// The bytes that are written to files in turn.
@@ -26,6 +24,14 @@ fn two_files(alloc: Global) -> Result<MemoryFolder, FolderFault> {
     Ok(folder)
 }
 
+/// What a read answers, as a text.
+fn answer_text(alloc: Global, answer: &Result<Vec<u8>, FolderFault>) -> Result<String, AllocError> {
+    match answer {
+        Ok(bytes) => format!(in alloc; "{:?}", bytes.as_slice()),
+        Err(fault) => format!(in alloc; "{fault:?}"),
+    }
+}
+
 /// What reading a file answers, as a text.
 fn read_text<F: Folder>(
     alloc: Global,
@@ -33,17 +39,19 @@ fn read_text<F: Folder>(
     name: &str,
     limit: usize,
 ) -> Result<String, AllocError> {
-    match folder.read(alloc, name, limit) {
-        Ok(bytes) => format!(in alloc; "{:?}", bytes.as_slice()),
-        Err(fault) => format!(in alloc; "{fault:?}"),
-    }
+    answer_text(alloc, &folder.read(alloc, name, limit))
+}
+
+/// Names in their order, as text.
+fn in_order(alloc: Global, names: Vec<String>) -> Result<String, AllocError> {
+    let mut names = names;
+    names.sort()?;
+    format!(in alloc; "{:?}", names.as_slice())
 }
 
 /// The names of the files, in their order, as text.
 fn names_text<F: Folder>(alloc: Global, folder: &mut F) -> Result<String, Fail> {
-    let mut names = folder.names(alloc)?;
-    names.sort()?;
-    Ok(format!(in alloc; "{:?}", names.as_slice())?)
+    Ok(in_order(alloc, folder.names(alloc)?)?)
 }
 
 /// Reads of a file up to a limit, each beside what it answers of those two files.
@@ -113,8 +121,10 @@ fn push_first_calls<F: Folder>(
 
 /// Lists the names of the files, and lets them go.
 fn list<F: Folder>(alloc: Global, folder: &mut F) -> Result<(), FolderFault> {
-    folder.names(alloc)?;
-    Ok(())
+    match folder.names(alloc) {
+        Ok(_names) => Ok(()),
+        Err(fault) => Err(fault),
+    }
 }
 
 /// Adds what a read and a save answer to a text, and how many calls failed.
@@ -234,10 +244,7 @@ fn a_missing_folder_is_a_device_fault(rt: HostRuntime) -> Result<(), Fail> {
 }
 
 /// What the calls of the folder at a path answer, as text.
-fn real_calls_text<R>(rt: &R, path: &str) -> Result<String, AllocError>
-where
-    R: Files<File = File> + AllocGlobal + Clone + Drop,
-{
+fn real_calls_text(rt: &HostRuntime, path: &str) -> Result<String, AllocError> {
     let mut folder = RealFolder::new(rt, String::from_str(rt.alloc(), path)?, 7);
     calls_text(rt.alloc(), &mut folder)
 }

@@ -3,11 +3,11 @@ use crate::image_tests::{
     Change, DAYS, HELLO, HELLO_OF_VERSION_2, HELLO_RECORD, changed, image_of_copies, image_with,
     outcome,
 };
+use crate::settings::push_message;
 use cq_fixtures::expect_text;
 use cq_image::{ImageFault, Salvaged, salvage};
 use cq_layout::{Messages, Shape};
-use std::alloc::Global;
-use std::str;
+use std::alloc::{AllocError, Global};
 use std::test::Fail;
 
 /// What is saved of the bytes: each message with a space behind it, and then the fault, or `whole`.
@@ -20,19 +20,18 @@ fn saved(alloc: Global, cycle: u32, shape: Shape, bytes: &[u8]) -> Result<String
 }
 
 /// Adds each message to a text, with a space behind it.
-fn push_messages(messages: &Messages<'_>, text: &mut String) -> Result<(), Fail> {
+fn push_messages(messages: &Messages<'_>, text: &mut String) -> Result<(), AllocError> {
     for sequence in 0..messages.len() {
-        text.push_str(str::from_utf8(messages.bytes(sequence))?)?;
-        text.push_str(" ")?;
+        push_message(messages.bytes(sequence), " ", text)?;
     }
     Ok(())
 }
 
 /// Adds a fault to a text, or `whole`.
-fn push_fault(fault: Option<ImageFault>, text: &mut String) -> Result<(), Fail> {
+fn push_fault(fault: Option<ImageFault>, text: &mut String) -> Result<(), AllocError> {
     match fault {
-        Some(fault) => Ok(write!(text, "{fault}")?),
-        None => Ok(text.push_str("whole")?),
+        Some(fault) => write!(text, "{fault}"),
+        None => text.push_str("whole"),
     }
 }
 

@@ -20,6 +20,12 @@ pub fn messages_of(alloc: Global, texts: &[&[u8]]) -> Result<Vec<Message>, Alloc
     Ok(messages)
 }
 
+/// Adds a message to a text, and this behind it.
+pub fn push_message(message: &[u8], behind: &str, text: &mut String) -> Result<(), AllocError> {
+    text.push_str(str::from_utf8(message).unwrap_or("no text"))?;
+    text.push_str(behind)
+}
+
 /// Settings as text: the roll and the epoch, the number of cycles and their shape, and the names.
 pub fn settings_text(alloc: Global, config: &Config) -> Result<String, AllocError> {
     format!(in alloc;
