@@ -121,10 +121,8 @@ fn push_first_calls<F: Folder>(
 
 /// Lists the names of the files, and lets them go.
 fn list<F: Folder>(alloc: Global, folder: &mut F) -> Result<(), FolderFault> {
-    match folder.names(alloc) {
-        Ok(_names) => Ok(()),
-        Err(fault) => Err(fault),
-    }
+    folder.names(alloc)?;
+    Ok(())
 }
 
 /// Adds what a read and a save answer to a text, and how many calls failed.
