@@ -85,9 +85,7 @@ impl<'a, R: Files<File = File> + AllocGlobal + Clone + Drop> RealFolder<'a, R> {
     /// Renames the parts that are left, and removes the record. A part that is gone has taken its place.
     fn finish(&self, record: &Record) -> io::Result<()> {
         for name in &record.names {
-            let part = self.part_of(name.as_str(), record.process)?;
-            let path = self.path_of(name.as_str())?;
-            unless_missing(fs::rename(self.rt, part.as_str(), path.as_str()))?;
+            unless_missing(self.place(name.as_str(), record.process))?;
         }
         self.sync()?;
         fs::remove_file(self.rt, self.path_of(RECORD_FILE)?.as_str())?;

@@ -13,7 +13,7 @@ impl<'a, R: Files<File = File> + AllocGlobal + Clone + Drop> RealFolder<'a, R> {
     /// Writes a file so that it holds all of the bytes or what it held, also where the system stops in between.
     pub(super) fn replace(&self, name: &str, bytes: &[u8]) -> io::Result<()> {
         let placed = match self.prepare(name, bytes) {
-            Ok(()) => self.place(name),
+            Ok(()) => self.place(name, self.process),
             Err(error) => Err(error),
         };
         if let Err(error) = placed {
@@ -74,7 +74,7 @@ impl<'a, R: Files<File = File> + AllocGlobal + Clone + Drop> RealFolder<'a, R> {
         }
         let text = record.text(self.rt.alloc())?;
         self.prepare(RECORD_FILE, text.as_bytes())?;
-        self.place(RECORD_FILE)
+        self.place(RECORD_FILE, self.process)
     }
 
     /// Removes what a save wrote whose record does not stand. A rename may answer an error and be done all the same, so the
@@ -101,17 +101,17 @@ impl<'a, R: Files<File = File> + AllocGlobal + Clone + Drop> RealFolder<'a, R> {
         }
     }
 
-    /// Writes the part of a file, which is made anew: what has its name, a link or a FIFO too, goes first.
+    /// Writes the part of a file.
     fn prepare(&self, name: &str, bytes: &[u8]) -> io::Result<()> {
         let permissions = self.permissions(name)?;
+        fill(self.new_part(name)?, permissions, bytes)
+    }
+
+    /// The part of a file, which is made anew: what has its name, a link or a FIFO too, goes first.
+    fn new_part(&self, name: &str) -> io::Result<File> {
         let part = self.part_of(name, self.process)?;
         unless_missing(fs::remove_file(self.rt, part.as_str()))?;
-        let mut file = File::create_new(self.rt, part.as_str())?;
-        if let Some(permissions) = permissions {
-            file.set_permissions(permissions)?;
-        }
-        file.write_all(bytes)?;
-        file.sync_all()
+        File::create_new(self.rt, part.as_str())
     }
 
     /// Who may do what with the file, where it stands already. Answers an error where it is no plain file.
@@ -135,9 +135,18 @@ impl<'a, R: Files<File = File> + AllocGlobal + Clone + Drop> RealFolder<'a, R> {
         }
     }
 
-    /// Lets the part of a file take its place.
-    fn place(&self, name: &str) -> io::Result<()> {
-        let part = self.part_of(name, self.process)?;
+    /// Lets the part of a file that this process wrote take its place.
+    pub(super) fn place(&self, name: &str, process: u32) -> io::Result<()> {
+        let part = self.part_of(name, process)?;
         fs::rename(self.rt, part.as_str(), self.path_of(name)?.as_str())
     }
+}
+
+/// Writes a new file to the device.
+fn fill(mut file: File, permissions: Option<Permissions>, bytes: &[u8]) -> io::Result<()> {
+    if let Some(permissions) = permissions {
+        file.set_permissions(permissions)?;
+    }
+    file.write_all(bytes)?;
+    file.sync_all()
 }
