@@ -68,16 +68,24 @@ fn one_of_two_threads_wins_a_header(rt: HostRuntime) -> Result<(), Fail> {
 }
 
 /// What a child finds that is split off in a claim of its parent, and what the parent finds once it has given that up.
+fn found_in_a_claim(queue: &Queue, parent: &mut Caller) -> (Option<u32>, Option<u32>)
+    requires of { IsOf queue.now parent.old }
+    requires idle { parent.old.view.claim ≡ None }
+    requires mark { parent.old.view.mark ≡ first_mark }
+{
+    if claim_first(queue, parent, 5) != Some(0) {
+        return (None, None);
+    }
+    let mut child = queue.split(parent);
+    let found = claim_first(queue, &mut child, 5);
+    queue.give_up(parent, 0, 0);
+    (found, claim_first(queue, parent, 5))
+}
+
+/// The same in a new queue.
 fn split_in_a_claim(alloc: Global) -> Result<(Option<u32>, Option<u32>), Fail> {
     let (queue, mut parent) = Queue::create(alloc, small_config(alloc, 1)?, 0)?;
-    if claim_first(&queue, &mut parent, 5) != Some(0) {
-        return Ok((None, None));
-    }
-    let mut child = queue.split(&mut parent);
-    let found = claim_first(&queue, &mut child, 5);
-    queue.give_up(&mut parent, 0, 0);
-    let again = claim_first(&queue, &mut parent, 5);
-    Ok((found, again))
+    Ok(found_in_a_claim(&queue, &mut parent))
 }
 
 #[test]
