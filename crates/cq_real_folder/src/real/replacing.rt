@@ -135,7 +135,7 @@ impl<'a, R: Files<File = File> + AllocGlobal + Clone + Drop> RealFolder<'a, R> {
         }
     }
 
-    /// Lets the part of a file that this process wrote take its place.
+    /// Lets the part of a file that the process with this number wrote take its place.
     pub(super) fn place(&self, name: &str, process: u32) -> io::Result<()> {
         let part = self.part_of(name, process)?;
         fs::rename(self.rt, part.as_str(), self.path_of(name)?.as_str())
