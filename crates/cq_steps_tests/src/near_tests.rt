@@ -8,7 +8,7 @@ use cq_hints::near;
 use cq_layout::Shape;
 use cq_walks::enter_slot;
 use cq_words::{Caller, Queue};
-use std::alloc::{AllocError, Global};
+use std::alloc::Global;
 use std::test::Fail;
 
 /// The sequence at which the walk to a message begins.
@@ -26,7 +26,7 @@ fn starts(
     queue: &Queue,
     caller: &mut Caller,
     wanted: &[u32],
-) -> Result<Vec<u32>, AllocError>
+) -> Result<Vec<u32>, Fail>
     requires { IsOf queue.now caller.old }
 {
     let mut starts = Vec::new(alloc);
@@ -39,7 +39,7 @@ fn starts(
 /// Where walks begin in a cycle of 30,000 messages, of which one in 16 has an entry.
 fn starts_among_many(alloc: Global, wanted: &[u32]) -> Result<Vec<u32>, Fail> {
     let (queue, mut caller) = full_queue(alloc)?;
-    Ok(starts(alloc, &queue, &mut caller, wanted)?)
+    starts(alloc, &queue, &mut caller, wanted)
 }
 
 /// Fails where walks begin elsewhere than wanted.
@@ -72,7 +72,7 @@ fn starts_behind_others(alloc: Global, wanted: &[u32]) -> Result<Vec<u32>, Fail>
     let contents = contents_of(alloc, &[(0, &["a", "b", "c"])], &[0])?;
     let (queue, caller) = Queue::reopen(alloc, config, &contents)?;
     let mut caller = append_all(&queue, caller, 1)?;
-    Ok(starts(alloc, &queue, &mut caller, wanted)?)
+    starts(alloc, &queue, &mut caller, wanted)
 }
 
 #[test]

@@ -1,7 +1,8 @@
 use Rattle.std.specs.Prelude.{IfSome}
 use Rattle.cq_text.specs.declared.fault.ToolFault.TheVariants.{OutOfMemory}
 use Rattle.cq_files.specs.FolderFaults.{HasCause, IsFileFault}
-use Rattle.cq_files.proofs.CauseLemmas.{of_any, passed_on}
+use Rattle.cq_text.proofs.FaultLemmas.{passed_on}
+use Rattle.cq_files.proofs.CauseLemmas.{of_any}
 use Rattle.cq_files.proofs.CountLemmas.{counts_scarce}
 use Rattle.cq_files.proofs.files.read_file.Goals as goal
 

@@ -4,7 +4,8 @@ use Rattle.cq_files.specs.FolderFaults.{IsFolderFault, IsNoFault, IsShowFault}
 use Rattle.cq_text.specs.Faults.{IsDeviceFault}
 use Rattle.cq_text.specs.declared.fault.ToolFault.TheVariants.{BadCycleName, OutOfMemory, WriteFault}
 use Rattle.cq_files.specs.Queue.{IsImageName}
-use Rattle.cq_files.proofs.CauseLemmas.{of_any, other_than, passed_on}
+use Rattle.cq_text.proofs.FaultLemmas.{passed_on}
+use Rattle.cq_files.proofs.CauseLemmas.{of_any, other_than}
 use Rattle.cq_files.proofs.CountLemmas.{counts_other, counts_passed, counts_scarce}
 use Rattle.cq_files.proofs.ShownLemmas.{bad_name, is_missing, is_there, named_as_shown, not_opened, was_opened}
 use Rattle.cq_files.proofs.given.open_image.Goals as goal

@@ -2,7 +2,8 @@ use Rattle.std.specs.Prelude.{IfSome}
 use Rattle.cq_text.specs.Echo.{IsEchoFault, echo_text}
 use Rattle.cq_text.specs.Faults.{IsDeviceFault}
 use Rattle.cq_text.specs.Lines.{input_lines}
-use Rattle.cq_text.proofs.EchoLemmas.{input_at_fault, input_needs_no_device, lines_at_fault, none_written, passed_on}
+use Rattle.cq_text.proofs.FaultLemmas.{passed_on}
+use Rattle.cq_text.proofs.EchoLemmas.{input_at_fault, input_needs_no_device, lines_at_fault, none_written}
 use Rattle.cq_text.proofs.echoing.echo.Goals as goal
 
 pub returns-in_err-bytes-clause-fault : goal.returns-in_err-bytes-clause-fault
