@@ -50,6 +50,7 @@ pub fn append_one(queue: &Queue, appender: &mut Appender, bytes: &[u8]) -> Resul
 
 /// Tries again to append a message that another caller held back, with a pause before each try. It stands apart, so that where
 /// nobody else writes an append is one call.
+#[cold]
 #[inline(never)]
 fn append_again(queue: &Queue, appender: &mut Appender, bytes: &[u8]) -> Result<(), BenchFault>
     requires { IsOf queue.now appender.old }
@@ -78,7 +79,35 @@ pub fn append_all(
     ensures of { IsOf queue.now appender.new }
     ensures appended { OnOk result (messages_appended appender.old + count ≤ messages_appended appender.new) }
 {
-    for _ in 0..count {
+    for done in 0..count {
+        match appender.append(queue, MOMENT, bytes) {
+            Ok(_index) => {}
+            Err(Refusal::Busy) => return append_rest(queue, appender, bytes, count - done),
+            Err(refusal) => return Err(BenchFault::Refused(refusal)),
+        }
+    }
+    Ok(())
+}
+
+/// The same where another caller held back the first one. It stands apart, so that where nobody else writes nothing is kept for
+/// more tries.
+#[cold]
+#[inline(never)]
+fn append_rest(
+    queue: &Queue,
+    appender: &mut Appender,
+    bytes: &[u8],
+    count: u32,
+) -> Result<(), BenchFault>
+    requires { IsOf queue.now appender.old }
+    ensures of { IsOf queue.now appender.new }
+    ensures appended { OnOk result (messages_appended appender.old + count ≤ messages_appended appender.new) }
+{
+    if count == 0 {
+        return Ok(());
+    }
+    append_again(queue, appender, bytes)?;
+    for _ in 1..count {
         append_one(queue, appender, bytes)?;
     }
     Ok(())

@@ -1,5 +1,6 @@
 //! How many atomic steps calls take on headers and hints over many messages: all but those on the cells of payloads, and the load
-//! of the floor with which a read ends.
+//! of the floor with which a read ends. An append takes two that its caller does not count: the exchange that begins its message, and
+//! the store of the length.
 
 ghost use Rattle.std.specs.Prelude.{◌≡◌};
 ghost use Rattle.cq_words.specs.Values.{IsOf};
@@ -170,7 +171,8 @@ fn reads_backwards_without_hints_look_at_two_headers_a_message(
 /// The steps of so many appends to a new queue by one caller.
 fn append_steps(alloc: Global, count: u32) -> Result<u64, Fail> {
     let (queue, caller) = new_queue(alloc)?;
-    Ok(append_all(&queue, caller, count)?.steps())
+    let steps = append_all(&queue, caller, count)?.steps();
+    Ok(steps.saturating_add(2 * u64::from(count)))
 }
 
 /// The most steps of an append of one of these messages, each by the caller that appended the one before it.
@@ -202,7 +204,7 @@ fn new_append_steps(alloc: Global, count: u32) -> Result<u64, Fail> {
     let (queue, caller) = new_queue(alloc)?;
     let mut caller = append_all(&queue, caller, count)?;
     let other = queue.split(&mut caller);
-    Ok(append_all(&queue, other, 1)?.steps())
+    Ok(append_all(&queue, other, 1)?.steps().saturating_add(2))
 }
 
 /// The most steps of an append of one of these messages, each by a new caller.

@@ -25,5 +25,6 @@ pub fn claim_first(queue: &Queue, caller: &mut Caller, room: u32) -> Option<u32>
         return None;
     }
     let walker = Walker::new(shape);
-    Some(queue.claim(caller, 0, walker, 0, room))
+    let word = queue.cell_word(0, walker.position());
+    Some(queue.claim(caller, 0, walker, word, 0, room))
 }
