@@ -2,7 +2,6 @@
 use crate::noted_folder::NotedFolder;
 use cq_fixtures::{expect, expect_text};
 use cq_folder::{Access, FailingFolder, Folder, FolderFault, MemoryFolder, NewFile};
-use cq_real_folder::RealFolder;
 use std::alloc::{AllocError, Global};
 use std::test::Fail;
 
@@ -42,16 +41,23 @@ fn read_text<F: Folder>(
     answer_text(alloc, &folder.read(alloc, name, limit))
 }
 
-/// Names in their order, as text.
-fn in_order(alloc: Global, names: Vec<String>) -> Result<String, AllocError> {
+/// Names in their order, with a space behind each.
+pub fn in_order(alloc: Global, names: Vec<String>) -> Result<String, AllocError> {
     let mut names = names;
     names.sort()?;
-    format!(in alloc; "{:?}", names.as_slice())
+    let mut text = String::new(alloc);
+    for name in &names {
+        write!(text, "{name} ")?;
+    }
+    Ok(text)
 }
 
-/// The names of the files, in their order, as text.
-fn names_text<F: Folder>(alloc: Global, folder: &mut F) -> Result<String, Fail> {
-    Ok(in_order(alloc, folder.names(alloc)?)?)
+/// The names of the files, in their order, or the fault of the list.
+pub fn names_text<F: Folder>(alloc: Global, folder: &mut F) -> Result<String, AllocError> {
+    match folder.names(alloc) {
+        Ok(names) => in_order(alloc, names),
+        Err(fault) => format!(in alloc; "{fault:?}"),
+    }
 }
 
 /// Reads of a file up to a limit, each beside what it answers of those two files.
@@ -67,11 +73,17 @@ static READS: [(&str, usize, &str); 5] = [
 /// file that is not there.
 fn expect_two_files<F: Folder>(alloc: Global, folder: &mut F) -> Result<(), Fail> {
     write_two_files(folder)?;
-    expect_text(names_text(alloc, folder)?, "[\"a\", \"b\"]")?;
+    expect_text(names_text(alloc, folder)?, "a b ")?;
+    expect_reads(alloc, folder)?;
+    expect(folder.failures() == 1, "one call fails")
+}
+
+/// Fails where a folder answers to reads of those two files otherwise than wanted.
+fn expect_reads<F: Folder>(alloc: Global, folder: &mut F) -> Result<(), Fail> {
     for &(name, limit, want) in &READS {
         expect_text(read_text(alloc, folder, name, limit)?, want)?;
     }
-    expect(folder.failures() == 1, "one call fails")
+    Ok(())
 }
 
 /// Fails as `expect_two_files` does, and where there is a file without a name.
@@ -88,7 +100,7 @@ fn a_folder_in_memory_keeps_its_files(rt: HostRuntime) -> Result<(), Fail> {
 }
 
 /// Files of these names and texts, which are to be saved.
-pub fn changes(alloc: Global, files: &[(&str, &str)]) -> Result<Vec<NewFile>, AllocError> {
+fn changes(alloc: Global, files: &[(&str, &str)]) -> Result<Vec<NewFile>, AllocError> {
     let mut changes = Vec::new(alloc);
     for &(name, text) in files {
         changes.push(NewFile {
@@ -99,10 +111,21 @@ pub fn changes(alloc: Global, files: &[(&str, &str)]) -> Result<Vec<NewFile>, Al
     Ok(changes)
 }
 
+/// Saves files of these names and texts together.
+pub fn save<F: Folder>(
+    alloc: Global,
+    folder: &mut F,
+    files: &[(&str, &str)],
+) -> Result<Result<(), FolderFault>, AllocError> {
+    let changes = changes(alloc, files)?;
+    Ok(folder.save(changes.as_slice()))
+}
+
 /// What coming in, the list, a write, a read and a save of a folder answer, and how many calls failed, as text.
 fn calls_text<F: Folder>(alloc: Global, folder: &mut F) -> Result<String, AllocError> {
     let mut text = String::new(alloc);
     push_first_calls(alloc, folder, &mut text)?;
+    text.push_str(read_text(alloc, folder, "b", 0)?.as_str())?;
     push_last_calls(alloc, folder, &mut text)?;
     Ok(text)
 }
@@ -125,15 +148,13 @@ fn list<F: Folder>(alloc: Global, folder: &mut F) -> Result<(), FolderFault> {
     Ok(())
 }
 
-/// Adds what a read and a save answer to a text, and how many calls failed.
+/// Adds what a save answers to a text, and how many calls failed.
 fn push_last_calls<F: Folder>(
     alloc: Global,
     folder: &mut F,
     text: &mut String,
 ) -> Result<(), AllocError> {
-    text.push_str(read_text(alloc, folder, "b", 0)?.as_str())?;
-    let changes = changes(alloc, &[("b", "1"), ("c", "2")])?;
-    let saved = folder.save(changes.as_slice());
+    let saved = save(alloc, folder, &[("b", "1"), ("c", "2")])?;
     folder.end();
     let failures = folder.failures();
     write!(text, ", {saved:?}, {failures} failed")
@@ -141,10 +162,21 @@ fn push_last_calls<F: Folder>(
 
 /// What the files `a`, `b` and `c` hold, as text.
 fn three_text<F: Folder>(alloc: Global, folder: &mut F) -> Result<String, AllocError> {
-    let first = read_text(alloc, folder, "a", 3)?;
-    let second = read_text(alloc, folder, "b", 3)?;
-    let third = read_text(alloc, folder, "c", 3)?;
-    format!(in alloc; "{first} {second} {third}")
+    let mut text = read_text(alloc, folder, "a", 3)?;
+    push_held(alloc, folder, "b", &mut text)?;
+    push_held(alloc, folder, "c", &mut text)?;
+    Ok(text)
+}
+
+/// Adds what a file holds to a text, behind a space.
+fn push_held<F: Folder>(
+    alloc: Global,
+    folder: &mut F,
+    name: &str,
+    text: &mut String,
+) -> Result<(), AllocError> {
+    let held = read_text(alloc, folder, name, 3)?;
+    write!(text, " {held}")
 }
 
 /// Fails where the calls of a folder answer otherwise than wanted, or its files hold something else then.
@@ -200,13 +232,30 @@ static FAILURES: [(u64, &str, &str); 7] = [
     ),
 ];
 
-#[test]
-fn each_call_can_fail_once(rt: HostRuntime) -> Result<(), Fail> {
-    for &(number, calls, held) in &FAILURES {
-        let folder = FailingFolder::new(NotedFolder::new(two_files(rt.alloc())?), number);
-        expect_failing(rt.alloc(), folder, calls, held)?;
+/// A folder with those two files, of which the call with a number fails, and is done all the same or not.
+fn failing(
+    alloc: Global,
+    number: u64,
+    is_done: bool,
+) -> Result<FailingFolder<NotedFolder>, FolderFault> {
+    let folder = NotedFolder::new(two_files(alloc)?);
+    match is_done {
+        false => Ok(FailingFolder::new(folder, number)),
+        true => Ok(FailingFolder::written(folder, number)),
+    }
+}
+
+/// Fails where a row of a table does not hold, whose call fails and is done all the same or not.
+fn expect_rows(alloc: Global, is_done: bool, table: &[(u64, &str, &str)]) -> Result<(), Fail> {
+    for &(number, calls, held) in table {
+        expect_failing(alloc, failing(alloc, number, is_done)?, calls, held)?;
     }
     Ok(())
+}
+
+#[test]
+fn each_call_can_fail_once(rt: HostRuntime) -> Result<(), Fail> {
+    expect_rows(rt.alloc(), false, &FAILURES)
 }
 
 /// The same where the call that fails is done all the same.
@@ -225,24 +274,5 @@ static DONE: [(u64, &str, &str); 2] = [
 
 #[test]
 fn a_call_that_fails_can_be_done(rt: HostRuntime) -> Result<(), Fail> {
-    for &(number, calls, held) in &DONE {
-        let folder = FailingFolder::written(NotedFolder::new(two_files(rt.alloc())?), number);
-        expect_failing(rt.alloc(), folder, calls, held)?;
-    }
-    Ok(())
-}
-
-#[test]
-fn a_missing_folder_is_a_device_fault(rt: HostRuntime) -> Result<(), Fail> {
-    let text = real_calls_text(&rt, "/no/such/folder")?;
-    expect_text(
-        text,
-        "Err(Device), Err(Device), Err(Device), Device, Err(Device), 5 failed",
-    )
-}
-
-/// What the calls of the folder at a path answer, as text.
-fn real_calls_text(rt: &HostRuntime, path: &str) -> Result<String, AllocError> {
-    let mut folder = RealFolder::new(rt, String::from_str(rt.alloc(), path)?, 7);
-    calls_text(rt.alloc(), &mut folder)
+    expect_rows(rt.alloc(), true, &DONE)
 }

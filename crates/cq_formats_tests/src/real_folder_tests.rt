@@ -1,14 +1,13 @@
 //! Folders of the system, and what is left in them by commands that were cut short.
-use crate::folder_tests::changes;
-use cq_fixtures::{expect, expect_text, push_missed};
+use crate::folder_tests::{in_order, names_text, save};
+use cq_fixtures::{expect_text, push_missed};
 use cq_folder::{Access, Folder};
 use cq_real_folder::RealFolder;
 use std::alloc::{AllocError, Global};
 use std::fmt::Debug;
-use std::fs::{self, File};
 use std::rt::Files;
 use std::test::Fail;
-use std::{env, process};
+use std::{env, fs, process};
 
 /// What is done to a folder at a path.
 #[derive(Clone, Copy)]
@@ -19,6 +18,10 @@ enum Step {
     Link(&'static str, &'static str),
     /// Makes a folder.
     Make(&'static str),
+    /// Lets a file be read alone.
+    Lock(&'static str),
+    /// Says whether a file may be read alone.
+    IsLocked(&'static str),
     /// Puts so many empty files with long names.
     Many(usize),
     /// Says how many names there are.
@@ -37,6 +40,8 @@ enum Step {
     Read(&'static str),
     /// Says which files the system lists, in their order.
     Listed,
+    /// Says how many calls have failed.
+    Failures,
 }
 
 /// Takes the steps in a new folder of the system in turn, and fails where one says something else than stands beside
@@ -47,10 +52,7 @@ fn expect_steps(
     steps: &'static [(Step, &'static str)],
 ) -> Result<(), Fail> {
     let path = temporary_path(rt, name)?;
-    fs::create_dir(rt, path.as_str())?;
-    let missed = missed(rt, path.as_str(), steps)?;
-    fs::remove_dir_all(rt, path.as_str())?;
-    expect_text(missed, "")
+    expect_text(missed_in_new(rt, path.as_str(), steps)?, "")
 }
 
 /// A path within the folder for temporary files.
@@ -60,33 +62,76 @@ fn temporary_path(rt: &HostRuntime, name: &str) -> Result<String, Fail> {
     Ok(format!(in rt.alloc(); "{}/cq_{name}_{id}", within.display())?)
 }
 
-/// What is said by steps in the folder at a path where something else stands beside them, with their places.
-fn missed<R>(rt: &R, path: &str, steps: &'static [(Step, &'static str)]) -> Result<String, Fail>
+/// What is said by steps in a new folder at a path where something else stands beside them, with their places.
+fn missed_in_new(
+    rt: &HostRuntime,
+    path: &str,
+    steps: &'static [(Step, &'static str)],
+) -> Result<String, Fail> {
+    fs::create_dir(rt, path)?;
+    let missed = missed(rt, path, steps)?;
+    fs::remove_dir_all(rt, path)?;
+    Ok(missed)
+}
+
+/// The same in the folder at a path, which is there or not.
+fn missed(
+    rt: &HostRuntime,
+    path: &str,
+    steps: &'static [(Step, &'static str)],
+) -> Result<String, Fail> {
+    let mut folder = RealFolder::new(rt, String::from_str(rt.alloc(), path)?, 7);
+    missed_by(rt, path, &mut folder, steps)
+}
+
+/// The same of a folder that is the one at a path.
+fn missed_by<R, F>(
+    rt: &R,
+    path: &str,
+    folder: &mut F,
+    steps: &[(Step, &str)],
+) -> Result<String, Fail>
 where
-    R: Files<File = File> + AllocGlobal + Clone + Drop,
+    R: Files + AllocGlobal + Clone + Drop,
+    F: Folder,
 {
-    let alloc = rt.alloc();
-    let mut folder = RealFolder::new(rt, String::from_str(alloc, path)?, 7);
-    let mut text = String::new(alloc);
-    for (place, (step, want)) in steps.iter().enumerate() {
-        let said = said_beside(rt, path, &mut folder, step, want)?;
-        push_missed(alloc, &mut text, place, said.as_str(), want)?;
-    }
+    let mut text = String::new(rt.alloc());
+    push_missed_steps(rt, path, folder, steps, &mut text)?;
     Ok(text)
+}
+
+/// Adds what is said by steps where something else stands beside them to a text, with their places.
+fn push_missed_steps<R, F>(
+    rt: &R,
+    path: &str,
+    folder: &mut F,
+    steps: &[(Step, &str)],
+    text: &mut String,
+) -> Result<(), Fail>
+where
+    R: Files + AllocGlobal + Clone + Drop,
+    F: Folder,
+{
+    for (place, (step, want)) in steps.iter().enumerate() {
+        let said = said_beside(rt, path, folder, step, want)?;
+        push_missed(rt.alloc(), text, place, said.as_str(), want)?;
+    }
+    Ok(())
 }
 
 /// Takes a step in the folder at a path, and gives what is said. Where that is not what is wanted, says behind it whether
 /// it was put off: a save that finds no memory behind its record, or for removing what it gives up, tells nobody, and leaves
 /// that to the next command that is alone.
-fn said_beside<R>(
+fn said_beside<R, F>(
     rt: &R,
     path: &str,
-    folder: &mut RealFolder<'_, R>,
+    folder: &mut F,
     step: &Step,
     want: &str,
 ) -> Result<String, Fail>
 where
-    R: Files<File = File> + AllocGlobal + Clone + Drop,
+    R: Files + AllocGlobal + Clone + Drop,
+    F: Folder,
 {
     let said = said_at(rt, path, folder, step)?;
     if said.as_str() == want || !is_put_off(rt, path, folder, step, want)? {
@@ -96,15 +141,16 @@ where
 }
 
 /// Whether what is wanted is said at a step in the folder at a path once a command has come in alone.
-fn is_put_off<R>(
+fn is_put_off<R, F>(
     rt: &R,
     path: &str,
-    folder: &mut RealFolder<'_, R>,
+    folder: &mut F,
     step: &Step,
     want: &str,
 ) -> Result<bool, Fail>
 where
-    R: Files<File = File> + AllocGlobal + Clone + Drop,
+    R: Files + AllocGlobal + Clone + Drop,
+    F: Folder,
 {
     if folder.begin(rt.alloc(), Access::Alone).is_err() {
         return Ok(false);
@@ -114,21 +160,20 @@ where
 }
 
 /// Takes a step in the folder at a path, and gives what is said.
-fn said_at<R>(
-    rt: &R,
-    path: &str,
-    folder: &mut RealFolder<'_, R>,
-    step: &Step,
-) -> Result<String, Fail>
+fn said_at<R, F>(rt: &R, path: &str, folder: &mut F, step: &Step) -> Result<String, Fail>
 where
-    R: Files<File = File> + AllocGlobal + Clone + Drop,
+    R: Files + AllocGlobal + Clone + Drop,
+    F: Folder,
 {
     let alloc = rt.alloc();
     match *step {
         Step::Put(name, text) => put(rt, path, name, text),
         Step::Link(name, to) => link(rt, path, name, to),
         Step::Make(name) => make(rt, path, name),
+        Step::Lock(name) => lock(rt, path, name),
+        Step::IsLocked(name) => is_locked(rt, path, name),
         Step::Many(count) => put_many(rt, path, count),
+        Step::Listed => listed(rt, path),
         Step::Count => counted(alloc, folder),
         Step::Begin(access) => answer(alloc, folder.begin(alloc, access)),
         Step::End => ended(alloc, folder),
@@ -136,7 +181,7 @@ where
         Step::Write(name, text) => answer(alloc, folder.write(name, text.as_bytes())),
         Step::Names => named(alloc, folder),
         Step::Read(name) => text_of(alloc, folder, name),
-        Step::Listed => listed(rt, path),
+        Step::Failures => failed(alloc, folder),
     }
 }
 
@@ -168,21 +213,41 @@ fn make<R: Files + AllocGlobal>(rt: &R, path: &str, name: &str) -> Result<String
     Ok(String::new(rt.alloc()))
 }
 
+/// Lets a file be read alone.
+fn lock<R: Files + AllocGlobal>(rt: &R, path: &str, name: &str) -> Result<String, Fail> {
+    make_unwritable(rt, within(rt.alloc(), path, name)?.as_str())?;
+    Ok(String::new(rt.alloc()))
+}
+
+/// Lets the file at a path be read alone.
+fn make_unwritable<R: Files>(rt: &R, path: &str) -> Result<(), Fail> {
+    let mut permissions = fs::metadata(rt, path)?.permissions();
+    permissions.set_readonly(true);
+    Ok(rt.set_permissions(path, permissions)?)
+}
+
+/// Whether a file may be read alone, as text.
+fn is_locked<R: Files + AllocGlobal>(rt: &R, path: &str, name: &str) -> Result<String, Fail> {
+    let file = within(rt.alloc(), path, name)?;
+    let is_locked = fs::metadata(rt, file.as_str())?.permissions().readonly();
+    Ok(format!(in rt.alloc(); "{is_locked}")?)
+}
+
 fn put_many<R: Files + AllocGlobal>(rt: &R, path: &str, count: usize) -> Result<String, Fail> {
     for number in 0..count {
-        put(
-            rt,
-            path,
-            format!(in rt.alloc(); "{number:0>250}")?.as_str(),
-            "",
-        )?;
+        put_long(rt, path, number)?;
     }
     Ok(String::new(rt.alloc()))
 }
 
+/// Puts an empty file with a long name.
+fn put_long<R: Files + AllocGlobal>(rt: &R, path: &str, number: usize) -> Result<String, Fail> {
+    let name = format!(in rt.alloc(); "{number:0>250}")?;
+    put(rt, path, name.as_str(), "")
+}
+
 fn saved<F: Folder>(alloc: Global, folder: &mut F, files: &[(&str, &str)]) -> Result<String, Fail> {
-    let changes = changes(alloc, files)?;
-    answer(alloc, folder.save(changes.as_slice()))
+    answer(alloc, save(alloc, folder, files)?)
 }
 
 fn counted<F: Folder>(alloc: Global, folder: &mut F) -> Result<String, Fail> {
@@ -195,7 +260,11 @@ fn ended<F: Folder>(alloc: Global, folder: &mut F) -> Result<String, Fail> {
 }
 
 fn named<F: Folder>(alloc: Global, folder: &mut F) -> Result<String, Fail> {
-    Ok(in_order(alloc, folder.names(alloc)?)?)
+    Ok(names_text(alloc, folder)?)
+}
+
+fn failed<F: Folder>(alloc: Global, folder: &mut F) -> Result<String, Fail> {
+    Ok(format!(in alloc; "{}", folder.failures())?)
 }
 
 /// The text of a file, or the fault of its read.
@@ -204,18 +273,6 @@ fn text_of<F: Folder>(alloc: Global, folder: &mut F, name: &str) -> Result<Strin
         Ok(bytes) => Ok(String::from_utf8_lossy(alloc, bytes.as_slice())?),
         Err(fault) => Ok(format!(in alloc; "{fault:?}")?),
     }
-}
-
-/// Names in their order, with a space behind each.
-fn in_order(alloc: Global, names: Vec<String>) -> Result<String, AllocError> {
-    let mut names = names;
-    names.sort()?;
-    let mut text = String::new(alloc);
-    for name in &names {
-        text.push_str(name.as_str())?;
-        text.push(' ')?;
-    }
-    Ok(text)
 }
 
 /// The names that the system lists.
@@ -231,9 +288,14 @@ where
     R: Files + AllocGlobal + Clone + Drop,
 {
     for entry in fs::read_dir(rt, path)? {
-        names.push(String::from_str(rt.alloc(), entry?.file_name())?)?;
+        push_name(rt.alloc(), entry?.file_name(), names)?;
     }
     Ok(())
+}
+
+/// Adds a name to others.
+fn push_name(alloc: Global, name: &str, names: &mut Vec<String>) -> Result<(), AllocError> {
+    Ok(names.push(String::from_str(alloc, name)?)?)
 }
 
 /// A write replaces a file, and what an older write of this process left.
@@ -370,39 +432,30 @@ fn links_are_not_followed(rt: HostRuntime) -> Result<(), Fail> {
 }
 
 /// What a queue's files may be read and written by stays.
+static MODE: [(Step, &str); 4] = [
+    (Step::Put("1.cqi", "old"), ""),
+    (Step::Lock("1.cqi"), ""),
+    (Step::Write("1.cqi", "new"), ""),
+    (Step::IsLocked("1.cqi"), "true"),
+];
+
 #[test]
 fn a_file_keeps_its_mode(rt: HostRuntime) -> Result<(), Fail> {
-    let path = temporary_path(&rt, "mode")?;
-    fs::create_dir(&rt, path.as_str())?;
-    let kept = keeps_mode(&rt, path.as_str())?;
-    fs::remove_dir_all(&rt, path.as_str())?;
-    expect(kept, "the mode is the same")
+    expect_steps(&rt, "mode", &MODE)
 }
 
-/// Whether a file in the folder at a path that may only be read keeps its mode where it is replaced.
-fn keeps_mode<R>(rt: &R, path: &str) -> Result<bool, Fail>
-where
-    R: Files<File = File> + AllocGlobal + Clone + Drop,
-{
-    let file = within(rt.alloc(), path, "1.cqi")?;
-    fs::write(rt, file.as_str(), "old")?;
-    make_unwritable(rt, file.as_str())?;
-    replace(rt, path)?;
-    Ok(fs::metadata(rt, file.as_str())?.permissions().readonly())
-}
+/// Each call of a folder that is not there is a fault, but for that which ends a command.
+static MISSING: [(Step, &str); 7] = [
+    (Step::Begin(Access::Alone), "Device"),
+    (Step::Names, "Device"),
+    (Step::Write("a", "new"), "Device"),
+    (Step::Read("b"), "Device"),
+    (Step::Save(&[("b", "1"), ("c", "2")]), "Device"),
+    (Step::End, ""),
+    (Step::Failures, "5"),
+];
 
-/// Lets the file at a path be read alone.
-fn make_unwritable<R: Files + AllocGlobal>(rt: &R, path: &str) -> Result<(), Fail> {
-    let mut permissions = fs::metadata(rt, path)?.permissions();
-    permissions.set_readonly(true);
-    Ok(rt.set_permissions(path, permissions)?)
-}
-
-/// Replaces a file in the folder at a path.
-fn replace<R>(rt: &R, path: &str) -> Result<(), Fail>
-where
-    R: Files<File = File> + AllocGlobal + Clone + Drop,
-{
-    let mut folder = RealFolder::new(rt, String::from_str(rt.alloc(), path)?, 7);
-    Ok(folder.write("1.cqi", b"new".as_slice())?)
+#[test]
+fn a_missing_folder_is_a_device_fault(rt: HostRuntime) -> Result<(), Fail> {
+    expect_text(missed(&rt, "/no/such/folder", &MISSING)?, "")
 }
