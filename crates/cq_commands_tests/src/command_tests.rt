@@ -1,10 +1,12 @@
 //! What the commands do and print.
-use crate::steps::{DAY, Step, expect, push_said, said_by};
+use crate::steps::{DAY, Step, expect, said_at, said_by};
 use crate::streams::said;
-use cq_commands::{InitSettings, Order, run};
+use crate::word_tests::words_of;
+use cq_command_line::parse;
+use cq_commands::{Order, run};
 use cq_fixtures::expect_text;
-use cq_folder::{Folder, MemoryFolder};
-use std::alloc::{AllocError, Global};
+use cq_folder::{Folder, FolderFault, MemoryFolder};
+use std::alloc::Global;
 use std::test::Fail;
 
 static KEPT: [(Step, &str); 11] = [
@@ -160,92 +162,17 @@ fn dumps_records(rt: HostRuntime) -> Result<(), Fail> {
     expect(rt.alloc(), &DUMPED)
 }
 
-/// An order, as far as it says more than that it is for a folder.
-#[derive(Clone, Copy)]
-enum Asked {
-    Echo,
-    Cycle(u64),
-    Init(u64),
-    Write(u64),
-    Read(bool, Option<&'static str>),
-    Take(&'static str),
-    Drop(u64),
-    Check,
-    Dump(&'static str),
-    Salvage(&'static str),
-    Migrate,
-}
-
-/// The order, for a folder without a name.
-fn order_of(alloc: Global, asked: Asked) -> Result<Order, AllocError> {
-    Ok(match asked {
-        Asked::Echo => Order::Echo,
-        Asked::Cycle(moment) => Order::Cycle {
-            roll: String::from_str(alloc, "daily")?,
-            epoch: 0,
-            moment,
-        },
-        Asked::Init(cycles) => init_order(alloc, cycles)?,
-        Asked::Write(moment) => Order::Write {
-            folder: String::new(alloc),
-            moment,
-        },
-        Asked::Read(back, from) => read_order(alloc, back, from)?,
-        Asked::Take(name) => Order::Take {
-            name: String::from_str(alloc, name)?,
-            folder: String::new(alloc),
-        },
-        Asked::Drop(cycle) => Order::DropBefore {
-            folder: String::new(alloc),
-            cycle,
-        },
-        Asked::Check => Order::Check {
-            folder: String::new(alloc),
-        },
-        Asked::Dump(file) => Order::Dump {
-            file: String::from_str(alloc, file)?,
-            folder: String::new(alloc),
-        },
-        Asked::Salvage(file) => Order::Salvage {
-            file: String::from_str(alloc, file)?,
-            folder: String::new(alloc),
-        },
-        Asked::Migrate => Order::Migrate {
-            folder: String::new(alloc),
-        },
-    })
-}
-
-fn init_order(alloc: Global, cycles: u64) -> Result<Order, AllocError> {
-    let roll = String::from_str(alloc, "daily")?;
-    Ok(Order::Init {
-        folder: String::new(alloc),
-        settings: InitSettings {
-            roll,
-            epoch: 0,
-            cells: 64,
-            index_count: 8,
-            index_spacing: 1,
-            cycles,
-            names: Vec::new(alloc),
-        },
-    })
-}
-
-fn read_order(alloc: Global, back: bool, from: Option<&str>) -> Result<Order, AllocError> {
-    let from = match from {
-        None => None,
-        Some(word) => Some(String::from_str(alloc, word)?),
-    };
-    Ok(Order::Read {
-        folder: String::new(alloc),
-        back,
-        from,
-    })
+/// The order that the words of a line are.
+fn order_of(alloc: Global, line: &str) -> Result<Order, Fail> {
+    let words = words_of(alloc, line)?;
+    match parse(alloc, words.as_slice()) {
+        Ok(order) => Ok(order),
+        Err(_) => Err(Fail::new("no order")),
+    }
 }
 
 /// What an order writes over a folder, with the input "hello".
-fn ran<F: Folder>(alloc: Global, folder: &mut F, order: &Order) -> Result<String, Fail> {
+fn ran<F: Folder>(alloc: Global, folder: &mut F, order: &Order) -> Result<String, FolderFault> {
     let mut output = Vec::new(alloc);
     let mut rest: &[u8] = b"hello\n";
     let done = match order {
@@ -260,87 +187,86 @@ fn ran_and_checked<F: Folder>(
     alloc: Global,
     folder: &mut F,
     order: &Order,
-) -> Result<String, Fail> {
-    let mut text = ran(alloc, folder, order)?;
-    text.push_str("|")?;
-    push_said(alloc, folder, &[Step::Check], &mut text)?;
-    Ok(text)
+) -> Result<String, FolderFault> {
+    let ran = ran(alloc, folder, order)?;
+    let checked = said_at(alloc, folder, &Step::Check)?;
+    Ok(format!(in alloc; "{ran}|{checked}")?)
 }
 
 /// What an order writes behind these steps, and what `check` says then.
-fn ran_behind(alloc: Global, before: &[Step], order: &Order) -> Result<String, Fail> {
+fn ran_behind(alloc: Global, before: &[Step], order: &Order) -> Result<String, FolderFault> {
     let mut folder = MemoryFolder::new(alloc);
     said_by(alloc, &mut folder, before)?;
     ran_and_checked(alloc, &mut folder, order)
 }
 
-/// The same of an order that is asked for.
-fn ran_asked(alloc: Global, before: &[Step], asked: Asked) -> Result<String, Fail> {
-    let order = order_of(alloc, asked)?;
-    ran_behind(alloc, before, &order)
+/// The same of the order that the words of a line are.
+fn line_ran(alloc: Global, before: &[Step], line: &str) -> Result<String, Fail> {
+    let order = order_of(alloc, line)?;
+    Ok(ran_behind(alloc, before, &order)?)
 }
 
 /// A queue with "hello" in cycle 1.
 const HELLO: &[Step] = &[Step::Queue(4), Step::Write(DAY, b"hello\n")];
 
-static ORDERS: [(&[Step], Asked, &str); 13] = [
-    (&[], Asked::Echo, "0 hello\n|cq: no queue here"),
+static ORDERS: [(&[Step], &str, &str); 13] = [
+    (&[], "cq|echo", "0 hello\n|cq: no queue here"),
     (
         &[],
-        Asked::Cycle(DAY),
+        "cq|cycle|daily|0|86400000",
         "1 19700102 0000000100000000\n|cq: no queue here",
     ),
-    (&[], Asked::Init(4), "|"),
+    (&[], "cq|init|q|daily|0|64|8|1|4", "|"),
     (
         &[Step::Queue(4)],
-        Asked::Write(DAY),
+        "cq|write|q|86400000",
         "0000000100000000\n|19700102.cqi: 1 messages, open\n",
     ),
     (
         HELLO,
-        Asked::Read(false, None),
+        "cq|read|q",
         "0000000100000000 hello\n|19700102.cqi: 1 messages, open\n",
     ),
     (
         HELLO,
-        Asked::Read(true, Some("0000000100000000")),
+        "cq|read|q|--back|--from|0000000100000000",
         "|19700102.cqi: 1 messages, open\n",
     ),
     (
         HELLO,
-        Asked::Take("reader"),
+        "cq|take|q|reader",
         "0000000100000000 hello\n|19700102.cqi: 1 messages, open\n",
     ),
+    (HELLO, "cq|drop|q|1", "1\n|19700102.cqi: 1 messages, open\n"),
     (
         HELLO,
-        Asked::Drop(1),
-        "1\n|19700102.cqi: 1 messages, open\n",
-    ),
-    (
-        HELLO,
-        Asked::Check,
+        "cq|check|q",
         "19700102.cqi: 1 messages, open\n|19700102.cqi: 1 messages, open\n",
     ),
     (
         HELLO,
-        Asked::Dump("19700102.cqi"),
+        "cq|dump|q|19700102.cqi",
         "00000000 40000024 store 2 1 8 1 64 0 86400000\n00000028 40000020 top 76 0 0 0 0 0 0 0\n\
 0000004c 40000020 table 0 112 0 0 0 0 0 0 0\n00000070 00000005 data 0 68656c6c6f\n|\
 19700102.cqi: 1 messages, open\n",
     ),
     (
         HELLO,
-        Asked::Salvage("19700102.cqi"),
+        "cq|salvage|q|19700102.cqi",
         "0 hello\nwhole\n|19700102.cqi: 1 messages, open\n",
     ),
-    (&[Step::OldQueue(4)], Asked::Write(DAY), "cq: OldVersion|"),
-    (HELLO, Asked::Migrate, "|19700102.cqi: 1 messages, open\n"),
+    (
+        &[Step::OldQueue(4)],
+        "cq|write|q|86400000",
+        "cq: OldVersion|",
+    ),
+    (HELLO, "cq|migrate|q", "|19700102.cqi: 1 messages, open\n"),
 ];
 
 #[test]
 fn runs_orders(rt: HostRuntime) -> Result<(), Fail> {
-    for &(before, asked, want) in &ORDERS {
-        expect_text(ran_asked(rt.alloc(), before, asked)?, want)?;
+    for &(before, line, want) in &ORDERS {
+        expect_text(line_ran(rt.alloc(), before, line)?, want)?;
     }
     Ok(())
 }

@@ -3,7 +3,7 @@ use crate::streams::said;
 use cq_commands::{ToolFault, cycle, echo};
 use cq_fixtures::expect_text;
 use cq_model::Refusal;
-use std::alloc::Global;
+use std::alloc::{AllocError, Global};
 use std::io;
 use std::io::{ErrorKind, Read, Write};
 use std::test::Fail;
@@ -17,20 +17,29 @@ fn expect_bytes(said: Vec<u8>, want: &[u8]) -> Result<(), Fail> {
     Err(Fail::new(format_args!("{said:?} in place of {want:?}")))
 }
 
-/// Adds how many lines `echo` gives to what it wrote, or the text of its fault.
-fn told(mut output: Vec<u8>, done: Result<u64, ToolFault>) -> Result<Vec<u8>, Fail> {
+/// How many lines `echo` gives or the text of its fault.
+fn done_text(alloc: Global, done: Result<u64, ToolFault>) -> Result<String, AllocError> {
     match done {
-        Ok(count) => write!(output, "{count} lines")?,
-        Err(fault) => write!(output, "{fault}")?,
+        Ok(count) => format!(in alloc; "{count} lines"),
+        Err(fault) => format!(in alloc; "{fault}"),
     }
+}
+
+/// Adds how many lines `echo` gives or the text of its fault to what it wrote.
+fn told(
+    alloc: Global,
+    mut output: Vec<u8>,
+    done: Result<u64, ToolFault>,
+) -> Result<Vec<u8>, AllocError> {
+    output.extend_from_slice(done_text(alloc, done)?.as_bytes())?;
     Ok(output)
 }
 
 /// What `echo` writes, and behind it how many lines it gives or the text of its fault.
-fn echoed<R: Read>(alloc: Global, input: &mut R) -> Result<Vec<u8>, Fail> {
+fn echoed<R: Read>(alloc: Global, input: &mut R) -> Result<Vec<u8>, AllocError> {
     let mut output = Vec::new(alloc);
     let done = echo(alloc, input, &mut output);
-    told(output, done)
+    told(alloc, output, done)
 }
 
 static ECHOED: [(&[u8], &[u8]); 8] = [
@@ -54,40 +63,39 @@ fn echoes_lines(rt: HostRuntime) -> Result<(), Fail> {
 }
 
 /// So many lines of so many bytes, and more.
-fn lines_of(alloc: Global, lines: usize, bytes: usize, more: &str) -> Result<Vec<u8>, Fail> {
+fn lines_of(alloc: Global, lines: usize, bytes: usize, more: &str) -> Result<Vec<u8>, AllocError> {
     let mut text = Vec::new(alloc);
     for _ in 0..lines {
-        for _ in 0..bytes {
-            text.push(b'x')?;
-        }
-        text.push(b'\n')?;
+        push_line(&mut text, bytes)?;
     }
     text.extend_from_slice(more.as_bytes())?;
     Ok(text)
 }
 
-/// How many lines `echo` gives or the text of its fault, and whether it wrote any, as text.
-fn counted_text(
-    alloc: Global,
-    done: Result<u64, ToolFault>,
-    is_silent: bool,
-) -> Result<String, Fail> {
-    match done {
-        Ok(count) => Ok(format!(in alloc; "{count} lines, silent: {is_silent}")?),
-        Err(fault) => Ok(format!(in alloc; "{fault}, silent: {is_silent}")?),
+/// Adds a line of so many bytes to a text.
+fn push_line(text: &mut Vec<u8>, bytes: usize) -> Result<(), AllocError> {
+    for _ in 0..bytes {
+        text.push(b'x')?;
     }
+    Ok(text.push(b'\n')?)
 }
 
 /// How many lines `echo` gives of an input or the text of its fault, and whether it wrote any.
-fn counted(alloc: Global, input: &[u8]) -> Result<String, Fail> {
+fn counted(alloc: Global, input: &[u8]) -> Result<String, AllocError> {
     let mut output = Vec::new(alloc);
     let mut rest = input;
     let done = echo(alloc, &mut rest, &mut output);
-    counted_text(alloc, done, output.is_empty())
+    let text = done_text(alloc, done)?;
+    format!(in alloc; "{text}, silent: {}", output.is_empty())
 }
 
 /// The same of so many lines of so many bytes, and more.
-fn counted_lines(alloc: Global, lines: usize, bytes: usize, more: &str) -> Result<String, Fail> {
+fn counted_lines(
+    alloc: Global,
+    lines: usize,
+    bytes: usize,
+    more: &str,
+) -> Result<String, AllocError> {
     let input = lines_of(alloc, lines, bytes, more)?;
     counted(alloc, input.as_slice())
 }
@@ -191,7 +199,7 @@ impl Write for Writer {
 }
 
 /// What a writer with so much room takes of "a" and "b", and behind it how many lines `echo` gives or the text of its fault.
-fn echoed_into(alloc: Global, room: usize, refuses_flush: bool) -> Result<Vec<u8>, Fail> {
+fn echoed_into(alloc: Global, room: usize, refuses_flush: bool) -> Result<Vec<u8>, AllocError> {
     let mut output = Writer {
         room,
         refuses_flush,
@@ -199,7 +207,7 @@ fn echoed_into(alloc: Global, room: usize, refuses_flush: bool) -> Result<Vec<u8
     };
     let mut input: &[u8] = b"a\nb\n";
     let done = echo(alloc, &mut input, &mut output);
-    told(output.taken, done)
+    told(alloc, output.taken, done)
 }
 
 static ROOMS: [(usize, bool, &[u8]); 4] = [
@@ -250,7 +258,7 @@ fn prints_faults(rt: HostRuntime) -> Result<(), Fail> {
 fn cycle_said(alloc: Global, roll: &str, epoch: u64, moment: u64) -> Result<String, Fail> {
     let mut output = Vec::new(alloc);
     let done = cycle(alloc, roll, epoch, moment, &mut output);
-    said(alloc, done, &output)
+    Ok(said(alloc, done, &output)?)
 }
 
 static CYCLES: [(&str, u64, u64, &str); 10] = [
@@ -298,7 +306,7 @@ fn cycle_said_into(alloc: Global, room: usize) -> Result<String, Fail> {
         taken: Vec::new(alloc),
     };
     let done = cycle(alloc, "daily", 0, 0, &mut output);
-    said(alloc, done, &output.taken)
+    Ok(said(alloc, done, &output.taken)?)
 }
 
 #[test]

@@ -3,7 +3,7 @@ use crate::falling::FallingFolder;
 use crate::images::{A, HELLO};
 use crate::steps::{DAY, Step, expect_each, said_by};
 use cq_fixtures::expect_text;
-use cq_folder::Folder;
+use cq_folder::{Folder, FolderFault};
 use std::alloc::Global;
 use std::test::Fail;
 
@@ -21,16 +21,20 @@ fn expect_in_any_order(
 }
 
 /// What all these steps say over a new folder that lists its names in falling order, one behind the other.
-fn said_falling(alloc: Global, steps: &[Step]) -> Result<String, Fail> {
+fn said_falling(alloc: Global, steps: &[Step]) -> Result<String, FolderFault> {
     let mut folder = FallingFolder::new(alloc);
     said_by(alloc, &mut folder, steps)
 }
 
-/// The names that a folder lists when three files were put into it, as text.
-fn three_names<F: Folder>(alloc: Global, folder: &mut F) -> Result<String, Fail> {
-    for name in ["b", "c", "a"] {
-        folder.write(name, b"")?;
-    }
+static THREE_FILES: [Step; 3] = [
+    Step::Put("b", b""),
+    Step::Put("c", b""),
+    Step::Put("a", b""),
+];
+
+/// The names that a folder lists when those three files were put into it, as text.
+fn three_names<F: Folder>(alloc: Global, folder: &mut F) -> Result<String, FolderFault> {
+    said_by(alloc, folder, &THREE_FILES)?;
     let names = folder.names(alloc)?;
     Ok(format!(in alloc; "{:?}", names.as_slice())?)
 }

@@ -1,8 +1,5 @@
 //! Limits of queues, of the input and of files.
-use crate::steps::{DAY, MOST_BYTES, Step, expect, expect_each, push_said, said_at};
-use cq_fixtures::expect_text;
-use cq_folder::{Folder, MemoryFolder};
-use std::alloc::Global;
+use crate::steps::{DAY, MOST_BYTES, Step, expect, expect_each};
 use std::test::Fail;
 
 static FILLED: [(Step, &str); 6] = [
@@ -27,35 +24,17 @@ fn a_cycle_takes_what_fits(rt: HostRuntime) -> Result<(), Fail> {
     expect(rt.alloc(), &FILLED)
 }
 
-/// Whether the first line of each of 64 days has the index 0 of that day.
-fn begins_64_cycles<F: Folder>(alloc: Global, folder: &mut F) -> Result<bool, Fail> {
-    for day in 0..64 {
-        let said = said_at(alloc, folder, &Step::Write(day * DAY, b"a\n"))?;
-        let index = format!(in alloc; "{day:08x}00000000\n")?;
-        if said.as_str() != index.as_str() {
-            return Ok(false);
-        }
-    }
-    Ok(true)
-}
-
-/// What is said over a folder of one more day in a queue of 64 cycles, and of one more line in its last one.
-fn said_behind_64_cycles<F: Folder>(alloc: Global, folder: &mut F) -> Result<String, Fail> {
-    said_at(alloc, folder, &Step::Queue(64))?;
-    let mut text = format!(in alloc; "{} ", begins_64_cycles(alloc, folder)?)?;
-    push_said(alloc, folder, &[Step::Write(64 * DAY, b"a\n")], &mut text)?;
-    text.push_str(" ")?;
-    push_said(alloc, folder, &[Step::Write(0, b"b\n")], &mut text)?;
-    Ok(text)
-}
+/// A line on each of 64 days, one more day, and one more line on the last of the 64.
+static DAYS: [(Step, &str); 4] = [
+    (Step::Queue(64), ""),
+    (Step::WriteDays(64), ""),
+    (Step::Write(64 * DAY, b"a\n"), "cq: line 1: NoCycleLeft"),
+    (Step::Write(0, b"b\n"), "0000003f00000001\n"),
+];
 
 #[test]
 fn a_queue_has_at_most_64_cycles(rt: HostRuntime) -> Result<(), Fail> {
-    let mut folder = MemoryFolder::new(rt.alloc());
-    expect_text(
-        said_behind_64_cycles(rt.alloc(), &mut folder)?,
-        "true cq: line 1: NoCycleLeft 0000003f00000001\n",
-    )
+    expect(rt.alloc(), &DAYS)
 }
 
 static NAMES: [(&[Step], &str); 4] = [

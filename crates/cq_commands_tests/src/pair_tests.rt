@@ -2,7 +2,7 @@
 use crate::falling::FallingFolder;
 use crate::steps::{DAY, MOST_BYTES, Step, Unprinted, said_at, said_by};
 use cq_fixtures::{expect_text, push_missed};
-use cq_folder::FailingFolder;
+use cq_folder::{FailingFolder, FolderFault};
 use std::alloc::Global;
 use std::test::Fail;
 
@@ -19,7 +19,7 @@ struct Pair {
 }
 
 /// What the step says.
-fn said_of(alloc: Global, pair: &Pair) -> Result<String, Fail> {
+fn said_of(alloc: Global, pair: &Pair) -> Result<String, FolderFault> {
     let mut folder = FallingFolder::new(alloc);
     said_by(alloc, &mut folder, pair.before)?;
     said_at(
@@ -30,7 +30,11 @@ fn said_of(alloc: Global, pair: &Pair) -> Result<String, Fail> {
 }
 
 /// Adds what is said that is something else than is wanted to a text, with the place of the pair.
-fn push_missed_pairs(alloc: Global, pairs: &'static [Pair], text: &mut String) -> Result<(), Fail> {
+fn push_missed_pairs(
+    alloc: Global,
+    pairs: &'static [Pair],
+    text: &mut String,
+) -> Result<(), FolderFault> {
     for (place, pair) in pairs.iter().enumerate() {
         push_missed(
             alloc,

@@ -18,7 +18,7 @@ fn raced<R: AllocGlobal + Threads + Sync, G: Gate + Sync>(
     let alloc = rt.alloc();
     let mut output = Vec::new(alloc);
     let done = race(rt, messages, gate, &mut output);
-    said(alloc, done, &output)
+    Ok(said(alloc, done, &output)?)
 }
 
 /// How many messages each appender appends, and what is printed then.
@@ -241,12 +241,12 @@ impl Write for Broken {
 /// What is said of a race whose writer takes so many bytes and then fails.
 fn said_broken<R: AllocGlobal + Threads + Sync>(rt: &R, left: usize) -> Result<String, Fail> {
     let done = race(rt, 1, &OpenGate, &mut Broken { left });
-    said(rt.alloc(), done, &[])
+    Ok(said(rt.alloc(), done, &[])?)
 }
 
 #[test]
 fn a_writer_that_fails_is_a_fault(rt: HostRuntime) -> Result<(), Fail> {
-    for left in [0, 7] {
+    for &left in &[0, 7] {
         expect_text(said_broken(&rt, left)?, "cq: write fault")?;
     }
     Ok(())

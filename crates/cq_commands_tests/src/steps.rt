@@ -6,7 +6,7 @@ use cq_commands::{
 use cq_fixtures::{expect_text, push_missed};
 use cq_folder::{FailingFolder, Folder, FolderFault, MemoryFolder};
 use std::alloc::{AllocError, Global};
-use std::fmt::Write as _;
+use std::io::Write;
 use std::test::Fail;
 
 /// One day in milliseconds.
@@ -31,6 +31,8 @@ pub enum Step {
     Write(u64, &'static [u8]),
     /// `write` of so many empty lines at a moment.
     WriteEmpty(u64, usize),
+    /// `write` of a line on each of so many days from day 0 on, which says nothing where each has the index 0 of its day.
+    WriteDays(u32),
     /// `write` at a moment with a reader that fails behind so many line feeds, and a writer that fails.
     WriteBroken(u64, usize),
     /// A command with a writer that fails.
@@ -81,7 +83,11 @@ pub enum Unprinted {
 }
 
 /// Takes a step over a folder, and gives what is said.
-pub fn said_at<F: Folder>(alloc: Global, folder: &mut F, step: &Step) -> Result<String, Fail> {
+pub fn said_at<F: Folder>(
+    alloc: Global,
+    folder: &mut F,
+    step: &Step,
+) -> Result<String, FolderFault> {
     match *step {
         Step::Queue(cycles) => made(alloc, folder, "daily", 0, 64, cycles, &["reader"]),
         Step::OldQueue(cycles) => put_old(alloc, folder, 64, cycles),
@@ -89,17 +95,10 @@ pub fn said_at<F: Folder>(alloc: Global, folder: &mut F, step: &Step) -> Result<
         Step::Init(roll, epoch, cells, cycles, names) => {
             made(alloc, folder, roll, epoch, cells, cycles, names)
         }
-        Step::Write(moment, input) => written(alloc, folder, moment, input),
         Step::WriteEmpty(moment, lines) => written_empty(alloc, folder, moment, lines),
         Step::WriteBroken(moment, behind) => written_broken(alloc, folder, moment, behind),
         Step::Unprinted(command) => said_unprinted(alloc, folder, command),
-        Step::Read(back, from) => printed(alloc, folder, back, from),
-        Step::Take(name) => taken(alloc, folder, name),
-        Step::Drop(cycle) => dropped(alloc, folder, cycle),
-        Step::Check => checked(alloc, folder),
-        Step::Dump(file) => dumped(alloc, folder, file),
-        Step::Salvage(file) => salvaged(alloc, folder, file),
-        Step::Migrate => migrated(alloc, folder),
+        Step::WriteDays(days) => written_each_day(alloc, folder, days),
         Step::Text(file) => text_of(alloc, folder, file),
         Step::Bytes(file) => digits_of(alloc, folder, file),
         Step::Length(file) => length_of(alloc, folder, file),
@@ -107,7 +106,51 @@ pub fn said_at<F: Folder>(alloc: Global, folder: &mut F, step: &Step) -> Result<
         Step::Fill(file, byte, count) => filled(alloc, folder, file, byte, count),
         Step::Patch(file, at, bytes) => patched(alloc, folder, file, at, bytes),
         Step::Cut(file, len) => cut(alloc, folder, file, len),
+        command => printed(alloc, folder, &command),
     }
+}
+
+/// What a command says that needs no more than its words and an output.
+fn printed<F: Folder>(
+    alloc: Global,
+    folder: &mut F,
+    command: &Step,
+) -> Result<String, FolderFault> {
+    let mut output = Vec::new(alloc);
+    let done = run_step(alloc, folder, command, &mut output);
+    said(alloc, done, &output)
+}
+
+/// Runs the command that a step is, where it needs no more than its words and an output; any other step does nothing.
+fn run_step<F: Folder, W: Write>(
+    alloc: Global,
+    folder: &mut F,
+    step: &Step,
+    output: &mut W,
+) -> Result<(), ToolFault> {
+    match *step {
+        Step::Write(moment, input) => write_lines(alloc, folder, moment, input, output),
+        Step::Read(back, from) => read(alloc, folder, back, from, output),
+        Step::Take(name) => take(alloc, folder, name, output),
+        Step::Drop(cycle) => drop_before(alloc, folder, cycle, output),
+        Step::Check => check(alloc, folder, output),
+        Step::Dump(file) => dump(alloc, folder, file, output),
+        Step::Salvage(file) => salvage(alloc, folder, file, output),
+        Step::Migrate => migrate(alloc, folder),
+        _ => Ok(()),
+    }
+}
+
+/// Writes the lines of an input at a moment.
+fn write_lines<F: Folder, W: Write>(
+    alloc: Global,
+    folder: &mut F,
+    moment: u64,
+    input: &[u8],
+    output: &mut W,
+) -> Result<(), ToolFault> {
+    let mut rest = input;
+    write(alloc, folder, moment, &mut rest, output)
 }
 
 /// What `init` says.
@@ -119,7 +162,7 @@ fn made<F: Folder>(
     cells: u64,
     cycles: u64,
     names: &[&str],
-) -> Result<String, Fail> {
+) -> Result<String, FolderFault> {
     let settings = InitSettings {
         roll: String::from_str(alloc, roll)?,
         epoch,
@@ -138,7 +181,7 @@ fn put_old<F: Folder>(
     folder: &mut F,
     cells: u64,
     cycles: u64,
-) -> Result<String, Fail> {
+) -> Result<String, FolderFault> {
     let text = format!(in alloc;
         "cq 1\nroll daily\nepoch 0\ncells {cells}\ncount 8\nspacing 1\ncycles {cycles}\nname reader 0\n"
     )?;
@@ -146,25 +189,12 @@ fn put_old<F: Folder>(
 }
 
 /// Words, each in memory of its own.
-pub fn texts(alloc: Global, words: &[&str]) -> Result<Vec<String>, AllocError> {
+fn texts(alloc: Global, words: &[&str]) -> Result<Vec<String>, AllocError> {
     let mut texts = Vec::new(alloc);
     for word in words {
         texts.push(String::from_str(alloc, word)?)?;
     }
     Ok(texts)
-}
-
-/// What `write` says.
-fn written<F: Folder>(
-    alloc: Global,
-    folder: &mut F,
-    moment: u64,
-    input: &[u8],
-) -> Result<String, Fail> {
-    let mut output = Vec::new(alloc);
-    let mut rest = input;
-    let done = write(alloc, folder, moment, &mut rest, &mut output);
-    said(alloc, done, &output)
 }
 
 /// What `write` says of so many empty lines.
@@ -173,8 +203,32 @@ fn written_empty<F: Folder>(
     folder: &mut F,
     moment: u64,
     lines: usize,
-) -> Result<String, Fail> {
-    written(alloc, folder, moment, &copies(alloc, b'\n', lines)?)
+) -> Result<String, FolderFault> {
+    let input = copies(alloc, b'\n', lines)?;
+    let mut output = Vec::new(alloc);
+    let done = write_lines(alloc, folder, moment, &input, &mut output);
+    said(alloc, done, &output)
+}
+
+/// What is said of a line on each of so many days from day 0 on: nothing where each has the index 0 of its day.
+fn written_each_day<F: Folder>(
+    alloc: Global,
+    folder: &mut F,
+    days: u32,
+) -> Result<String, FolderFault> {
+    for day in 0..days {
+        if !begins_cycle(alloc, folder, day)? {
+            return Ok(format!(in alloc; "not on day {day}")?);
+        }
+    }
+    Ok(String::new(alloc))
+}
+
+/// Whether a line on a day has the index 0 of that day.
+fn begins_cycle<F: Folder>(alloc: Global, folder: &mut F, day: u32) -> Result<bool, FolderFault> {
+    let line = Step::Write(u64::from(day) * DAY, b"a\n");
+    let said = printed(alloc, folder, &line)?;
+    Ok(said.as_str() == format!(in alloc; "{day:08x}00000000\n")?.as_str())
 }
 
 /// What `write` says where the input fails behind so many line feeds, and the output fails.
@@ -183,7 +237,7 @@ fn written_broken<F: Folder>(
     folder: &mut F,
     moment: u64,
     behind: usize,
-) -> Result<String, Fail> {
+) -> Result<String, FolderFault> {
     let mut input = BrokenBehind { left: behind };
     let done = write(alloc, folder, moment, &mut input, &mut Broken);
     said(alloc, done, &[])
@@ -194,75 +248,20 @@ fn said_unprinted<F: Folder>(
     alloc: Global,
     folder: &mut F,
     command: Unprinted,
-) -> Result<String, Fail> {
-    said(alloc, done_unprinted(alloc, folder, command), &[])
+) -> Result<String, FolderFault> {
+    let done = run_step(alloc, folder, &step_of(command), &mut Broken);
+    said(alloc, done, &[])
 }
 
-/// A command whose writer fails.
-fn done_unprinted<F: Folder>(
-    alloc: Global,
-    folder: &mut F,
-    command: Unprinted,
-) -> Result<(), ToolFault> {
+/// The step that is a command.
+fn step_of(command: Unprinted) -> Step {
     match command {
-        Unprinted::Write => write(alloc, folder, 0, &mut &b"a\n"[..], &mut Broken),
-        Unprinted::Read => read(alloc, folder, false, None, &mut Broken),
-        Unprinted::Take => take(alloc, folder, "reader", &mut Broken),
-        Unprinted::Check => check(alloc, folder, &mut Broken),
-        Unprinted::Dump(file) => dump(alloc, folder, file, &mut Broken),
+        Unprinted::Write => Step::Write(0, b"a\n"),
+        Unprinted::Read => Step::Read(false, None),
+        Unprinted::Take => Step::Take("reader"),
+        Unprinted::Check => Step::Check,
+        Unprinted::Dump(file) => Step::Dump(file),
     }
-}
-
-/// What `read` says.
-fn printed<F: Folder>(
-    alloc: Global,
-    folder: &mut F,
-    back: bool,
-    from: Option<&str>,
-) -> Result<String, Fail> {
-    let mut output = Vec::new(alloc);
-    let done = read(alloc, folder, back, from, &mut output);
-    said(alloc, done, &output)
-}
-
-/// What `take` says.
-fn taken<F: Folder>(alloc: Global, folder: &mut F, name: &str) -> Result<String, Fail> {
-    let mut output = Vec::new(alloc);
-    let done = take(alloc, folder, name, &mut output);
-    said(alloc, done, &output)
-}
-
-/// What `drop` says.
-fn dropped<F: Folder>(alloc: Global, folder: &mut F, cycle: u64) -> Result<String, Fail> {
-    let mut output = Vec::new(alloc);
-    let done = drop_before(alloc, folder, cycle, &mut output);
-    said(alloc, done, &output)
-}
-
-/// What `check` says.
-fn checked<F: Folder>(alloc: Global, folder: &mut F) -> Result<String, Fail> {
-    let mut output = Vec::new(alloc);
-    let done = check(alloc, folder, &mut output);
-    said(alloc, done, &output)
-}
-
-/// What `dump` says.
-fn dumped<F: Folder>(alloc: Global, folder: &mut F, file: &str) -> Result<String, Fail> {
-    let mut output = Vec::new(alloc);
-    let done = dump(alloc, folder, file, &mut output);
-    said(alloc, done, &output)
-}
-
-/// What `salvage` says.
-fn salvaged<F: Folder>(alloc: Global, folder: &mut F, file: &str) -> Result<String, Fail> {
-    let mut output = Vec::new(alloc);
-    let done = salvage(alloc, folder, file, &mut output);
-    said(alloc, done, &output)
-}
-
-/// What `migrate` says.
-fn migrated<F: Folder>(alloc: Global, folder: &mut F) -> Result<String, Fail> {
-    said(alloc, migrate(alloc, folder), &[])
 }
 
 /// So many copies of a byte.
@@ -271,32 +270,41 @@ fn copies(alloc: Global, byte: u8, count: usize) -> Result<Vec<u8>, AllocError> 
 }
 
 /// The bytes of a file, none where it is not there.
-fn bytes_of<F: Folder>(alloc: Global, folder: &mut F, file: &str) -> Result<Vec<u8>, Fail> {
+fn bytes_of<F: Folder>(alloc: Global, folder: &mut F, file: &str) -> Result<Vec<u8>, FolderFault> {
     match folder.read(alloc, file, MOST_BYTES) {
-        Ok(bytes) => Ok(bytes),
         Err(FolderFault::Device) => Ok(Vec::new(alloc)),
-        Err(fault) => Err(Fail::from(fault)),
+        read => read,
     }
 }
 
-fn text_of<F: Folder>(alloc: Global, folder: &mut F, file: &str) -> Result<String, Fail> {
-    Ok(String::from_utf8(bytes_of(alloc, folder, file)?)?)
+fn text_of<F: Folder>(alloc: Global, folder: &mut F, file: &str) -> Result<String, FolderFault> {
+    let bytes = bytes_of(alloc, folder, file)?;
+    Ok(String::from_utf8_lossy(alloc, &bytes)?)
 }
 
-fn digits_of<F: Folder>(alloc: Global, folder: &mut F, file: &str) -> Result<String, Fail> {
+fn digits_of<F: Folder>(alloc: Global, folder: &mut F, file: &str) -> Result<String, FolderFault> {
+    Ok(hexadecimal(alloc, &bytes_of(alloc, folder, file)?)?)
+}
+
+fn hexadecimal(alloc: Global, bytes: &[u8]) -> Result<String, AllocError> {
     let mut digits = String::new(alloc);
-    for byte in bytes_of(alloc, folder, file)?.iter() {
+    for byte in bytes {
         write!(digits, "{byte:02x}")?;
     }
     Ok(digits)
 }
 
-fn length_of<F: Folder>(alloc: Global, folder: &mut F, file: &str) -> Result<String, Fail> {
+fn length_of<F: Folder>(alloc: Global, folder: &mut F, file: &str) -> Result<String, FolderFault> {
     let bytes = bytes_of(alloc, folder, file)?;
     Ok(format!(in alloc; "{}", bytes.len())?)
 }
 
-fn put<F: Folder>(alloc: Global, folder: &mut F, file: &str, bytes: &[u8]) -> Result<String, Fail> {
+fn put<F: Folder>(
+    alloc: Global,
+    folder: &mut F,
+    file: &str,
+    bytes: &[u8],
+) -> Result<String, FolderFault> {
     folder.write(file, bytes)?;
     Ok(String::new(alloc))
 }
@@ -307,7 +315,7 @@ fn filled<F: Folder>(
     file: &str,
     byte: u8,
     count: usize,
-) -> Result<String, Fail> {
+) -> Result<String, FolderFault> {
     put(alloc, folder, file, &copies(alloc, byte, count)?)
 }
 
@@ -317,7 +325,7 @@ fn patched<F: Folder>(
     file: &str,
     at: usize,
     new: &[u8],
-) -> Result<String, Fail> {
+) -> Result<String, FolderFault> {
     let mut bytes = bytes_of(alloc, folder, file)?;
     patch(&mut bytes, at, new)?;
     put(alloc, folder, file, &bytes)
@@ -334,14 +342,23 @@ fn patch(bytes: &mut Vec<u8>, at: usize, new: &[u8]) -> Result<(), AllocError> {
     Ok(())
 }
 
-fn cut<F: Folder>(alloc: Global, folder: &mut F, file: &str, len: usize) -> Result<String, Fail> {
+fn cut<F: Folder>(
+    alloc: Global,
+    folder: &mut F,
+    file: &str,
+    len: usize,
+) -> Result<String, FolderFault> {
     let mut bytes = bytes_of(alloc, folder, file)?;
     bytes.truncate(len);
     put(alloc, folder, file, &bytes)
 }
 
 /// What all these steps say, one behind the other.
-pub fn said_by<F: Folder>(alloc: Global, folder: &mut F, steps: &[Step]) -> Result<String, Fail> {
+pub fn said_by<F: Folder>(
+    alloc: Global,
+    folder: &mut F,
+    steps: &[Step],
+) -> Result<String, FolderFault> {
     let mut text = String::new(alloc);
     push_said(alloc, folder, steps, &mut text)?;
     Ok(text)
@@ -353,7 +370,7 @@ pub fn push_said<F: Folder>(
     folder: &mut F,
     steps: &[Step],
     text: &mut String,
-) -> Result<(), Fail> {
+) -> Result<(), FolderFault> {
     for step in steps {
         text.push_str(said_at(alloc, folder, step)?.as_str())?;
     }
@@ -361,7 +378,7 @@ pub fn push_said<F: Folder>(
 }
 
 /// What all these steps say over a new folder, one behind the other.
-pub fn said_anew(alloc: Global, steps: &[Step]) -> Result<String, Fail> {
+pub fn said_anew(alloc: Global, steps: &[Step]) -> Result<String, FolderFault> {
     let mut folder = MemoryFolder::new(alloc);
     said_by(alloc, &mut folder, steps)
 }
@@ -372,7 +389,7 @@ fn push_missed_steps<F: Folder>(
     folder: &mut F,
     steps: &'static [(Step, &'static str)],
     text: &mut String,
-) -> Result<(), Fail> {
+) -> Result<(), FolderFault> {
     for (place, (step, want)) in steps.iter().enumerate() {
         push_missed(
             alloc,
@@ -399,7 +416,7 @@ fn push_missed_lists(
     alloc: Global,
     table: &'static [(&'static [Step], &'static str)],
     text: &mut String,
-) -> Result<(), Fail> {
+) -> Result<(), FolderFault> {
     for (place, (steps, want)) in table.iter().enumerate() {
         push_missed(alloc, text, place, said_anew(alloc, steps)?.as_str(), want)?;
     }
@@ -431,7 +448,7 @@ pub struct Failing {
 }
 
 /// What is said at the step and behind it, where the call with this number fails.
-fn said_failing(alloc: Global, failing: &Failing, number: u64) -> Result<String, Fail> {
+fn said_failing(alloc: Global, failing: &Failing, number: u64) -> Result<String, FolderFault> {
     let mut folder = MemoryFolder::new(alloc);
     said_by(alloc, &mut folder, failing.before)?;
     let folder = match failing.writes {
@@ -446,7 +463,7 @@ fn said_and_behind(
     alloc: Global,
     mut folder: FailingFolder<MemoryFolder>,
     failing: &Failing,
-) -> Result<String, Fail> {
+) -> Result<String, FolderFault> {
     let mut said = said_at(alloc, &mut folder, &failing.step)?;
     said.push_str("|")?;
     push_said(alloc, &mut folder.into_inner(), failing.after, &mut said)?;
@@ -458,7 +475,7 @@ fn push_missed_calls(
     alloc: Global,
     failing: &'static Failing,
     text: &mut String,
-) -> Result<(), Fail> {
+) -> Result<(), FolderFault> {
     for (number, want, behind) in failing.table {
         let said = said_failing(alloc, failing, *number)?;
         let want = format!(in alloc; "{want}|{behind}")?;

@@ -1,13 +1,17 @@
 //! What is said of a command, and streams that fail.
 use cq_commands::ToolFault;
+use cq_folder::FolderFault;
 use std::alloc::Global;
 use std::io::{ErrorKind, Read, Write};
-use std::test::Fail;
 use std::{io, str};
 
 /// What a command wrote, and behind it the text of its fault.
-pub fn said(alloc: Global, done: Result<(), ToolFault>, output: &[u8]) -> Result<String, Fail> {
-    let text = str::from_utf8(output)?;
+pub fn said(
+    alloc: Global,
+    done: Result<(), ToolFault>,
+    output: &[u8],
+) -> Result<String, FolderFault> {
+    let text = str::from_utf8(output).unwrap_or("no text");
     match done {
         Ok(()) => Ok(String::from_str(alloc, text)?),
         Err(fault) => Ok(format!(in alloc; "{text}cq: {fault}")?),

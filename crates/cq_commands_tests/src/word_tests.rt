@@ -1,5 +1,4 @@
 //! What the words of a command line are.
-use crate::steps::texts;
 use cq_command_line::{ParseFault, parse};
 use std::alloc::{AllocError, Global};
 use std::test::Fail;
@@ -13,56 +12,72 @@ fn parsed(alloc: Global, words: &[String]) -> Result<String, AllocError> {
     }
 }
 
-/// Fails where words are something else than is wanted, with what is said of them.
-fn expect_said(alloc: Global, given: &[&str], want: &str) -> Result<(), Fail> {
-    let words = texts(alloc, given)?;
-    let said = parsed(alloc, words.as_slice())?;
-    if said.as_str().contains(want) {
+/// The words of a line, which have a bar between them, each in memory of its own.
+pub fn words_of(alloc: Global, line: &str) -> Result<Vec<String>, AllocError> {
+    let mut words = Vec::new(alloc);
+    for word in line.split('|') {
+        words.push(String::from_str(alloc, word)?)?;
+    }
+    Ok(words)
+}
+
+/// What the words of a line are, or what is said of them.
+fn parsed_line(alloc: Global, line: &str) -> Result<String, AllocError> {
+    let words = words_of(alloc, line)?;
+    parsed(alloc, words.as_slice())
+}
+
+/// Fails where what is said does not have what is wanted in it.
+fn expect_within(said: &str, want: &str) -> Result<(), Fail> {
+    if said.contains(want) {
         return Ok(());
     }
     Err(Fail::new(format_args!("{said}")))
 }
 
-/// Each list of words is what stands beside it.
-fn expect(alloc: Global, table: &[(&[&str], &str)]) -> Result<(), Fail> {
-    for &(given, want) in table {
-        expect_said(alloc, given, want)?;
+/// The words of each line are what stands beside it.
+fn expect(alloc: Global, table: &[(&str, &str)]) -> Result<(), Fail> {
+    for &(line, want) in table {
+        expect_within(parsed_line(alloc, line)?.as_str(), want)?;
     }
     Ok(())
+}
+
+/// What the help of a command says.
+fn help_of(alloc: Global, command: &str) -> Result<String, AllocError> {
+    let line = format!(in alloc; "cq|{command}|--help")?;
+    parsed_line(alloc, line.as_str())
 }
 
 /// The help of each command says what stands beside it.
 fn expect_help(alloc: Global, table: &[(&str, &str)]) -> Result<(), Fail> {
     for &(command, want) in table {
-        expect_said(alloc, &["cq", command, "--help"], want)?;
+        expect_within(help_of(alloc, command)?.as_str(), want)?;
     }
     Ok(())
 }
 
-/// Words of no command, of `echo` and of `cycle`, each list beside what it is.
-static WORDS: [(&[&str], &str); 13] = [
-    (&["cq", "echo"], "Echo"),
-    (&["another name", "echo"], "Echo"),
-    (&["cq"], "requires a subcommand"),
-    (&["cq", "nonsense"], "unrecognized subcommand 'nonsense'"),
-    (&["cq", "echo", "extra"], "unexpected argument 'extra'"),
-    (&["cq", "--version"], "unexpected argument '--version'"),
-    (&["cq", "--help"], "Usage: cq <COMMAND>"),
-    (&["cq", "echo", "--help"], "Usage: cq echo"),
+/// Words of no command, of `echo` and of `cycle`, each line beside what it is.
+static WORDS: [(&str, &str); 13] = [
+    ("cq|echo", "Echo"),
+    ("another name|echo", "Echo"),
+    ("cq", "requires a subcommand"),
+    ("cq|nonsense", "unrecognized subcommand 'nonsense'"),
+    ("cq|echo|extra", "unexpected argument 'extra'"),
+    ("cq|--version", "unexpected argument '--version'"),
+    ("cq|--help", "Usage: cq <COMMAND>"),
+    ("cq|echo|--help", "Usage: cq echo"),
     (
-        &["cq", "cycle", "weekly", "007", "18446744073709551615"],
+        "cq|cycle|weekly|007|18446744073709551615",
         "Cycle { roll: \"weekly\", epoch: 7, moment: 18446744073709551615 }",
     ),
-    (&["cq", "cycle", "daily", "0"], "<MOMENT>"),
+    ("cq|cycle|daily|0", "<MOMENT>"),
     (
-        &["cq", "cycle", "daily", "0", "18446744073709551616"],
+        "cq|cycle|daily|0|18446744073709551616",
         "invalid value '18446744073709551616'",
     ),
-    (&["cq", "cycle", "daily", "0x0", "0"], "invalid value '0x0'"),
-    (
-        &["cq", "cycle", "daily", "0", "0", "0"],
-        "unexpected argument '0'",
-    ),
+    ("cq|cycle|daily|0x0|0", "invalid value '0x0'"),
+    ("cq|cycle|daily|0|0|0", "unexpected argument '0'"),
 ];
 
 #[test]
@@ -70,70 +85,36 @@ fn parses_words(rt: HostRuntime) -> Result<(), Fail> {
     expect(rt.alloc(), &WORDS)
 }
 
-/// Words of `init`, each list beside what it is.
-static NEW_QUEUES: [(&[&str], &str); 10] = [
+/// Words of `init`, each line beside what it is.
+static NEW_QUEUES: [(&str, &str); 10] = [
     (
-        &["cq", "init", "q", "hourly", "1", "2", "3", "4", "5"],
+        "cq|init|q|hourly|1|2|3|4|5",
         "Init { folder: \"q\", settings: InitSettings { roll: \"hourly\", epoch: 1, cells: 2, index_count: 3, \
          index_spacing: 4, cycles: 5, names: [] } }",
     ),
     (
-        &[
-            "cq",
-            "init",
-            "q",
-            "weekly",
-            "0",
-            "18446744073709551615",
-            "0",
-            "+4",
-            "005",
-            "b",
-            "a",
-            "b",
-        ],
+        "cq|init|q|weekly|0|18446744073709551615|0|+4|005|b|a|b",
         "Init { folder: \"q\", settings: InitSettings { roll: \"weekly\", epoch: 0, cells: 18446744073709551615, \
          index_count: 0, index_spacing: 4, cycles: 5, names: [\"b\", \"a\", \"b\"] } }",
     ),
     (
-        &[
-            "cq", "init", "q", "", "1", "2", "3", "4", "5", "--", "-a", "",
-        ],
+        "cq|init|q||1|2|3|4|5|--|-a|",
         "roll: \"\", epoch: 1, cells: 2, index_count: 3, index_spacing: 4, cycles: 5, names: [\"-a\", \"\"] } }",
     ),
+    ("cq|init|q|hourly|1|2|3|4", "<CYCLES>"),
+    ("cq|init", "<DIR>"),
     (
-        &["cq", "init", "q", "hourly", "1", "2", "3", "4"],
-        "<CYCLES>",
-    ),
-    (&["cq", "init"], "<DIR>"),
-    (
-        &["cq", "init", "q", "hourly", "1", "2", "3", "4", "five"],
+        "cq|init|q|hourly|1|2|3|4|five",
         "invalid value 'five' for '<CYCLES>'",
     ),
     (
-        &[
-            "cq",
-            "init",
-            "q",
-            "hourly",
-            "1",
-            "18446744073709551616",
-            "3",
-            "4",
-            "5",
-        ],
+        "cq|init|q|hourly|1|18446744073709551616|3|4|5",
         "invalid value '18446744073709551616' for '<CELLS>'",
     ),
+    ("cq|init|q|hourly|-1|2|3|4|5", "unexpected argument '-1'"),
+    ("cq|init|q|hourly|1|2|3|4|5|-a", "unexpected argument '-a'"),
     (
-        &["cq", "init", "q", "hourly", "-1", "2", "3", "4", "5"],
-        "unexpected argument '-1'",
-    ),
-    (
-        &["cq", "init", "q", "hourly", "1", "2", "3", "4", "5", "-a"],
-        "unexpected argument '-a'",
-    ),
-    (
-        &["cq", "init", "--help"],
+        "cq|init|--help",
         "Usage: cq init <DIR> <ROLL> <EPOCH> <CELLS> <COUNT> <SPACING> <CYCLES> [NAMES]...",
     ),
 ];
@@ -143,62 +124,59 @@ fn parses_the_words_of_a_new_queue(rt: HostRuntime) -> Result<(), Fail> {
     expect(rt.alloc(), &NEW_QUEUES)
 }
 
-/// Words of `read`, each list beside what it is.
-static READERS: [(&[&str], &str); 15] = [
+/// Words of `read`, each line beside what it is.
+static READERS: [(&str, &str); 15] = [
     (
-        &["cq", "read", "q"],
+        "cq|read|q",
         "Read { folder: \"q\", back: false, from: None }",
     ),
     (
-        &["cq", "read", "q", "--back"],
+        "cq|read|q|--back",
         "Read { folder: \"q\", back: true, from: None }",
     ),
     (
-        &["cq", "read", "--back", "q"],
+        "cq|read|--back|q",
         "Read { folder: \"q\", back: true, from: None }",
     ),
     (
-        &["cq", "read", "q", "--from", "0000000100000002"],
+        "cq|read|q|--from|0000000100000002",
         "Read { folder: \"q\", back: false, from: Some(\"0000000100000002\") }",
     ),
     (
-        &["cq", "read", "--from", "q", "r"],
+        "cq|read|--from|q|r",
         "Read { folder: \"r\", back: false, from: Some(\"q\") }",
     ),
     (
-        &["cq", "read", "q", "--back", "--from", "no index"],
+        "cq|read|q|--back|--from|no index",
         "Read { folder: \"q\", back: true, from: Some(\"no index\") }",
     ),
     (
-        &["cq", "read", "--from=", "q", "--back"],
+        "cq|read|--from=|q|--back",
         "Read { folder: \"q\", back: true, from: Some(\"\") }",
     ),
     (
-        &["cq", "read", "--back", "--from", "7", "q"],
+        "cq|read|--back|--from|7|q",
         "Read { folder: \"q\", back: true, from: Some(\"7\") }",
     ),
-    (&["cq", "read"], "<DIR>"),
-    (&["cq", "read", "q", "r"], "unexpected argument 'r'"),
+    ("cq|read", "<DIR>"),
+    ("cq|read|q|r", "unexpected argument 'r'"),
     (
-        &["cq", "read", "q", "--back", "--back"],
+        "cq|read|q|--back|--back",
         "'--back' cannot be used multiple times",
     ),
     (
-        &["cq", "read", "q", "--from", "1", "--from", "2"],
+        "cq|read|q|--from|1|--from|2",
         "'--from <INDEX>' cannot be used multiple times",
     ),
     (
-        &["cq", "read", "q", "--from"],
+        "cq|read|q|--from",
         "a value is required for '--from <INDEX>'",
     ),
     (
-        &["cq", "read", "q", "--back=yes"],
+        "cq|read|q|--back=yes",
         "unexpected value 'yes' for '--back'",
     ),
-    (
-        &["cq", "read", "q", "--forth"],
-        "unexpected argument '--forth'",
-    ),
+    ("cq|read|q|--forth", "unexpected argument '--forth'"),
 ];
 
 #[test]
@@ -206,75 +184,69 @@ fn parses_the_words_of_a_reader(rt: HostRuntime) -> Result<(), Fail> {
     expect(rt.alloc(), &READERS)
 }
 
-/// Words of the other commands on a folder, each list beside what it is.
-static OTHERS: [(&[&str], &str); 34] = [
+/// Words of the other commands on a folder, each line beside what it is.
+static OTHERS: [(&str, &str); 34] = [
     (
-        &["cq", "write", "q", "18446744073709551615"],
+        "cq|write|q|18446744073709551615",
         "Write { folder: \"q\", moment: 18446744073709551615 }",
     ),
     (
-        &["cq", "write", "ein Ordner für Ähren", "0"],
+        "cq|write|ein Ordner für Ähren|0",
         "Write { folder: \"ein Ordner für Ähren\", moment: 0 }",
     ),
-    (&["cq", "write", "q"], "<MOMENT>"),
-    (&["cq", "write", "q", "1", "2"], "unexpected argument '2'"),
-    (&["cq", "write", "q", "-1"], "unexpected argument '-1'"),
+    ("cq|write|q", "<MOMENT>"),
+    ("cq|write|q|1|2", "unexpected argument '2'"),
+    ("cq|write|q|-1", "unexpected argument '-1'"),
     (
-        &["cq", "write", "q", "18446744073709551616"],
+        "cq|write|q|18446744073709551616",
         "invalid value '18446744073709551616' for '<MOMENT>'",
     ),
+    ("cq|write|q|now", "invalid value 'now' for '<MOMENT>'"),
+    ("cq|write|q|", "invalid value '' for '<MOMENT>'"),
     (
-        &["cq", "write", "q", "now"],
-        "invalid value 'now' for '<MOMENT>'",
-    ),
-    (&["cq", "write", "q", ""], "invalid value '' for '<MOMENT>'"),
-    (
-        &["cq", "take", "q", "reader"],
+        "cq|take|q|reader",
         "Take { folder: \"q\", name: \"reader\" }",
     ),
-    (&["cq", "take", "q"], "<NAME>"),
-    (&["cq", "take", "q", "r", "s"], "unexpected argument 's'"),
-    (&["cq", "take", "--help"], "Usage: cq take <DIR> <NAME>"),
+    ("cq|take|q", "<NAME>"),
+    ("cq|take|q|r|s", "unexpected argument 's'"),
+    ("cq|take|--help", "Usage: cq take <DIR> <NAME>"),
     (
-        &["cq", "drop", "q", "20009"],
+        "cq|drop|q|20009",
         "DropBefore { folder: \"q\", cycle: 20009 }",
     ),
-    (&["cq", "drop", "q"], "<CYCLE>"),
+    ("cq|drop|q", "<CYCLE>"),
     (
-        &["cq", "drop", "q", "20241009"],
+        "cq|drop|q|20241009",
         "DropBefore { folder: \"q\", cycle: 20241009 }",
     ),
     (
-        &["cq", "drop", "q", "18446744073709551616"],
+        "cq|drop|q|18446744073709551616",
         "invalid value '18446744073709551616' for '<CYCLE>'",
     ),
-    (&["cq", "drop", "--help"], "Usage: cq drop <DIR> <CYCLE>"),
-    (&["cq", "check", "q"], "Check { folder: \"q\" }"),
-    (&["cq", "check", " "], "Check { folder: \" \" }"),
-    (&["cq", "check"], "<DIR>"),
-    (&["cq", "check", "q", "r"], "unexpected argument 'r'"),
-    (&["cq", "check", "q", "-x"], "unexpected argument '-x'"),
+    ("cq|drop|--help", "Usage: cq drop <DIR> <CYCLE>"),
+    ("cq|check|q", "Check { folder: \"q\" }"),
+    ("cq|check| ", "Check { folder: \" \" }"),
+    ("cq|check", "<DIR>"),
+    ("cq|check|q|r", "unexpected argument 'r'"),
+    ("cq|check|q|-x", "unexpected argument '-x'"),
     (
-        &["cq", "dump", "q", "2024 01.cq"],
+        "cq|dump|q|2024 01.cq",
         "Dump { folder: \"q\", file: \"2024 01.cq\" }",
     ),
-    (&["cq", "dump", "q"], "<FILE>"),
-    (&["cq", "dump", "q", "r", "s"], "unexpected argument 's'"),
-    (&["cq", "dump", "--help"], "Usage: cq dump <DIR> <FILE>"),
+    ("cq|dump|q", "<FILE>"),
+    ("cq|dump|q|r|s", "unexpected argument 's'"),
+    ("cq|dump|--help", "Usage: cq dump <DIR> <FILE>"),
     (
-        &["cq", "salvage", "q", "../x"],
+        "cq|salvage|q|../x",
         "Salvage { folder: \"q\", file: \"../x\" }",
     ),
-    (&["cq", "salvage", "q"], "<FILE>"),
-    (&["cq", "salvage", "q", "r", "s"], "unexpected argument 's'"),
-    (
-        &["cq", "salvage", "--help"],
-        "Usage: cq salvage <DIR> <FILE>",
-    ),
-    (&["cq", "migrate", "q"], "Migrate { folder: \"q\" }"),
-    (&["cq", "migrate"], "<DIR>"),
-    (&["cq", "migrate", "q", "r"], "unexpected argument 'r'"),
-    (&["cq", "migrate", "--help"], "Usage: cq migrate <DIR>"),
+    ("cq|salvage|q", "<FILE>"),
+    ("cq|salvage|q|r|s", "unexpected argument 's'"),
+    ("cq|salvage|--help", "Usage: cq salvage <DIR> <FILE>"),
+    ("cq|migrate|q", "Migrate { folder: \"q\" }"),
+    ("cq|migrate", "<DIR>"),
+    ("cq|migrate|q|r", "unexpected argument 'r'"),
+    ("cq|migrate|--help", "Usage: cq migrate <DIR>"),
 ];
 
 #[test]
@@ -282,26 +254,20 @@ fn parses_the_words_of_other_commands(rt: HostRuntime) -> Result<(), Fail> {
     expect(rt.alloc(), &OTHERS)
 }
 
-/// Words of `race`, each list beside what it is.
-static RACES: [(&[&str], &str); 9] = [
-    (&["cq", "race", "1"], "Race { messages: 1 }"),
-    (&["cq", "race", "1000"], "Race { messages: 1000 }"),
-    (&["cq", "race", "007"], "Race { messages: 7 }"),
-    (&["cq", "race", "0"], "invalid value '0' for '<MESSAGES>'"),
+/// Words of `race`, each line beside what it is.
+static RACES: [(&str, &str); 9] = [
+    ("cq|race|1", "Race { messages: 1 }"),
+    ("cq|race|1000", "Race { messages: 1000 }"),
+    ("cq|race|007", "Race { messages: 7 }"),
+    ("cq|race|0", "invalid value '0' for '<MESSAGES>'"),
+    ("cq|race|1001", "invalid value '1001' for '<MESSAGES>'"),
     (
-        &["cq", "race", "1001"],
-        "invalid value '1001' for '<MESSAGES>'",
-    ),
-    (
-        &["cq", "race", "4294967297"],
+        "cq|race|4294967297",
         "invalid value '4294967297' for '<MESSAGES>'",
     ),
-    (
-        &["cq", "race", "ten"],
-        "invalid value 'ten' for '<MESSAGES>'",
-    ),
-    (&["cq", "race"], "<MESSAGES>"),
-    (&["cq", "race", "1", "2"], "unexpected argument '2'"),
+    ("cq|race|ten", "invalid value 'ten' for '<MESSAGES>'"),
+    ("cq|race", "<MESSAGES>"),
+    ("cq|race|1|2", "unexpected argument '2'"),
 ];
 
 #[test]
