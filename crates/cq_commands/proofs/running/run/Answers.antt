@@ -2,7 +2,7 @@ use Rattle.std.proofs.Common.{◌≡◌, ℕ, List, rules, subst, sym}
 use Rattle.std.proofs.lemmas.Result.{on_ok_weaker}
 use Rattle.std.specs.Prelude.{◌⊎◌, IfErr, IfSome, OnErr, OnOk, Option, Result, Ok, Err}
 use Rattle.std.specs.Io.KnownBytes.{Appends}
-use Rattle.cq_folder.specs.Folder.{KeepsFiles}
+use Rattle.cq_folder.specs.Folder.{Files, KeepsFiles}
 use Rattle.cq_files.specs.FolderFaults.{IsSaveFault}
 use Rattle.cq_orders.specs.declared.order.Order.{Order}
 use Rattle.cq_text.specs.declared.fault.ToolFault.{ToolFault}
@@ -10,7 +10,7 @@ use Rattle.cq_text.specs.declared.fault.ToolFault.TheVariants.{OutOfMemory, Writ
 use Rattle.cq_text.specs.CycleLine.{IsCycleLine}
 use Rattle.cq_text.specs.Output.{AppendsBeginning}
 use Rattle.cq_commands.specs.Messages.{IsReadOut}
-use Rattle.cq_commands.specs.Orders.{IsCutShort, IsDone, KeepsOrSaves, LeavesFiles, MayFail, Streams}
+use Rattle.cq_commands.specs.Orders.{IsCutShort, IsDone, KeepsOrSaves, LeavesFiles, MayFail, Streams, TakesVersion}
 use Rattle.cq_commands.specs.QueueFaults.{IsReadFault}
 use Rattle.cq_commands.specs.Taken.{IsTaken}
 use Rattle.cq_commands.proofs.running.run.Goals as goal
@@ -109,3 +109,74 @@ returns-in-Check-clause-cause g c = search rules
 
 pub returns-in-Migrate-clause-done : goal.returns-in-Migrate-clause-done
 returns-in-Migrate-clause-done g c = search rules
+
+pub returns-in-Init-clause-counted : goal.returns-in-Init-clause-counted
+returns-in-Init-clause-counted g c = c.init.ensures.counted
+
+pub returns-in-Write-clause-counted : goal.returns-in-Write-clause-counted
+returns-in-Write-clause-counted g c = c.write.ensures.counted
+
+pub returns-in-Read-clause-counted : goal.returns-in-Read-clause-counted
+returns-in-Read-clause-counted g c = c.read.ensures.counted
+
+pub returns-in-Take-clause-counted : goal.returns-in-Take-clause-counted
+returns-in-Take-clause-counted g c = c.take.ensures.counted
+
+pub returns-in-DropBefore-clause-counted : goal.returns-in-DropBefore-clause-counted
+returns-in-DropBefore-clause-counted g c = c.drop_before.ensures.counted
+
+pub returns-in-Check-clause-counted : goal.returns-in-Check-clause-counted
+returns-in-Check-clause-counted g c = c.check.ensures.counted
+
+pub returns-in-Dump-clause-counted : goal.returns-in-Dump-clause-counted
+returns-in-Dump-clause-counted g c = c.dump.ensures.counted
+
+pub returns-in-Salvage-clause-counted : goal.returns-in-Salvage-clause-counted
+returns-in-Salvage-clause-counted g c = c.salvage.ensures.counted
+
+pub returns-in-Migrate-clause-counted : goal.returns-in-Migrate-clause-counted
+returns-in-Migrate-clause-counted g c = c.migrate.ensures.counted
+
+version_of : {T : Type 0} (files : Option Files) (result : Result T ToolFault) (order known : Order) → order ≡ known
+    → TakesVersion known files result → TakesVersion order files result
+version_of files result order known is told = subst (λ (o : Order). TakesVersion o files result) (sym is) told
+
+pub returns-in-Init-clause-version : goal.returns-in-Init-clause-version
+returns-in-Init-clause-version g c =
+    version_of (g.F.Folder.files c.args.folder.now) c.init.result c.args.order.now _ c.in-Init.is tt
+
+pub returns-in-Write-clause-version : goal.returns-in-Write-clause-version
+returns-in-Write-clause-version g c =
+    version_of (g.F.Folder.files c.args.folder.now) c.write.result c.args.order.now _ c.in-Write.is c.write.ensures.version
+
+pub returns-in-Read-clause-version : goal.returns-in-Read-clause-version
+returns-in-Read-clause-version g c =
+    version_of (g.F.Folder.files c.args.folder.now) c.read.result c.args.order.now _ c.in-Read.is c.read.ensures.version
+
+pub returns-in-Take-clause-version : goal.returns-in-Take-clause-version
+returns-in-Take-clause-version g c =
+    version_of (g.F.Folder.files c.args.folder.now) c.take.result c.args.order.now _ c.in-Take.is c.take.ensures.version
+
+pub returns-in-DropBefore-clause-version : goal.returns-in-DropBefore-clause-version
+returns-in-DropBefore-clause-version g c =
+    version_of (g.F.Folder.files c.args.folder.now) c.drop_before.result c.args.order.now _ c.in-DropBefore.is c.drop_before.ensures.version
+
+pub returns-in-Check-clause-version : goal.returns-in-Check-clause-version
+returns-in-Check-clause-version g c =
+    version_of (g.F.Folder.files c.args.folder.now) c.check.result c.args.order.now _ c.in-Check.is tt
+
+pub returns-in-Dump-clause-version : goal.returns-in-Dump-clause-version
+returns-in-Dump-clause-version g c =
+    version_of (g.F.Folder.files c.args.folder.now) c.dump.result c.args.order.now _ c.in-Dump.is tt
+
+pub returns-in-Salvage-clause-version : goal.returns-in-Salvage-clause-version
+returns-in-Salvage-clause-version g c =
+    version_of (g.F.Folder.files c.args.folder.now) c.salvage.result c.args.order.now _ c.in-Salvage.is tt
+
+pub returns-in-Migrate-clause-version : goal.returns-in-Migrate-clause-version
+returns-in-Migrate-clause-version g c =
+    version_of (g.F.Folder.files c.args.folder.now) c.migrate.result c.args.order.now _ c.in-Migrate.is tt
+
+pub returns-in-Cycle-clause-version : goal.returns-in-Cycle-clause-version
+returns-in-Cycle-clause-version g c =
+    version_of (g.F.Folder.files c.args.folder.now) c.cycle.result c.args.order.now _ c.in-Cycle.is tt
