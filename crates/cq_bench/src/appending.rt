@@ -50,7 +50,6 @@ pub fn append_one(queue: &Queue, appender: &mut Appender, bytes: &[u8]) -> Resul
 
 /// Tries again to append a message that another caller held back, with a pause before each try. It stands apart, so that where
 /// nobody else writes an append is one call.
-#[cold]
 #[inline(never)]
 fn append_again(queue: &Queue, appender: &mut Appender, bytes: &[u8]) -> Result<(), BenchFault>
     requires { IsOf queue.now appender.old }
