@@ -2,9 +2,10 @@
 use crate::images::{HELLO, NINE};
 use crate::steps::{
     DAY, Failing, MOST_BYTES, Step, Unprinted, expect, expect_each, expect_failing, said_anew,
+    said_at, said_by,
 };
 use cq_fixtures::expect_text;
-use cq_folder::FolderFault;
+use cq_folder::{Folder, FolderFault, MemoryFolder};
 use std::alloc::{AllocError, Global};
 use std::test::Fail;
 
@@ -511,75 +512,76 @@ static PUT: [(&str, &[u8], &str); 8] = [
     (
         "queue.cqc",
         b"cq 1\nroll weekly\n",
-        "cq: queue.cqc: line 2cq: queue.cqc: line 2cq: queue.cqc: line 2",
+        "cq: queue.cqc: line 2|cq: queue.cqc: line 2|cq: queue.cqc: line 2",
     ),
     (
         "queue.cqc",
         b"cq 1\nroll daily\nepoch 0\ncells 30\ncount 8\nspacing 1\ncycles 0\n",
-        "cq: BadShapecq: BadShapecq: BadShape",
+        "cq: BadShape|cq: BadShape|cq: BadShape",
     ),
     (
         "queue.cqc",
         b"cq 1\nroll daily\nepoch 0\ncells 64\ncount 8\nspacing 1\ncycles 0\n",
-        "cq: BadConfigcq: BadConfigcq: BadConfig",
+        "cq: BadConfig|cq: BadConfig|cq: BadConfig",
     ),
     (
         "0.cqi",
         b"",
-        "cq: 0.cqi: bad cycle namecq: 0.cqi: bad cycle namecq: 0.cqi: bad cycle name",
+        "cq: 0.cqi: bad cycle name|cq: 0.cqi: bad cycle name|cq: 0.cqi: bad cycle name",
     ),
     (
         "notes.txt",
         b"x",
-        "19700101.cqi: 1 messages, open\n0000000000000000 hello\n",
+        "19700101.cqi: 1 messages, open\n|0000000000000000 hello\n|",
     ),
     (
         "19700102.cqi",
         b"x",
-        "19700101.cqi: 1 messages, open\n19700102.cqi: Cut at 0\ncq: images at fault\
-cq: 19700102.cqi: Cut at 0cq: 19700102.cqi: Cut at 0",
+        "19700101.cqi: 1 messages, open\n19700102.cqi: Cut at 0\ncq: images at fault|\
+cq: 19700102.cqi: Cut at 0|cq: 19700102.cqi: Cut at 0",
     ),
     (
         "19700102.cqi",
         b"",
-        "19700101.cqi: 1 messages, open\n19700102.cqi: 0 messages, open\n\
-cq: 19700101.cqi: wrong endcq: 19700101.cqi: wrong end",
+        "19700101.cqi: 1 messages, open\n19700102.cqi: 0 messages, open\n|\
+cq: 19700101.cqi: wrong end|cq: 19700101.cqi: wrong end",
     ),
     (
         "19700102.cqi",
         &[0, 0, 0, 0xC0],
-        "19700101.cqi: 1 messages, open\n19700102.cqi: 0 messages, ended\n\
-cq: 19700101.cqi: wrong endcq: 19700101.cqi: wrong end",
+        "19700101.cqi: 1 messages, open\n19700102.cqi: 0 messages, ended\n|\
+cq: 19700101.cqi: wrong end|cq: 19700101.cqi: wrong end",
     ),
 ];
 
-/// What is said in a folder with "hello" in cycle 0, and by `check`, `read` and `write` where this file was put.
+/// What `check`, `read` and `write` say where this file was put.
 fn said_beside(
     alloc: Global,
     file: &'static str,
     bytes: &'static [u8],
 ) -> Result<String, FolderFault> {
-    let steps = [
+    let mut folder = MemoryFolder::new(alloc);
+    let before = [
         Step::Queue(4),
         Step::Write(0, b"hello\n"),
         Step::Put(file, bytes),
-        Step::Check,
-        Step::Read(false, None),
-        Step::Write(0, b""),
     ];
-    said_anew(alloc, &steps)
+    said_by(alloc, &mut folder, &before)?;
+    said_apart(alloc, &mut folder)
 }
 
-/// What is said there where this is said of the file.
-fn wanted_beside(alloc: Global, want: &str) -> Result<String, AllocError> {
-    format!(in alloc; "0000000000000000\n{want}")
+/// What `check`, `read` and `write` say over a folder, with a bar between.
+fn said_apart<F: Folder>(alloc: Global, folder: &mut F) -> Result<String, FolderFault> {
+    let checked = said_at(alloc, folder, &Step::Check)?;
+    let read = said_at(alloc, folder, &Step::Read(false, None))?;
+    let written = said_at(alloc, folder, &Step::Write(0, b""))?;
+    Ok(format!(in alloc; "{checked}|{read}|{written}")?)
 }
 
 #[test]
 fn tells_the_first_fault(rt: HostRuntime) -> Result<(), Fail> {
     for &(file, bytes, want) in &PUT {
-        let wanted = wanted_beside(rt.alloc(), want)?;
-        expect_text(said_beside(rt.alloc(), file, bytes)?, wanted.as_str())?;
+        expect_text(said_beside(rt.alloc(), file, bytes)?, want)?;
     }
     Ok(())
 }

@@ -106,7 +106,14 @@ pub fn said_at<F: Folder>(
         Step::Fill(file, byte, count) => filled(alloc, folder, file, byte, count),
         Step::Patch(file, at, bytes) => patched(alloc, folder, file, at, bytes),
         Step::Cut(file, len) => cut(alloc, folder, file, len),
-        command => printed(alloc, folder, &command),
+        Step::Write(..)
+        | Step::Read(..)
+        | Step::Take(_)
+        | Step::Drop(_)
+        | Step::Check
+        | Step::Dump(_)
+        | Step::Salvage(_)
+        | Step::Migrate => printed(alloc, folder, step),
     }
 }
 
