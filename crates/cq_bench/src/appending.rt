@@ -1,5 +1,5 @@
 //! Messages are appended to a queue that others may write to.
-ghost use Rattle.std.specs.Prelude.{◌≡◌, ◌+◌, ◌≤◌, OnOk};
+ghost use Rattle.std.specs.Prelude.{◌≡◌, ◌+◌, ◌<◌, ◌≤◌, OnOk};
 ghost use Rattle.cq_bench.specs.Counts.{messages_appended};
 ghost use Rattle.cq_words.specs.Values.{IsOf};
 
@@ -98,13 +98,11 @@ fn append_rest(
     bytes: &[u8],
     count: u32,
 ) -> Result<(), BenchFault>
-    requires { IsOf queue.now appender.old }
+    requires of { IsOf queue.now appender.old }
+    requires some { 0 < count }
     ensures of { IsOf queue.now appender.new }
     ensures appended { OnOk result (messages_appended appender.old + count ≤ messages_appended appender.new) }
 {
-    if count == 0 {
-        return Ok(());
-    }
     append_again(queue, appender, bytes)?;
     for _ in 1..count {
         append_one(queue, appender, bytes)?;
