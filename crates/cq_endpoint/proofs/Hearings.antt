@@ -1,5 +1,5 @@
 -- What is heard through notes.
-use Rattle.std.proofs.Common.{◌≡◌, ℕ, ◌≤◌, List, [], ◌++◌, ap, append-nil, append_assoc, arith, subst, sym, ◌∙◌}
+use Rattle.std.proofs.Common.{◌≡◌, ℕ, ◌≤◌, List, [], ap, append-nil, arith, subst, sym, ◌∙◌}
 use Rattle.cq_endpoint.specs.Endpoints.{EndpointFacts, split_once}
 use Rattle.cq_endpoint.specs.Meetings.{EndpointHears, EndpointsMet, Exchanges, Hears, MakesNone, Told, WorkHears, WorkMeets, WorkTold}
 use Rattle.cq_endpoint.specs.declared.work.Work.{Work}
@@ -8,13 +8,7 @@ use Rattle.cq_model.specs.declared.history.Entry.{Entry}
 use Rattle.cq_shown.specs.Plans.{StartsWith}
 use Rattle.cq_tail.specs.Tailers.{TailerFacts}
 use Rattle.cq_words.specs.Values.{CallerFacts, Met}
-
--- one history begins with another that begins with a third
-starts_on : (h k l : List Entry) → StartsWith h k → StartsWith k l → StartsWith h l
-starts_on h k l one two = (
-  two.0 ++ one.0,
-  one.1 ∙ (ap (λ (m : List Entry). m ++ one.0) two.1 ∙ append_assoc l two.0 one.0),
-)
+use Rattle.cq_words.proofs.Moves.{starts_so}
 
 -- what a caller is told that meets a note
 pub told_of : (n m v w : CallerFacts) → Met v n w m → Told n m v w
@@ -27,6 +21,7 @@ told_of n m v w met =
         children = met.first.children;
         mine = met.first.mine;
         claim = met.first.claim;
+        side = met.first.side;
       };
       seen = met.first.seen;
       told = met.other;
@@ -44,8 +39,8 @@ told_wider n m o p v w front low back high t =
     record {
       none = t.none;
       seen = t.seen;
-      told = starts_on w.view.seen n.view.seen o.view.seen t.told front;
-      tells = starts_on p.view.seen m.view.seen w.view.seen back t.tells;
+      told = starts_so w.view.seen n.view.seen o.view.seen t.told front;
+      tells = starts_so p.view.seen m.view.seen w.view.seen back t.tells;
       ends = (ends.0, omega (arith, one, low), omega (arith, two, high));
     }
 
@@ -55,6 +50,10 @@ none_on u v w a b = record {
   children = b.children ∙ a.children;
   mine = b.mine ∙ a.mine;
   claim = b.claim ∙ a.claim;
+  side = record {
+    filled = λ x has. b.side.filled x (a.side.filled x has);
+    reached = λ r has. b.side.reached r (a.side.reached r has);
+  };
 }
 
 -- a caller that meets a note before it has come round, and once it has
@@ -67,9 +66,9 @@ module _ (n m o p : CallerFacts) (heard : List Entry) (end : ℕ) (comes : Start
       let takes = b.ends.1 in
       record {
         none = none_on u v w a.none b.none;
-        brought = starts_on heard m.view.seen u.view.seen comes
-            (starts_on m.view.seen v.view.seen u.view.seen a.tells a.seen);
-        seen = starts_on w.view.seen o.view.seen heard b.told goes;
+        brought = starts_so heard m.view.seen u.view.seen comes
+            (starts_so m.view.seen v.view.seen u.view.seen a.tells a.seen);
+        seen = starts_so w.view.seen o.view.seen heard b.told goes;
         ends = (omega (arith, first, brings, low), omega (arith, takes, high));
       }
 
@@ -93,7 +92,7 @@ module _ (n m o p : CallerFacts) (heard : List Entry) (end : ℕ) (comes : Start
 note_on : (n m v w : CallerFacts) → Met v n w m → StartsWith m.view.seen n.view.seen × (n.seen_end ≤ m.seen_end)
 note_on n m v w met =
     let greatest = met.ends.1 in
-    (starts_on m.view.seen w.view.seen n.view.seen met.back met.other, omega (arith, greatest))
+    (starts_so m.view.seen w.view.seen n.view.seen met.back met.other, omega (arith, greatest))
 
 -- or an appender
 pub work_note : (n m : CallerFacts) (v w : Work) → WorkMeets v n w m
@@ -133,7 +132,7 @@ exchanges n k m old new queue parent first stays second =
       stays = stays;
       reader = told_wider k m n m old.tailer.caller new.tailer.caller one.0 one.1 ([], sym (append-nil m.view.seen))
           (omega arith) (told_of k m old.tailer.caller new.tailer.caller second);
-      note = starts_on m.view.seen k.view.seen n.view.seen two.0 one.0;
+      note = starts_so m.view.seen k.view.seen n.view.seen two.0 one.0;
       note_end = omega (arith, low, high);
     }
 
