@@ -7,9 +7,10 @@ use crate::endpoint::Endpoint;
 use cq_words::Caller;
 
 impl Endpoint {
-    /// Afterwards the tailers of both endpoints have seen one history that begins with what each of them and both appenders had
-    /// seen, and an end that is at least what each had seen; so have those appenders that have begun no message. It is no
-    /// call, and never refused. Both are of one queue, as one is that was split off the other.
+    /// Afterwards the tailers of both endpoints, and those of the appenders that have begun no message, have seen one history that
+    /// begins with what each of these had seen, and an end that is at least what each had seen. An appender that has begun a
+    /// message takes no part: it stays as it was, and what it had seen is not brought along. It is no call, and never refused. Both
+    /// are of one queue, as one is that was split off the other.
     pub fn meet(&mut self, other: &mut Endpoint)
         requires { other.old.queue ≡ self.old.queue }
         ensures { EndpointsMet self.old other.old self.new other.new }

@@ -1,5 +1,5 @@
 //! Declared names, their positions, and takes.
-ghost use Rattle.std.specs.Prelude.{◌≡◌, ◌≤◌, IfErr, IfOk, OnErr};
+ghost use Rattle.std.specs.Prelude.{◌≤◌, IfErr, IfOk, OnErr};
 ghost use Rattle.cq_endpoint.specs.Endpoints.{ChangesTailer};
 ghost use Rattle.cq_endpoint.specs.Faults.{SeekFails};
 ghost use Rattle.cq_tail.specs.Names.{NameFails, Seeks, TakeFails, Takes, TellsPosition};
