@@ -1,5 +1,4 @@
 //! Threads that share a queue.
-ghost use Rattle.std.specs.Prelude.{◌≡◌, None};
 ghost use Rattle.cq_words.specs.Values.{IsOf};
 
 use cq_append::Appender;
