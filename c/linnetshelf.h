@@ -250,8 +250,8 @@ uint32_t linnetshelf_saved_set_position(linnetshelf_handle *saved, uint32_t k, u
 uint32_t linnetshelf_saved_set_floor(linnetshelf_handle *saved, uint32_t floor);
 
 /* Makes a queue of what is saved, with its last cycle current, and hands out its first endpoint. What is saved stays as it is.
- * BAD_CONTENTS: the last cycle has ended, there is none or there are too many, cycles do not rise, a position is behind the end,
- * or the floor behind the last cycle. OUT_OF_MEMORY. */
+ * BAD_CONTENTS: the last cycle has ended, there is none or there are too many, cycles do not rise, one of them is a cycle that
+ * these settings cannot have, a position is behind the end, or the floor behind the last cycle. OUT_OF_MEMORY. */
 uint32_t linnetshelf_open(linnetshelf_handle *saved, linnetshelf_handle *out);
 
 /* Texts. */
