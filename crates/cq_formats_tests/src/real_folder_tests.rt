@@ -387,7 +387,7 @@ fn a_save_that_was_stopped_is_finished(rt: HostRuntime) -> Result<(), Fail> {
 }
 
 /// A record that is none keeps everybody out, and changes nothing.
-static FAULTY: [(Step, &str); 11] = [
+static FAULTY: [(Step, &str); 31] = [
     (Step::Put("1.cqi.9.part", "new"), ""),
     (Step::Put("queue.save", "cq save 1\n9\n../1.cqi\nend\n"), ""),
     (Step::Begin(Access::Shared), "Device"),
@@ -397,6 +397,35 @@ static FAULTY: [(Step, &str); 11] = [
     (Step::Put("queue.save", "cq save 2\n9\n1.cqi\nend\n"), ""),
     (Step::Begin(Access::Alone), "Device"),
     (Step::Put("queue.save", "cq save 1\nx\n1.cqi\nend\n"), ""),
+    (Step::Begin(Access::Alone), "Device"),
+    (Step::Put("queue.save", "cq save 1\n9\n1.cqiend\n"), ""),
+    (Step::Begin(Access::Alone), "Device"),
+    (
+        Step::Put("queue.save", "cq save 1\r\n9\r\n1.cqi\r\nend\n"),
+        "",
+    ),
+    (Step::Begin(Access::Alone), "Device"),
+    (Step::Put("queue.save", "cq save 1\n+9\n1.cqi\nend\n"), ""),
+    (Step::Begin(Access::Alone), "Device"),
+    (Step::Put("queue.save", "cq save 1\n009\n1.cqi\nend\n"), ""),
+    (Step::Begin(Access::Alone), "Device"),
+    (
+        Step::Put("queue.save", "cq save 1\n4294967296\n1.cqi\nend\n"),
+        "",
+    ),
+    (Step::Begin(Access::Alone), "Device"),
+    (Step::Put("queue.save", "cq save 1\n9\nend\n"), ""),
+    (Step::Begin(Access::Alone), "Device"),
+    (Step::Put("queue.save", "cq save 1\n9\n1.cqi\n\nend\n"), ""),
+    (Step::Begin(Access::Alone), "Device"),
+    (
+        Step::Put("queue.save", "cq save 1\n9\n1.cqi\nend\nend\n"),
+        "",
+    ),
+    (Step::Begin(Access::Alone), "Device"),
+    (Step::Put("queue.save", "cq save 1\n9\n1.cqi\nend\n\n"), ""),
+    (Step::Begin(Access::Alone), "Device"),
+    (Step::Put("queue.save", "cq save 1\n9\n1.cqi\nend"), ""),
     (Step::Begin(Access::Alone), "Device"),
     (Step::Listed, "1.cqi.9.part queue.save "),
 ];

@@ -1,4 +1,4 @@
-ghost use Rattle.std.specs.Prelude.{◌≡◌, ◌↔◌, All, IfOk, IfSome, IsTrue, string_bytes};
+ghost use Rattle.std.specs.Prelude.{◌≡◌, ◌↔◌, ◌<◌, All, IfOk, IfSome, IsTrue, string_bytes, vec_len};
 ghost use Rattle.std.specs.List.{list_any};
 ghost use Rattle.std.specs.Str.{bytes_eq};
 ghost use Rattle.cq_real_folder.specs.Record.{IsFileName, record_text};
@@ -38,8 +38,25 @@ impl Record {
         Ok(text)
     }
 
-    /// The record with this text; `None` where it is none.
+    /// The record whose text this is, which names a file at least; `None` where there is none. Takes memory for the names, and for the
+    /// text once more. Answers `AllocError` where there is not so much.
     pub fn read(alloc: Global, text: &[u8]) -> Result<Option<Record>, AllocError>
+        ensures form { IfOk result (λ read. IfSome read (λ found. text.now ≡ record_text found.process found.names.items)) }
+        ensures some { IfOk result (λ read. IfSome read (λ found. 0 < vec_len found.names)) }
+        ensures names { IfOk result (λ read. IfSome read (λ found.
+            All (λ name. IsFileName (string_bytes name)) found.names.items)) }
+    {
+        let Some(record) = Record::of_lines(alloc, text)? else {
+            return Ok(None);
+        };
+        if record.names.is_empty() || record.text(alloc)?.as_bytes() != text {
+            return Ok(None);
+        }
+        Ok(Some(record))
+    }
+
+    /// The process and the names on the lines of a text, whose form is not looked at closely.
+    fn of_lines(alloc: Global, text: &[u8]) -> Result<Option<Record>, AllocError>
         ensures { IfOk result (λ read. IfSome read (λ found.
             All (λ name. IsFileName (string_bytes name)) found.names.items)) }
     {

@@ -1,7 +1,7 @@
 use Rattle.std.proofs.Common.{All, Global, List, String, string_bytes, subst, sym}
 use Rattle.std.proofs.lemmas.List.Elements.{All-push}
 use Rattle.cq_real_folder.specs.Record.{IsFileName}
-use Rattle.cq_real_folder.proofs.record.Record.read.Goals as goal
+use Rattle.cq_real_folder.proofs.record.Record.of_lines.Goals as goal
 
 pub loop-name-preserved : goal.loop-name-preserved
 loop-name-preserved c =
