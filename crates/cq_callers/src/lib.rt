@@ -1,4 +1,4 @@
-//! How the types of a queue are called: a caller of each, proved, and run by a test. `docs/CALLING.md` shows them.
+//! How the types of a shared queue are called: a caller of each, proved, and run by a test. `docs/CALLING.md` shows them.
 #![tactic(auto)]
 
 mod copying;
