@@ -49,7 +49,7 @@ impl From<AllocError> for ParseFault {
 
 /// The order in the words of a command line, of which the first is the program's name.
 ///
-/// Answers `NotUnderstood` where the words are no order, and where they ask for help.
+/// Answers `NotUnderstood` where the words are no order, and where they ask for help, and `OutOfMemory` where a growth was refused.
 pub fn parse(alloc: Global, words: &[String]) -> Result<Order, ParseFault>
     // An order is the command that the words name.
     ensures named { IfOk result (λ order.

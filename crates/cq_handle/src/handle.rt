@@ -21,7 +21,7 @@ impl Model for Handle {
 }
 
 impl Handle {
-    /// A handle of this.
+    /// A handle of this. Answers `AllocError` where no memory is left for it; it is dropped then.
     pub fn new(alloc: Global, held: Held) -> Result<Handle, AllocError>
         ensures { IfOk result (λ handle. handle.held ≡ held) }
     {

@@ -9,13 +9,14 @@ use cq_endpoint::{
 };
 use cq_layout::Refusal;
 
-/// What a call answers that names a message, a position, a cycle or a length.
+/// What a call answers that tells more than how it went. What it does not tell is 0.
 #[repr(C)]
 #[derive(Clone, Copy)]
 pub struct Answer {
-    /// The index of a message, a position, a cycle or an end.
+    /// The index of a message, a position, an end, a cycle, a floor or a count, 1 for a cycle that has ended, or the byte at which
+    /// an image is at fault, as the call says.
     pub index: u64,
-    /// The length of a message in bytes.
+    /// The length of a message or an image in bytes, or the one that the room has to have.
     pub length: u32,
     /// How it went: the number of a `Status`.
     pub status: u32,
