@@ -1,15 +1,15 @@
 //! Words of a line, and lines of a text.
 
-ghost use Rattle.std.specs.Prelude.{◌≡◌, ◌≢◌, ◌==◌, ◌++◌, ◌∷◌, ◌<◌, ◌≤◌, ◌^◌, ◌↔◌, ℕ, [], length, IfSome, IfNone, IsSome, IsTrue, Some, slice_index};
+ghost use Rattle.std.specs.Prelude.{◌≡◌, ◌≢◌, ◌==◌, ◌++◌, ◌∷◌, ◌<◌, ◌≤◌, ◌^◌, ℕ, [], length, IfSome, IfNone, IsSome, IsTrue, Some, slice_index};
 ghost use Rattle.std.specs.Fmt.{decimal};
 ghost use Rattle.std.specs.List.{slice_split};
 ghost use Rattle.std.specs.Str.{IsUtf8};
 ghost use Rattle.cq_cycle.specs.RollWord.{roll_word};
 ghost use Rattle.cq_cycle.specs.declared.roll.Roll.{Roll};
-ghost use Rattle.cq_model.specs.Settings.{IsNameByte};
 ghost use Rattle.cq_config_text.specs.ConfigText.{IsNameWord};
 
 use cq_cycle::{Roll, roll_named};
+use cq_model::is_name_byte;
 use std::str;
 
 /// What stands before the first mark in some bytes, and what stands behind it.
@@ -91,12 +91,6 @@ pub(crate) fn name_of(word: &[u8]) -> Option<&str>
         return None;
     }
     text_of(word)
-}
-
-fn is_name_byte(byte: u8) -> bool
-    ensures { IsTrue result ↔ IsNameByte byte }
-{
-    matches!(byte, b'A'..=b'Z' | b'a'..=b'z' | b'0'..=b'9' | b'_' | b'-' | b'.')
 }
 
 /// Some bytes as a text, if they are one.
