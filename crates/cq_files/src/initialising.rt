@@ -6,11 +6,10 @@ ghost use Rattle.cq_files.specs.Initialised.{HasQueue, IsInitFault, IsInitialTex
 ghost use Rattle.cq_files.specs.Counted.{CountsFaults};
 
 use crate::files::{CONFIG_FILE, has_name, listed, write_file};
-use crate::names::copied_names;
 use cq_config_text::{FolderVersion, WantedConfig, write_config};
 use cq_cycle::{Roll, roll_named};
 use cq_folder::{Access, Folder};
-use cq_model::Config;
+use cq_model::{Config, copied_names};
 use cq_orders::InitSettings;
 use cq_text::ToolFault;
 use std::alloc::Global;
