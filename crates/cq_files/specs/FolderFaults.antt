@@ -3,6 +3,7 @@ use Rattle.std.specs.Prelude.{◌≡◌, ◌⊎◌, ⊤, ℕ, ◌+◌, true, fal
 use Rattle.std.specs.List.{AllByRecursion}
 use Rattle.std.specs.declared.cmp.Ordering.TheVariants.{Less}
 use Rattle.cq_cycle.specs.declared.roll.TheConstants.{LAST_CYCLE}
+use Rattle.cq_layout.specs.Shape.{IsLawfulShape}
 use Rattle.cq_model.specs.Settings.{IsLawfulSettings, Settings}
 use Rattle.cq_image.specs.declared.fault.ImageFault.{ImageFault}
 use Rattle.cq_image.specs.Reading.{read_of}
@@ -42,6 +43,13 @@ IsSaveFault OutOfMemory = ⊤
 IsSaveFault (FileFault file) = ⊤
 IsSaveFault WriteFault = ⊤
 IsSaveFault _ = ⊥
+
+-- why settings are refused: their limits, of which the shape's come first
+abbrev pub IsLimitFault : Settings → ToolFault → Type 0
+IsLimitFault settings OutOfMemory = ⊤
+IsLimitFault settings BadShape = ¬ IsLawfulShape settings.shape
+IsLimitFault settings BadConfig = IsLawfulShape settings.shape × ¬ IsLawfulSettings settings
+IsLimitFault settings _ = ⊥
 
 -- an image ends wrongly: it is open before the last, or ended at the last
 abbrev pub EndsWronglyAt : List CycleImage → ℕ → CycleImage → Type 0

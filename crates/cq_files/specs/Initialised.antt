@@ -1,15 +1,15 @@
 -- What `init` makes of its settings.
 use Rattle.std.specs.Prelude.{◌≡◌, ◌⊎◌, ⊤, ℕ, List, length, replicate, Option, IfSome, IsSome, codes, string_bytes}
-use Rattle.cq_layout.specs.Shape.{IsLawfulShape, Measures, measures}
+use Rattle.cq_layout.specs.Shape.{Measures, measures}
 use Rattle.cq_cycle.specs.declared.roll.Roll.{Roll}
 use Rattle.cq_cycle.specs.RollWord.{roll_word}
 use Rattle.cq_model.specs.Settings.{IsLawfulSettings, Settings, new_settings, texts}
 use Rattle.cq_config_text.specs.ConfigText.{IsTextOf}
 use Rattle.cq_folder.specs.Folder.{Files}
 use Rattle.cq_text.specs.declared.fault.ToolFault.{ToolFault}
-use Rattle.cq_text.specs.declared.fault.ToolFault.TheVariants.{BadConfig, BadShape, FolderFault, OutOfMemory, QueueThereAlready}
+use Rattle.cq_text.specs.declared.fault.ToolFault.TheVariants.{BadConfig, FolderFault, OutOfMemory, QueueThereAlready}
 use Rattle.cq_orders.specs.declared.settings.InitSettings.{InitSettings}
-use Rattle.cq_files.specs.FolderFaults.{IsFileFault, IsSaveFault}
+use Rattle.cq_files.specs.FolderFaults.{IsFileFault, IsLimitFault, IsSaveFault}
 
 -- the measures that were asked for
 abbrev pub wanted_shape : InitSettings → Measures
@@ -49,17 +49,9 @@ IsListingFault files _ = ⊥
 abbrev pub IsNew : Option Files → Type 0
 IsNew files = IfSome files (λ held. ¬ HasQueue held)
 
--- why the settings are refused: their limits, of which the shape's come first
-abbrev pub IsLimitFault : InitSettings → Roll → ToolFault → Type 0
-IsLimitFault wanted roll OutOfMemory = ⊤
-IsLimitFault wanted roll BadShape = ¬ IsLawfulShape (wanted_settings wanted roll).shape
-IsLimitFault wanted roll BadConfig =
-    IsLawfulShape (wanted_settings wanted roll).shape × ¬ IsLawfulSettings (wanted_settings wanted roll)
-IsLimitFault wanted roll _ = ⊥
-
 -- why no queue is made in a new folder: the settings are refused, or they are lawful and the file is at fault
 abbrev pub IsMakingFault : InitSettings → Roll → ToolFault → Type 0
-IsMakingFault wanted roll fault = IsLimitFault wanted roll fault
+IsMakingFault wanted roll fault = IsLimitFault (wanted_settings wanted roll) fault
     ⊎ (IsLawfulSettings (wanted_settings wanted roll) × IsFileFault (codes "queue.cqc") fault × IsSaveFault fault)
 
 -- why no queue is made: no roll has the word; else the folder is not found new; else it is, and the settings or the file are

@@ -2,7 +2,7 @@
 use Rattle.std.specs.Prelude.{◌≡◌, ◌⊎◌, ⊤, ℕ, ◌+◌, ◌≤◌, List, [], ◌∷◌, ◌++◌, Option, IfSome, IsOk, IsSomeAnd, Err, codes, if◌then◌else◌, length, map, string_bytes}
 use Rattle.std.specs.List.{AllByRecursion}
 use Rattle.cq_cycle.specs.declared.roll.TheConstants.{LAST_CYCLE}
-use Rattle.cq_layout.specs.Shape.{Measures, IsLawfulShape, measures}
+use Rattle.cq_layout.specs.Shape.{Measures, measures}
 use Rattle.cq_model.specs.Settings.{IsLawfulSettings, Settings, new_settings}
 use Rattle.cq_image.specs.Image.{AreNext, image_of}
 use Rattle.cq_image.specs.Reading.{read_of}
@@ -14,11 +14,11 @@ use Rattle.cq_config_text.specs.Version.{version_of}
 use Rattle.cq_config_text.specs.declared.config_text.SavedConfig.{SavedConfig}
 use Rattle.cq_config_text.specs.declared.version.FolderVersion.TheVariants.{First, Second}
 use Rattle.cq_text.specs.declared.fault.ToolFault.{ToolFault}
-use Rattle.cq_text.specs.declared.fault.ToolFault.TheVariants.{BadConfig, BadCycleName, BadShape, FaultyImage, FileFault, FileTooLarge, OutOfMemory, WrongEnd}
+use Rattle.cq_text.specs.declared.fault.ToolFault.TheVariants.{BadCycleName, FaultyImage, FileFault, FileTooLarge, OutOfMemory, WrongEnd}
 use Rattle.cq_files.specs.declared.files.TheConstants.{MOST_FILE_BYTES}
 use Rattle.cq_files.specs.declared.opening.CycleImage.{CycleImage}
 use Rattle.cq_files.specs.declared.opening.ImageFile.{ImageFile}
-use Rattle.cq_files.specs.FolderFaults.{EndsWronglyIn, HasCause, HasSettings, HasVersion, IsFirstFault, IsFolderFault, IsReached}
+use Rattle.cq_files.specs.FolderFaults.{EndsWronglyIn, HasCause, HasSettings, HasVersion, IsFirstFault, IsFolderFault, IsLimitFault, IsReached}
 use Rattle.cq_files.specs.Queue.{HaveEnds, IsImageName, ListsImages, file_of}
 
 -- the same settings in version 2, with 3 more cells a cycle
@@ -119,14 +119,6 @@ abbrev pub HasImageCause : Settings → Files → ToolFault → Type 0
 HasImageCause settings files (FaultyImage file fault) = HoldsFaultInEither settings files (string_bytes file) fault
 HasImageCause settings files fault = HasCause files fault
 
--- why no settings of version 2 are made: their limits, of which the shape's come first
-abbrev pub IsMovedLimitFault : Settings → ToolFault → Type 0
-IsMovedLimitFault settings OutOfMemory = ⊤
-IsMovedLimitFault settings BadShape = ¬ IsLawfulShape (moved_settings settings).shape
-IsMovedLimitFault settings BadConfig =
-    IsLawfulShape (moved_settings settings).shape × ¬ IsLawfulSettings (moved_settings settings)
-IsMovedLimitFault settings _ = ⊥
-
 -- why the images of a folder are not moved: the first fault of their names and then of the images; else their ends; else the
 -- files are not saved
 abbrev pub IsMovingFault : Settings → Files → ToolFault → Type 0
@@ -144,7 +136,7 @@ IsMovingFault settings files _ = ⊥
 
 -- why a folder of version 1 that has these settings is not moved: the limits of version 2; else its images
 abbrev pub IsMoveFault : Settings → Files → ToolFault → Type 0
-IsMoveFault settings files fault = IsMovedLimitFault settings fault
+IsMoveFault settings files fault = IsLimitFault (moved_settings settings) fault
     ⊎ (IsLawfulSettings (moved_settings settings) × IsMovingFault settings files fault)
 
 -- the folder is of version 1 and not moved

@@ -85,6 +85,9 @@ pub(crate) fn read_file<F: Folder>(
 }
 
 /// Makes these bytes the whole file of that name.
+///
+/// Answers `FileFault` with that name where the folder does not write it, and then the file has all of these bytes or is as it
+/// was; and `OutOfMemory`, after which it is as it was. No other file changes.
 pub fn write_file<F: Folder>(
     alloc: Global,
     folder: &mut F,

@@ -15,7 +15,7 @@ use std::alloc::Global;
 
 /// An image of a folder that was opened.
 #[derive(Drop)]
-pub struct GivenImage {
+pub(crate) struct GivenImage {
     /// The settings, and the position of each tailer.
     pub saved: SavedConfig,
     /// The file, and its cycle.

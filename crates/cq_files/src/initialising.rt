@@ -1,8 +1,8 @@
 ghost use Rattle.std.specs.Prelude.{◌≡◌, ◌⊎◌, ℕ, List, IfErr, IfOk, IfSome, OnErr, OnOk, codes};
 ghost use Rattle.cq_model.specs.Settings.{IsLawfulSettings};
 ghost use Rattle.cq_folder.specs.Folder.{KeepsFiles, WritesFile};
-ghost use Rattle.cq_files.specs.FolderFaults.{IsSaveFault};
-ghost use Rattle.cq_files.specs.Initialised.{HasQueue, IsInitFault, IsInitialText, IsLimitFault, IsListingFault, IsNew, IsTextFor, wanted_settings};
+ghost use Rattle.cq_files.specs.FolderFaults.{IsLimitFault, IsSaveFault};
+ghost use Rattle.cq_files.specs.Initialised.{HasQueue, IsInitFault, IsInitialText, IsListingFault, IsNew, IsTextFor, wanted_settings};
 ghost use Rattle.cq_files.specs.Counted.{CountsFaults};
 
 use crate::files::{CONFIG_FILE, has_name, listed, write_file};
@@ -62,7 +62,7 @@ fn check_new<F: Folder>(alloc: Global, folder: &mut F) -> Result<(), ToolFault>
 /// The text of `queue.cqc` with these settings.
 fn initial_text(alloc: Global, roll: Roll, settings: &InitSettings) -> Result<Vec<u8>, ToolFault>
     ensures text { IfOk result (λ text. IsTextFor settings.now roll text.items) }
-    ensures fault { IfErr result (IsLimitFault settings.now roll) }
+    ensures fault { IfErr result (IsLimitFault (wanted_settings settings.now roll)) }
 {
     let config = config_for(alloc, roll, settings)?;
     let positions = vec![in alloc; 0; config.names().len()]?;
@@ -73,7 +73,7 @@ fn initial_text(alloc: Global, roll: Roll, settings: &InitSettings) -> Result<Ve
 fn config_for(alloc: Global, roll: Roll, settings: &InitSettings) -> Result<Config, ToolFault>
     ensures config { IfOk result (λ config. (config ≡ wanted_settings settings.now roll)
         × IsLawfulSettings (wanted_settings settings.now roll)) }
-    ensures fault { IfErr result (IsLimitFault settings.now roll) }
+    ensures fault { IfErr result (IsLimitFault (wanted_settings settings.now roll)) }
 {
     let wanted = WantedConfig {
         version: FolderVersion::Second,
