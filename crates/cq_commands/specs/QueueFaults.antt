@@ -1,5 +1,5 @@
 -- Which faults of a folder's queue are answered.
-use Rattle.std.specs.Prelude.{◌≡◌, ◌≢◌, ◌⊎◌, ⊤, ℕ, ◌+◌, ◌-◌, ◌^◌, ◌∷◌, ◌++◌, map, min, ◌<◌, ◌≤◌, List, [], length, slice_get, IsSomeAnd, Option, None, Some, Bool}
+use Rattle.std.specs.Prelude.{◌≡◌, ◌≢◌, ◌⊎◌, ⊤, ℕ, ◌+◌, ◌-◌, ◌^◌, ◌∷◌, ◌++◌, map, min, ◌<◌, ◌≤◌, List, [], length, slice_get, IsSomeAnd, Option, None, Some, Bool, codes}
 use Rattle.cq_layout.specs.Room.{Fits, IsMessageLength}
 use Rattle.cq_layout.specs.Shape.{Measures}
 use Rattle.cq_cycle.specs.Index.{index_text}
@@ -13,7 +13,7 @@ use Rattle.cq_tail.specs.declared.error.TakeFault.{TakeFault}
 use Rattle.cq_tail.specs.declared.error.TakeFault.TheVariants as take
 use Rattle.cq_files.specs.declared.opening.CycleImage.{CycleImage}
 use Rattle.cq_files.specs.declared.opening.SavedQueue.{SavedQueue}
-use Rattle.cq_files.specs.FolderFaults.{IsQueueFault, IsSaveFault}
+use Rattle.cq_files.specs.FolderFaults.{IsQueueFault, IsSaveFault, TellsFile}
 use Rattle.cq_commands.specs.Messages.{IsReadOut, IsStart}
 use Rattle.cq_files.specs.Queue.{CanBeOpened, HoldQueue, IsLawfulQueue, contents_in}
 use Rattle.cq_text.specs.declared.fault.ToolFault.{ToolFault}
@@ -71,13 +71,13 @@ IsReadFault back from files fault = ((fault ≡ BadIndex) × IsSomeAnd from IsNo
 abbrev pub IsNameFault : Settings → List ℕ → ToolFault → Type 0
 IsNameFault settings name fault = (fault ≡ OutOfMemory) ⊎ ((fault ≡ NoSuchName) × ¬ Declares settings name)
 
--- why no message is taken under a name of a queue that was opened: there is no such name; else what was taken is not saved or
--- printed
+-- why no message is taken under a name of a queue that was opened: there is no such name; else what was taken is not saved, and
+-- the file that is told is the configuration, or not printed
 pub record RefusesName (name : List ℕ) (files : Files) (fault : ToolFault) : Type 0 where
   pub queue : SavedQueue
   pub opened : HoldOpenable queue files
   pub cause : ((fault ≡ NoSuchName) × ¬ Declares queue.saved.config name)
-      ⊎ (Declares queue.saved.config name × IsSaveFault fault)
+      ⊎ (Declares queue.saved.config name × IsSaveFault fault × TellsFile (λ file. file ≡ codes "queue.cqc") fault)
 
 -- why no message is taken: the queue is not opened, or it is and the name is at fault, or what was taken
 abbrev pub IsTakeFault : List ℕ → Files → ToolFault → Type 0

@@ -1,9 +1,11 @@
 -- What is left of a folder's files after several calls, of which the last may write.
-use Rattle.std.proofs.Common.{List, [], ◌∷◌, ℕ, ap, inl, inr, refl, ◌∙◌}
+use Rattle.std.proofs.Common.{◌≡◌, List, [], ◌∷◌, ℕ, ap, inl, inr, refl, ◌∙◌}
 use Rattle.std.specs.Prelude.{◌⊎◌, Option, None, Some, IfErr, OnErr, Result, Ok, Err, if◌then◌else◌}
 use Rattle.std.specs.Str.{bytes_eq}
 use Rattle.cq_folder.specs.Folder.{Files, KeepsFiles, KeepsOrWrites, NamedFile, WritesFile, WritesFiles, after_writes}
 use Rattle.cq_text.specs.declared.fault.ToolFault.{ToolFault}
+use Rattle.cq_text.specs.declared.fault.ToolFault.TheVariants.{FileFault}
+use Rattle.cq_files.specs.FolderFaults.{IsFileFault, TellsFile}
 use Rattle.cq_files.proofs.QueueLemmas.{keeps-trans}
 
 -- what holds anyway holds after a fault
@@ -38,6 +40,11 @@ pub kept_or_wrote : (a b c : Option Files) (file bytes : List ℕ) (IsText : Lis
     → KeepsFiles a c ⊎ ((text : List ℕ) × IsText text × WritesFile a c file text)
 kept_or_wrote a b c file bytes IsText is kept (inl same) = inl (keeps-trans a b c kept same)
 kept_or_wrote a b c file bytes IsText is kept (inr done) = inr (bytes, is, kept_then_wrote a b c file bytes kept done)
+
+-- the fault of a file tells its name
+pub tells_file : (name : List ℕ) (fault : ToolFault) → IsFileFault name fault → TellsFile (λ file. file ≡ name) fault
+tells_file name (FileFault file) is = is
+tells_file name _ is = tt
 
 -- a call that keeps all files at some faults, behind calls that keep them
 pub kept_behind : {T : Type 0} (P : ToolFault → Type 0) (a b c : Option Files) (result : Result T ToolFault) → KeepsFiles a b

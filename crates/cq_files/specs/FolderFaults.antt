@@ -44,6 +44,11 @@ IsSaveFault (FileFault file) = ⊤
 IsSaveFault WriteFault = ⊤
 IsSaveFault _ = ⊥
 
+-- a file fault tells the name of a file, of which this holds
+abbrev pub TellsFile : (List ℕ → Type 0) → ToolFault → Type 0
+TellsFile IsName (FileFault file) = IsName (string_bytes file)
+TellsFile IsName _ = ⊤
+
 -- why settings are refused: their limits, of which the shape's come first
 abbrev pub IsLimitFault : Settings → ToolFault → Type 0
 IsLimitFault settings OutOfMemory = ⊤

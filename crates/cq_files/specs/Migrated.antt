@@ -20,6 +20,7 @@ use Rattle.cq_files.specs.declared.opening.CycleImage.{CycleImage}
 use Rattle.cq_files.specs.declared.opening.ImageFile.{ImageFile}
 use Rattle.cq_files.specs.FolderFaults.{EndsWronglyIn, HasCause, HasSettings, HasVersion, IsFirstFault, IsFolderFault, IsLimitFault, IsReached}
 use Rattle.cq_files.specs.Queue.{HaveEnds, IsImageName, ListsImages, file_of}
+use Rattle.cq_files.specs.Saved.{first_file}
 
 -- the same settings in version 2, with 3 more cells a cycle
 abbrev pub moved_settings : Settings → Settings
@@ -120,13 +121,14 @@ HasImageCause settings files (FaultyImage file fault) = HoldsFaultInEither setti
 HasImageCause settings files fault = HasCause files fault
 
 -- why the images of a folder are not moved: the first fault of their names and then of the images; else their ends; else the
--- files are not saved
+-- files are not saved, of which the first is told: an image, or where there is none the configuration
 abbrev pub IsMovingFault : Settings → Files → ToolFault → Type 0
 IsMovingFault settings files OutOfMemory = ⊤
 IsMovingFault settings files (BadCycleName file) =
     HasCause files (BadCycleName file) × IsFirstFault IsWholeInEither files (BadCycleName file)
 IsMovingFault settings files (FileFault file) =
-    IsReached IsWholeInEither files (string_bytes file) ⊎ ((moved : List NamedFile) × AreMovedImages settings files moved)
+    IsReached IsWholeInEither files (string_bytes file) ⊎ ((moved : List NamedFile) × AreMovedImages settings files moved
+    × (string_bytes file ≡ first_file (codes "queue.cqc") moved))
 IsMovingFault settings files (FileTooLarge file) =
     HasCause files (FileTooLarge file) × IsReached IsWholeInEither files (string_bytes file)
 IsMovingFault settings files (FaultyImage file fault) =

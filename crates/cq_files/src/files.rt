@@ -5,7 +5,8 @@ ghost use Rattle.std.specs.List.{list_any};
 ghost use Rattle.std.specs.Str.{bytes_eq};
 ghost use Rattle.cq_model.specs.Settings.{texts};
 ghost use Rattle.cq_folder.specs.Folder.{KeepsFiles, KeepsOrWrites, ListsFiles, WritesFile, WritesFiles, named_file};
-ghost use Rattle.cq_files.specs.FolderFaults.{HasCause, IsFileFault, IsListFault, IsSaveFault};
+ghost use Rattle.cq_files.specs.FolderFaults.{HasCause, IsFileFault, IsListFault, IsSaveFault, TellsFile};
+ghost use Rattle.cq_files.specs.Saved.{first_file};
 ghost use Rattle.cq_text.specs.Faults.{IsDeviceFault};
 ghost use Rattle.cq_files.specs.Counted.{CountsFaults};
 
@@ -118,6 +119,7 @@ pub(crate) fn save_files<F: Folder>(
 ) -> Result<(), ToolFault>
     ensures written { OnOk result (WritesFiles (F.files folder.old) (F.files folder.new) (map named_file changes.now)) }
     ensures save { IfErr result IsSaveFault }
+    ensures first { IfErr result (TellsFile (λ name. name ≡ first_file [] (map named_file changes.now))) }
     ensures unprinted { IfErr result (λ fault. fault ≢ ToolFault.WriteFault) }
     ensures whole { OnErr result (KeepsOrWrites (F.files folder.old) (F.files folder.new) (map named_file changes.now)) }
     ensures scarce { IfErr result (λ fault. fault ≡ ToolFault.OutOfMemory
@@ -132,7 +134,9 @@ pub(crate) fn save_files<F: Folder>(
 }
 
 /// The name of the first of these files.
-fn first_name(alloc: Global, changes: &[NewFile]) -> Result<String, AllocError> {
+fn first_name(alloc: Global, changes: &[NewFile]) -> Result<String, AllocError>
+    ensures { IfOk result (λ name. string_bytes name ≡ first_file [] (map named_file changes.now)) }
+{
     match changes.first() {
         Some(file) => String::from_str(alloc, file.name.as_str()),
         None => Ok(String::new(alloc)),
