@@ -75,9 +75,10 @@ pub record HasVersion (files : Files) (version : FolderVersion) : Type 0 where
   pub low : configured.floor ≤ LAST_CYCLE
   pub told : version_of settings.shape.store ≡ version
 
--- the text of the files' configuration is refused so
+-- the text of the files' configuration, which is small enough to be read, is refused so
 abbrev pub RefusesConfig : Files → ConfigFault → Type 0
-RefusesConfig files fault = IsSomeAnd (files (codes "queue.cqc")) (RefusesText fault)
+RefusesConfig files fault =
+    IsSomeAnd (files (codes "queue.cqc")) (λ text. (length text ≤ MOST_FILE_BYTES) × RefusesText fault text)
 
 -- by the files' configuration no cycle has an image of this name
 pub record NamesNoCycle (files : Files) (file : List ℕ) : Type 0 where
@@ -85,13 +86,14 @@ pub record NamesNoCycle (files : Files) (file : List ℕ) : Type 0 where
   pub configured : HasSettings files settings
   pub none : (cycle : ℕ) → ¬ IsImageName settings cycle file
 
--- by the files' configuration the file is named as the image of a cycle, and the strict reader finds this fault in it
+-- by the files' configuration the file is named as the image of a cycle, it is small enough to be read, and the strict reader
+-- finds this fault in it
 pub record HoldsFault (files : Files) (file : List ℕ) (fault : ImageFault) : Type 0 where
   pub settings : Settings
   pub configured : HasSettings files settings
   pub cycle : ℕ
   pub named : IsImageName settings cycle file
-  pub found : IsSomeAnd (files file) (λ bytes. read_of settings.shape cycle bytes ≡ Err fault)
+  pub found : IsSomeAnd (files file) (λ bytes. (length bytes ≤ MOST_FILE_BYTES) × (read_of settings.shape cycle bytes ≡ Err fault))
 
 -- the first of these images that ends wrongly has this file
 pub record EndsWronglyIn (images : List CycleImage) (file : List ℕ) : Type 0 where

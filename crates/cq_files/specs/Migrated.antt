@@ -96,11 +96,13 @@ pub record IsWholeInEither (files : Files) (settings : Settings) (file : List �
   pub read : IsSomeAnd (files file) (λ bytes. (length bytes ≤ MOST_FILE_BYTES)
       × IsOk (read_of (moving_shape settings bytes) cycle bytes))
 
--- the file is named as the image of a cycle, and the strict reader finds this fault in it, by the version with which it begins
+-- the file is named as the image of a cycle, it is small enough to be read, and the strict reader finds this fault in it, by the
+-- version with which it begins
 pub record HoldsFaultInEither (settings : Settings) (files : Files) (file : List ℕ) (fault : ImageFault) : Type 0 where
   pub cycle : ℕ
   pub named : IsImageName settings cycle file
-  pub found : IsSomeAnd (files file) (λ bytes. read_of (moving_shape settings bytes) cycle bytes ≡ Err fault)
+  pub found : IsSomeAnd (files file) (λ bytes. (length bytes ≤ MOST_FILE_BYTES)
+      × (read_of (moving_shape settings bytes) cycle bytes ≡ Err fault))
 
 -- the images are read, and the first of them that ends wrongly has this file
 pub record EndsWronglyInEither (settings : Settings) (files : Files) (file : List ℕ) : Type 0 where
