@@ -24,21 +24,23 @@ abbrev pub take_fault : TakeFault → ToolFault
 take_fault take.NoSuchName = NoSuchName
 take_fault take.OutOfMemory = OutOfMemory
 
--- why a line begins no cycle behind so many: it is empty, or no cycle is left
-abbrev pub IsFirstLineFault : Settings → ℕ → List ℕ → ToolFault → Type 0
-IsFirstLineFault settings count line (Refused number BadRoom) = (number ≡ 1) × (line ≡ [])
-IsFirstLineFault settings count line (Refused number NoCycleLeft) = (number ≡ 1) × (line ≢ []) × (settings.cycles ≤ count)
-IsFirstLineFault settings count line _ = ⊥
+-- why the first line is refused where no cycle is left for it: it has a length that no message has; else that
+abbrev pub IsFirstLineFault : List ℕ → ToolFault → Type 0
+IsFirstLineFault line (Refused number BadRoom) = (number ≡ 1) × ¬ IsMessageLength (length line)
+IsFirstLineFault line (Refused number NoCycleLeft) = (number ≡ 1) × IsMessageLength (length line)
+IsFirstLineFault line _ = ⊥
 
 -- the cycle is above that of the image
 abbrev pub IsAbove : Option CycleImage → ℕ → Type 0
 IsAbove None cycle = ⊥
 IsAbove (Some image) cycle = image.file.cycle < cycle
 
--- why lines find no cycle: memory ran out, or the first one begins no cycle behind the last of so many
+-- why lines find no cycle: memory ran out, or they would begin one behind the last of so many, none is left, and the first
+-- line is refused
 abbrev pub IsRollFault : Settings → Option CycleImage → ℕ → ℕ → List (List ℕ) → ToolFault → Type 0
 IsRollFault settings last count cycle lines fault = (fault ≡ OutOfMemory)
-    ⊎ (IsAbove last cycle × ((line : List ℕ) × (slice_get lines 0 ≡ Some line) × IsFirstLineFault settings count line fault))
+    ⊎ (IsAbove last cycle × (settings.cycles ≤ count)
+    × ((line : List ℕ) × (slice_get lines 0 ≡ Some line) × IsFirstLineFault line fault))
 
 -- the files hold a queue that cannot be opened
 pub record HoldsBadContents (files : Files) : Type 0 where
