@@ -98,15 +98,6 @@ counted-same ms read count m counted misses = record {
   longest = longest-same ms read count m counted misses;
 }
 
-none-longest : (ms : List (List ℕ)) (more : ℕ) → more ≤ length ms → IsWithin (take more ms) [] → more ≤ 0
-none-longest ms zero low within = omega arith
-none-longest (m ∷ ms) (suc k) low within = absurd within
-none-longest [] (suc k) low within = absurd (omega (arith, low))
-
--- none was read
-pub counted-none : (ms : List (List ℕ)) → IsInOrder ms [] 0
-counted-none ms = record { most = omega arith; within = tt; longest = none-longest ms }
-
 take-shorter : (ms read : List (List ℕ)) (a b : ℕ) → a ≤ b → IsWithin (take b ms) read → IsWithin (take a ms) read
 take-shorter ms read zero b low within = tt
 take-shorter [] read (suc a) b low within = tt
