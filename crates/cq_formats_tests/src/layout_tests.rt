@@ -2,8 +2,9 @@
 
 ghost use Rattle.std.specs.Prelude.{◌≤◌};
 
+use crate::image_tests::DAYS;
 use cq_fixtures::{expect, expect_row, expect_text};
-use cq_layout::{BadShape, Origin, Shape, cells_for, fits, needs, pack, unpack};
+use cq_layout::{BadShape, Shape, cells_for, fits, needs, pack, unpack};
 use std::alloc::{AllocError, Global};
 use std::test::Fail;
 
@@ -109,15 +110,30 @@ fn messages_fit_up_to_the_end_of_data() -> Result<(), Fail> {
 
 #[test]
 fn a_store_record_of_version_2_takes_three_cells_more() -> Result<(), Fail> {
-    let shape = Shape::new(64, 8, 1)?.with_origin(Origin {
-        epoch: 0,
-        roll_length: 86_400_000,
-    });
+    let shape = Shape::new(64, 8, 1)?.with_origin(DAYS);
     expect_row(needs(shape, &[5]) == 31, 1)?;
     expect_row(needs(shape, &[5; 8]) == 52, 8)?;
     expect(fits(shape, &[5; 7], 5), "an eighth message fits")?;
     expect(!fits(shape, &[5; 8], 5), "a ninth message does not fit")?;
     expect(fits(shape, &[5; 8], 4), "a ninth message of one cell fits")
+}
+
+/// What so many messages of 128 bytes need in a cycle of this shape.
+#[tactic(auto, using(std::proofs::lemmas::Grind::pieces))]
+fn need_of(alloc: Global, shape: Shape, count: usize) -> Result<u64, Fail>
+    requires { count ≤ 1000 }
+{
+    let lengths = vec![in alloc; 128; count]?;
+    Ok(needs(shape, &lengths))
+}
+
+#[test]
+fn a_thousand_messages_need_cells(rt: HostRuntime) -> Result<(), Fail> {
+    // Beside 33 cells for each message: the top table and 32 index tables of 33 cells each, and the store record of 7 or 10.
+    let first = Shape::new(65_536, 32, 1)?;
+    let second = first.with_origin(DAYS);
+    expect_row(need_of(rt.alloc(), first, 1000)? == 34_096, 1)?;
+    expect_row(need_of(rt.alloc(), second, 1000)? == 34_099, 2)
 }
 
 /// Whether a message of one byte fits behind so many others in a cycle of 4,096 cells.
