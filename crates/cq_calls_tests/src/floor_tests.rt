@@ -83,3 +83,31 @@ static MOVED: [Life; 1] = [Life {
 fn moves_and_takes_pass_over_cycles_that_were_dropped(rt: HostRuntime) -> Result<(), Fail> {
     assert_lives(&rt, rt.alloc(), &MOVED)
 }
+
+/// A message that is begun before a cycle is dropped and completed behind it, with snapshots around that.
+static COPIED: [Life; 1] = [Life {
+    cycles: 4,
+    start: Start::New(0),
+    calls: &[
+        Call::Append(0, "a"),
+        Call::Append(5 * DAY, "b"),
+        Call::Begin(0, 1),
+        Call::ReadAt(21474836480),
+        Call::DropBefore(5),
+        Call::Snapshot,
+        Call::Put("c"),
+        Call::Snapshot,
+        Call::Complete,
+        Call::Snapshot,
+        Call::ReadAt(0),
+        Call::Next,
+    ],
+    end: End::Stopped,
+    answers: "0; 21474836480; begun; 21474836480 b; floor 5; 0[a;] 5[b;] ; put; 0[a;] 5[b;] ; 21474836481; \
+0[a;] 5[b;c;] ; Gone; 21474836480 b; 0[a;] 5[b;c;] at [0] floor 5",
+}];
+
+#[test]
+fn snapshots_give_cycles_that_were_dropped(rt: HostRuntime) -> Result<(), Fail> {
+    assert_lives(&rt, rt.alloc(), &COPIED)
+}
