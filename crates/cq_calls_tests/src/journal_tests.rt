@@ -221,7 +221,17 @@ fn no_journal_begins_after_the_last_moment(rt: HostRuntime) -> Result<(), Fail> 
     assert_rows(&rt, rt.alloc(), &TOO_LATE_TO_BEGIN)
 }
 
-static HELD: [Row; 5] = [
+/// As many messages as fit into a cycle.
+const EIGHT: &[&str] = &[
+    "hello", "hello", "hello", "hello", "hello", "hello", "hello", "hello",
+];
+
+/// One more.
+const NINE: &[&str] = &[
+    "hello", "hello", "hello", "hello", "hello", "hello", "hello", "hello", "hello",
+];
+
+static HELD: [Row; 10] = [
     Row {
         cycles: 4,
         start: Start::Held(&[], &[0]),
@@ -249,6 +259,41 @@ static HELD: [Row; 5] = [
     Row {
         cycles: 4,
         start: Start::Held(&[(0, &["a"])], &[0, 0]),
+        work: Work::Write(&[]),
+        answers: "BadContents",
+    },
+    // A position for each name.
+    Row {
+        cycles: 4,
+        start: Start::Held(&[(0, &["a"])], &[]),
+        work: Work::Write(&[]),
+        answers: "BadContents",
+    },
+    // No more cycles than the queue may have.
+    Row {
+        cycles: 1,
+        start: Start::Held(&[(0, &["a"]), (1, &[])], &[0]),
+        work: Work::Write(&[]),
+        answers: "BadContents",
+    },
+    // A message has a byte at least.
+    Row {
+        cycles: 4,
+        start: Start::Held(&[(0, &["a", ""])], &[0]),
+        work: Work::Write(&[]),
+        answers: "BadContents",
+    },
+    // The store record, the top table and one index table take 28 cells, and 8 messages of 3 cells 24. A ninth one has another
+    // index table of 9 cells before it, and none is left that could be kept.
+    Row {
+        cycles: 4,
+        start: Start::Held(&[(0, EIGHT)], &[0]),
+        work: Work::Write(&[]),
+        answers: "0[hello;hello;hello;hello;hello;hello;hello;hello;] at [0]",
+    },
+    Row {
+        cycles: 4,
+        start: Start::Held(&[(0, NINE)], &[0]),
         work: Work::Write(&[]),
         answers: "BadContents",
     },
