@@ -159,8 +159,8 @@ fn is_kept(take: &Result<Take, TakeFault>, taken: &mut Vec<u64>) -> bool {
     }
 }
 
-/// Takes the next message, if there is one. Answers whether it did.
-fn take_next(alloc: Global, queue: &Queue, tailer: &mut Tailer, taken: &mut Vec<u64>) -> bool
+/// Takes the next message, if there is one, and keeps its index. Answers whether it did.
+pub fn take_next(alloc: Global, queue: &Queue, tailer: &mut Tailer, taken: &mut Vec<u64>) -> bool
     requires { IsOf queue.now tailer.old.caller }
     ensures { IsOf queue.now tailer.new.caller }
 {

@@ -6,6 +6,7 @@ ghost use Rattle.cq_words.specs.Values.{IsOf};
 
 use crate::beginnings::is_some_beginning;
 use crate::growing_tests::next_snapshot;
+use crate::many_tests::take_next;
 use crate::thread_tests::both_append;
 use cq_append::Appender;
 use cq_cycle::Index;
@@ -13,7 +14,7 @@ use cq_fixtures::{Cycles, config_of, contents_of, expect_row, expect_text};
 use cq_layout::Shape;
 use cq_model::{Contents, CycleList};
 use cq_shown::recover;
-use cq_tail::{Tailer, Take, TakeFault};
+use cq_tail::Tailer;
 use cq_words::{Caller, Queue};
 use std::alloc::Global;
 use std::sync::Wait;
@@ -43,14 +44,6 @@ fn append_two<R: Threads + Wait + Sync>(
     appended
 }
 
-/// Keeps the index of what was taken, if it is a message. Answers whether it is.
-fn is_kept(take: &Result<Take, TakeFault>, taken: &mut Vec<u64>) -> bool {
-    match take {
-        Ok(Take::Taken(index, _message)) => taken.push(index.value()).is_ok(),
-        Ok(_) | Err(_) => false,
-    }
-}
-
 /// The indexes of the messages that one takes until the writers are done and none is left.
 fn take_all(alloc: Global, queue: &Queue, mut tailer: Tailer, done: &AtomicU64) -> Vec<u64>
     requires { IsOf queue.now tailer.caller }
@@ -58,7 +51,7 @@ fn take_all(alloc: Global, queue: &Queue, mut tailer: Tailer, done: &AtomicU64) 
     let mut taken = Vec::new(alloc);
     for _ in 0..TURNS {
         let last = done.load(Ordering::SeqCst) == 1;
-        if !is_kept(&tailer.take(alloc, queue, "reader"), &mut taken) {
+        if !take_next(alloc, queue, &mut tailer, &mut taken) {
             if last {
                 return taken;
             }
