@@ -95,7 +95,7 @@ fn a_worker_that_is_not_let_in_gives_up(rt: HostRuntime) -> Result<(), Fail> {
     Ok(())
 }
 
-/// What a gate is asked and told by each worker: the number of the next call, and whether it is being made. It counts what
+/// What a gate is asked and told by each worker: how many of its calls it has entered, and how many were answered. It counts what
 /// comes out of turn.
 #[derive(Drop)]
 struct CountingGate {
@@ -114,6 +114,21 @@ fn counts() -> [AtomicU64; 4] {
     ]
 }
 
+/// How much was counted of a worker, of which there are four.
+fn count_of(counts: &[AtomicU64], worker: usize) -> Option<u64> {
+    match counts.get(worker) {
+        Some(count) => Some(count.load(Ordering::SeqCst)),
+        None => None,
+    }
+}
+
+/// Counts one more of a worker.
+fn count(counts: &[AtomicU64], worker: usize) {
+    if let Some(count) = counts.get(worker) {
+        count.fetch_add(1, Ordering::SeqCst);
+    }
+}
+
 impl CountingGate {
     fn new() -> CountingGate {
         CountingGate {
@@ -123,13 +138,11 @@ impl CountingGate {
         }
     }
 
-    /// Counts a call that is not the next one of its worker.
-    fn count(&self, counts: &[AtomicU64], worker: usize, call: u64) {
-        let is_next = match counts.get(worker) {
-            Some(count) => count.fetch_add(1, Ordering::SeqCst) == call,
-            None => false,
-        };
-        if !is_next {
+    /// Counts a stray, unless a worker has entered so many calls so far and so many of them were answered.
+    fn expect(&self, worker: usize, entered: Option<u64>, answered: u64) {
+        let is_in_turn = count_of(&self.entered, worker) == entered
+            && count_of(&self.answered, worker) == Some(answered);
+        if !is_in_turn {
             self.strays.fetch_add(1, Ordering::SeqCst);
         }
     }
@@ -140,21 +153,20 @@ impl CountingGate {
     }
 
     fn answered_by(&self, worker: usize) -> u64 {
-        match self.answered.get(worker) {
-            Some(count) => count.load(Ordering::SeqCst),
-            None => 0,
-        }
+        count_of(&self.answered, worker).unwrap_or(0)
     }
 }
 
 impl Gate for CountingGate {
     fn enter(&self, worker: usize, call: u64) -> bool {
-        self.count(&self.entered, worker, call);
+        self.expect(worker, Some(call), call);
+        count(&self.entered, worker);
         true
     }
 
     fn answered(&self, worker: usize, call: u64) {
-        self.count(&self.answered, worker, call);
+        self.expect(worker, call.checked_add(1), call);
+        count(&self.answered, worker);
     }
 }
 
