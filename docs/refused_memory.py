@@ -83,9 +83,10 @@ OLD = {
 RACED = b"writer 0: 3 in order\nwriter 1: 3 in order\nreader 0: 6 read\nreader 1: 6 read\n"
 
 # What was done to the folder before, or put into it, the bytes that are kept of the image, the command and its input, and its
-# answer.
+# answer: what it prints with status 0, or its status, what it prints and what it says is wrong.
 ROWS = [
     ([], None, (["echo"], b"hello\nworld\n"), b"0 hello\n1 world\n"),
+    ([], None, (["echo"], b"hello\n\nworld\n"), (1, b"", b"cq: line 2: BadRoom\n")),
     ([], None, (["cycle", "daily", "0", "1728000000000"], b""), b"20000 20241004 00004e2000000000\n"),
     ([], None, (["race", "3"], b""), RACED),
     ([], None, INIT, b""),
@@ -95,6 +96,7 @@ ROWS = [
     ([INIT, HELLO], None, (["read", "D", "--back"], b""), b"00004e2000000001 world\n00004e2000000000 hello\n"),
     ([INIT, HELLO], None, (["check", "D"], b""), b"20241004.cqi: 2 messages, open\n"),
     ([INIT, HELLO], None, (["take", "D", "reader"], b""), b"00004e2000000000 hello\n"),
+    ([INIT, HELLO, NEXT], None, (["drop", "D", "20001"], b""), b"20001\n"),
     ([INIT, HELLO], None, (["salvage", "D", FILE], b""), b"0 hello\n1 world\nwhole\n"),
     ([INIT, HELLO], 127, (["salvage", "D", FILE], b""), b"0 hello\nCut at 124\n"),
     ([INIT, HELLO], 40, (["salvage", "D", FILE], b""), b"Cut at 40\n"),
@@ -149,6 +151,7 @@ def put(folder, files):
 
 def try_row(program, shim, room, row):
     before, keep, (words, given), answer = row
+    wanted = answer if isinstance(answer, tuple) else (0, answer, b"")
     first = os.path.join(room, "first")
     os.mkdir(first)
     for done in before:
@@ -161,7 +164,7 @@ def try_row(program, shim, room, row):
     whole = os.path.join(room, "whole")
     shutil.copytree(first, whole)
     wrong = []
-    if run(program, words, given, whole) != (0, answer, b""):
+    if run(program, words, given, whole) != wanted:
         wrong.append(f"{' '.join(words)}: another answer with all memory")
     old, new, done_without = held(first), held(whole), 0
     for k in range(1, 100_000):
@@ -175,7 +178,7 @@ def try_row(program, shim, room, row):
         if not os.path.exists(mark):
             return k - 1, done_without, wrong
         os.remove(mark)
-        if got == (0, answer, b"") and left == new:
+        if got == wanted and left == new:
             done_without += 1
         elif got != (1, b"", WANT) or left != old:
             wrong.append(f"{' '.join(words)}, growth {k}: {got}, the folder {'kept' if left == old else 'changed'}")
