@@ -1,20 +1,20 @@
-//! What a run is given: the shape of the queues, and how often and how long is measured.
+//! What a run is given: the layout of the queues, and how often and how long is measured.
 use crate::fault::BenchFault;
 use cq_cycle::Roll;
-use cq_layout::Shape;
+use cq_layout::Layout;
 use cq_model::origin_of;
 use std::env::{self, VarError};
 use std::rt::Env;
 use std::time::Duration;
 
-/// The shape where none is given.
+/// The layout where none is given.
 const SHAPE: &str = "1048576,256,16";
 
 /// What every case is given.
 #[derive(Clone, Copy)]
 pub struct Settings {
-    /// The shape of each queue's one cycle.
-    pub shape: Shape,
+    /// The layout of each queue's one cycle.
+    pub layout: Layout,
     /// How often each case is measured. The best figure counts.
     pub repetitions: u32,
     /// How long random reads go on at least.
@@ -26,8 +26,8 @@ pub struct Settings {
 /// A variable of the environment is not understood.
 #[derive(Debug, Drop, thiserror::Error)]
 pub enum SettingFault {
-    /// The shape is not three numbers within the limits of a shape.
-    #[error("CQ_SHAPE is no shape: CELLS,COUNT,SPACING")]
+    /// The layout is not three numbers within the limits of a layout.
+    #[error("CQ_SHAPE is no layout: CELLS,COUNT,SPACING")]
     BadShape,
     /// The repetitions are no number from 1 to 1,000.
     #[error("REPS is no number from 1 to 1000")]
@@ -38,7 +38,7 @@ impl Settings {
     /// What the environment says: in `CQ_SHAPE` the cells of a cycle, the entries of a table and the spacing, and in `REPS`
     /// how often each case is measured.
     pub fn of_environment<R: AllocGlobal + Env>(rt: &R) -> Result<Settings, SettingFault> {
-        let Some(shape) = variable(rt, "CQ_SHAPE", SHAPE).and_then(|text| shape_of(text.as_str()))
+        let Some(layout) = variable(rt, "CQ_SHAPE", SHAPE).and_then(|text| layout_of(text.as_str()))
         else {
             return Err(SettingFault::BadShape);
         };
@@ -48,7 +48,7 @@ impl Settings {
             return Err(SettingFault::BadRepetitions);
         };
         Ok(Settings {
-            shape,
+            layout,
             repetitions,
             reading_time: Duration::from_millis(300),
             is_trial: false,
@@ -57,11 +57,11 @@ impl Settings {
 
     /// A short run over small queues, without figures.
     pub fn of_trial() -> Result<Settings, BenchFault> {
-        let Some(shape) = shape_with(8192, 32, 4) else {
+        let Some(layout) = layout_with(8192, 32, 4) else {
             return Err(BenchFault::NoQueue);
         };
         Ok(Settings {
-            shape,
+            layout,
             repetitions: 1,
             reading_time: Duration::ZERO,
             is_trial: true,
@@ -78,8 +78,8 @@ fn variable<R: AllocGlobal + Env>(rt: &R, name: &str, otherwise: &str) -> Option
     }
 }
 
-/// The shape of three numbers.
-fn shape_of(text: &str) -> Option<Shape> {
+/// The layout of three numbers.
+fn layout_of(text: &str) -> Option<Layout> {
     let mut parts = text.split(',');
     let cells = number_of(parts.next())?;
     let count = number_of(parts.next())?;
@@ -87,13 +87,13 @@ fn shape_of(text: &str) -> Option<Shape> {
     if parts.next().is_some() {
         return None;
     }
-    shape_with(cells, count, spacing)
+    layout_with(cells, count, spacing)
 }
 
-/// The shape of a queue with these measures, whose cycles are days.
-fn shape_with(cells: u32, count: u32, spacing: u32) -> Option<Shape> {
-    let shape = Shape::new(cells, count, spacing).ok()?;
-    Some(shape.with_origin(origin_of(Roll::Daily, 0)))
+/// The layout of a queue with these measures, whose cycles are days.
+fn layout_with(cells: u32, count: u32, spacing: u32) -> Option<Layout> {
+    let layout = Layout::new(cells, count, spacing).ok()?;
+    Some(layout.with_origin(origin_of(Roll::Daily, 0)))
 }
 
 fn number_of(text: Option<&str>) -> Option<u32> {

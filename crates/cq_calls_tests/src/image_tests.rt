@@ -4,7 +4,7 @@ use crate::queues::{Call, Fixture};
 use cq_chain::fits_all;
 use cq_fixtures::{DAY, small_config};
 use cq_image::{ImageRead, image, read};
-use cq_layout::Shape;
+use cq_layout::Layout;
 use cq_model::CycleList;
 use cq_text::dump_text;
 use std::alloc::Global;
@@ -12,25 +12,25 @@ use std::test::Fail;
 
 /// The image of a cycle.
 #[tactic(auto, using(cq_chain::proofs::HeldLemmas::held_are_next))]
-fn image_of(alloc: Global, shape: Shape, list: &CycleList, ended: bool) -> Result<Vec<u8>, Fail> {
-    // A shape's readers tell that it is lawful.
-    let _cells = shape.cells();
+fn image_of(alloc: Global, layout: Layout, list: &CycleList, ended: bool) -> Result<Vec<u8>, Fail> {
+    // A layout's readers tell that it is lawful.
+    let _cells = layout.cells();
     let messages = list.messages.as_slice();
-    if !fits_all(shape, messages) {
+    if !fits_all(layout, messages) {
         return Err(Fail::new("the messages do not fit"));
     }
-    Ok(image(alloc, list.cycle, shape, messages, ended)?)
+    Ok(image(alloc, list.cycle, layout, messages, ended)?)
 }
 
 /// What an image is read as: its messages in brackets, and its mark.
 fn push_read(
     alloc: Global,
-    shape: Shape,
+    layout: Layout,
     cycle: u32,
     bytes: &[u8],
     out: &mut String,
 ) -> Result<(), Fail> {
-    let ImageRead { messages, ended } = read(alloc, cycle, shape, bytes)?;
+    let ImageRead { messages, ended } = read(alloc, cycle, layout, bytes)?;
     write!(out, "{cycle}[")?;
     for message in messages.as_slice() {
         out.push_str(str::from_utf8(message.as_slice())?)?;
@@ -42,16 +42,16 @@ fn push_read(
 /// What the images of these cycles are read as, the last one open and the others ended, and then the records of the last one.
 fn push_images(
     alloc: Global,
-    shape: Shape,
+    layout: Layout,
     lists: &[CycleList],
     out: &mut String,
 ) -> Result<(), Fail> {
     for (place, list) in lists.iter().enumerate() {
         let is_last = place + 1 == lists.len();
-        let bytes = image_of(alloc, shape, list, !is_last)?;
-        push_read(alloc, shape, list.cycle, bytes.as_slice(), out)?;
+        let bytes = image_of(alloc, layout, list, !is_last)?;
+        push_read(alloc, layout, list.cycle, bytes.as_slice(), out)?;
         if is_last {
-            let records = dump_text(alloc, list.cycle, shape, bytes.as_slice())?;
+            let records = dump_text(alloc, list.cycle, layout, bytes.as_slice())?;
             out.push_str(str::from_utf8(records.as_slice())?)?;
         }
     }
@@ -68,22 +68,22 @@ const BESIDE_A_CLAIM: &[Call] = &[
 /// What these calls of a queue answer, and the images of a snapshot behind them.
 fn push_imaged(
     alloc: Global,
-    shape: Shape,
+    layout: Layout,
     fixture: &mut Fixture,
     calls: &[Call],
     out: &mut String,
 ) -> Result<(), Fail> {
     fixture.answers(alloc, calls, out)?;
     let lists = fixture.snapshot_lists(alloc)?;
-    push_images(alloc, shape, lists.as_slice(), out)
+    push_images(alloc, layout, lists.as_slice(), out)
 }
 
 /// The same of a new queue.
 fn push_imaged_of_new(alloc: Global, calls: &[Call], out: &mut String) -> Result<(), Fail> {
     let config = small_config(alloc, 4)?;
-    let shape = config.shape();
+    let layout = config.layout();
     let mut fixture = Start::New(0).queue(alloc, config)?;
-    push_imaged(alloc, shape, &mut fixture, calls, out)
+    push_imaged(alloc, layout, &mut fixture, calls, out)
 }
 
 /// What is answered to these calls, what the images are read as, and the records of the last one.

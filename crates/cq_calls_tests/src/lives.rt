@@ -141,7 +141,7 @@ pub fn push_contents(alloc: Global, contents: &Contents, out: &mut String) -> Re
 
 /// The cells of the first slot that are not 0, from this one on, each behind its number.
 fn push_cells(stopped: &Stopped, from: u32, out: &mut String) -> Result<(), Fail> {
-    let cells = stopped.config().shape().cells();
+    let cells = stopped.config().layout().cells();
     for k in from..cells {
         push_cell(k, stopped.cell(0, k), out)?;
     }
@@ -158,7 +158,7 @@ fn push_cell(k: u32, cell: u32, out: &mut String) -> Result<(), AllocError> {
 
 /// What cells of the first slot hold, and its write position.
 fn push_published(stopped: &Stopped, cells: &[u32], out: &mut String) -> Result<(), AllocError> {
-    let count = stopped.config().shape().cells();
+    let count = stopped.config().layout().cells();
     let _cycles = stopped.config().cycles();
     for k in cells {
         if *k < count {

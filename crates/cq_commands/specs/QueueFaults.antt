@@ -1,7 +1,7 @@
 -- Which faults of a folder's queue are answered.
 use Rattle.std.specs.Prelude.{◌≡◌, ◌≢◌, ◌⊎◌, ⊤, ℕ, ◌+◌, ◌-◌, ◌^◌, ◌∷◌, ◌++◌, map, min, ◌<◌, ◌≤◌, List, [], length, slice_get, IsSomeAnd, Option, None, Some, Bool, codes}
 use Rattle.cq_layout.specs.Room.{Fits, IsMessageLength}
-use Rattle.cq_layout.specs.Shape.{Measures}
+use Rattle.cq_layout.specs.Layout.{CycleLayout}
 use Rattle.cq_cycle.specs.Index.{index_text}
 use Rattle.cq_model.specs.Settings.{Settings}
 use Rattle.cq_layout.specs.declared.refusal.Refusal.{Refusal}
@@ -86,24 +86,24 @@ abbrev pub IsTakeFault : List ℕ → Files → ToolFault → Type 0
 IsTakeFault name files fault = IsOpenFault files fault ⊎ RefusesName name files fault
 
 -- why a line is no message behind these: it has a length that no message has, or it does not fit
-abbrev pub IsRefusedBehind : Measures → List (List ℕ) → List ℕ → Refusal → Type 0
-IsRefusedBehind shape messages line BadRoom = ¬ IsMessageLength (length line)
-IsRefusedBehind shape messages line CycleFull =
-    IsMessageLength (length line) × ¬ Fits shape (map length messages) (length line)
-IsRefusedBehind shape messages line _ = ⊥
+abbrev pub IsRefusedBehind : CycleLayout → List (List ℕ) → List ℕ → Refusal → Type 0
+IsRefusedBehind layout messages line BadRoom = ¬ IsMessageLength (length line)
+IsRefusedBehind layout messages line CycleFull =
+    IsMessageLength (length line) × ¬ Fits layout (map length messages) (length line)
+IsRefusedBehind layout messages line _ = ⊥
 
 -- memory ran out, or the line with this number is refused
-abbrev pub IsLineFault : Measures → List (List ℕ) → List ℕ → ℕ → ToolFault → Type 0
-IsLineFault shape messages line number OutOfMemory = ⊤
-IsLineFault shape messages line number (Refused at refusal) =
-    (at ≡ number) × IsRefusedBehind shape messages line refusal
-IsLineFault shape messages line number _ = ⊥
+abbrev pub IsLineFault : CycleLayout → List (List ℕ) → List ℕ → ℕ → ToolFault → Type 0
+IsLineFault layout messages line number OutOfMemory = ⊤
+IsLineFault layout messages line number (Refused at refusal) =
+    (at ≡ number) × IsRefusedBehind layout messages line refusal
+IsLineFault layout messages line number _ = ⊥
 
 -- the first line that is no message behind these and the lines before it is refused, with its number, or memory ran out
-pub record IsLinesFault (shape : Measures) (messages lines : List (List ℕ)) (fault : ToolFault) : Type 0 where
+pub record IsLinesFault (layout : CycleLayout) (messages lines : List (List ℕ)) (fault : ToolFault) : Type 0 where
   pub before : List (List ℕ)
   pub line : List ℕ
   pub rest : List (List ℕ)
   pub whole : lines ≡ before ++ line ∷ rest
-  pub stored : AreNext shape [] (messages ++ before)
-  pub fault_is : IsLineFault shape (messages ++ before) line (min (length before + 1) (2 ^ 64 - 1)) fault
+  pub stored : AreNext layout [] (messages ++ before)
+  pub fault_is : IsLineFault layout (messages ++ before) line (min (length before + 1) (2 ^ 64 - 1)) fault

@@ -6,7 +6,7 @@ use Rattle.std.specs.Fmt.{decimal}
 use Rattle.cq_cycle.specs.RollWord.{roll_word}
 use Rattle.cq_cycle.specs.declared.roll.Roll.{Roll}
 use Rattle.cq_cycle.specs.declared.roll.Roll.TheVariants.{Daily, Hourly, Minutely}
-use Rattle.cq_layout.specs.Shape.{measures_in}
+use Rattle.cq_layout.specs.Layout.{measures_in}
 use Rattle.cq_layout.specs.declared.store_record.StoreVersion.{StoreVersion}
 use Rattle.cq_config_text.specs.Version.{store_in, version_of, version_word}
 use Rattle.cq_config_text.specs.declared.version.FolderVersion.{FolderVersion}
@@ -90,13 +90,13 @@ module _ (settings : Settings) (positions : List ℕ) (floor : ℕ) (writable : 
   cycles = setting_words (codes "cycles") settings.cycles ∷ rest
 
   abbrev spacing : List (List (List ℕ))
-  spacing = setting_words (codes "spacing") settings.shape.index_spacing ∷ cycles
+  spacing = setting_words (codes "spacing") settings.layout.index_spacing ∷ cycles
 
   abbrev count : List (List (List ℕ))
-  count = setting_words (codes "count") settings.shape.index_count ∷ spacing
+  count = setting_words (codes "count") settings.layout.index_count ∷ spacing
 
   abbrev cells : List (List (List ℕ))
-  cells = setting_words (codes "cells") settings.shape.cells ∷ count
+  cells = setting_words (codes "cells") settings.layout.cells ∷ count
 
   abbrev epoch : List (List (List ℕ))
   epoch = setting_words (codes "epoch") settings.epoch ∷ cells
@@ -107,18 +107,18 @@ module _ (settings : Settings) (positions : List ℕ) (floor : ℕ) (writable : 
   head_at_no_fault : fault_from 1 (head_forms ++ forms) (config_text settings positions floor)
       ≡ fault_from 8 forms (lines_text rest)
   head_at_no_fault =
-      fault_behind_line (codes "cq" ∷ version_word (version_of settings.shape.store) ∷ []) roll printed.0 1
-      (head_forms ++ forms) (version_test (version_of settings.shape.store))
+      fault_behind_line (codes "cq" ∷ version_word (version_of settings.layout.store) ∷ []) roll printed.0 1
+      (head_forms ++ forms) (version_test (version_of settings.layout.store))
       ∙ fault_behind_line (codes "roll" ∷ roll_word settings.roll ∷ []) epoch printed.1.0 2 (drop 1 head_forms ++ forms)
       (roll_test settings.roll)
       ∙ fault_behind_line (setting_words (codes "epoch") settings.epoch) cells printed.1.1.0 3 (drop 2 head_forms ++ forms)
       (number_test settings.epoch writable.epoch)
-      ∙ fault_behind_line (setting_words (codes "cells") settings.shape.cells) count printed.1.1.1.0 4
-      (drop 3 head_forms ++ forms) (number_test settings.shape.cells writable.cells)
-      ∙ fault_behind_line (setting_words (codes "count") settings.shape.index_count) spacing printed.1.1.1.1.0 5
-      (drop 4 head_forms ++ forms) (number_test settings.shape.index_count writable.count)
-      ∙ fault_behind_line (setting_words (codes "spacing") settings.shape.index_spacing) cycles printed.1.1.1.1.1.0 6
-      (drop 5 head_forms ++ forms) (number_test settings.shape.index_spacing writable.spacing)
+      ∙ fault_behind_line (setting_words (codes "cells") settings.layout.cells) count printed.1.1.1.0 4
+      (drop 3 head_forms ++ forms) (number_test settings.layout.cells writable.cells)
+      ∙ fault_behind_line (setting_words (codes "count") settings.layout.index_count) spacing printed.1.1.1.1.0 5
+      (drop 4 head_forms ++ forms) (number_test settings.layout.index_count writable.count)
+      ∙ fault_behind_line (setting_words (codes "spacing") settings.layout.index_spacing) cycles printed.1.1.1.1.1.0 6
+      (drop 5 head_forms ++ forms) (number_test settings.layout.index_spacing writable.spacing)
       ∙ fault_behind_line (setting_words (codes "cycles") settings.cycles) rest printed.1.1.1.1.1.1.0 7
       (drop 6 head_forms ++ forms) (number_test settings.cycles writable.cycles)
 
@@ -195,8 +195,8 @@ made : StoreVersion → ℕ → ℕ → ℕ → ℕ → Roll → ℕ → List (L
 made store cells count spacing cycles roll epoch names =
     settings_of (measures_in store cells count spacing) cycles roll epoch names
 
-made_of : (settings : Settings) → settings ≡ made settings.shape.store settings.shape.cells settings.shape.index_count
-    settings.shape.index_spacing settings.cycles settings.roll settings.epoch settings.names
+made_of : (settings : Settings) → settings ≡ made settings.layout.store settings.layout.cells settings.layout.index_count
+    settings.layout.index_spacing settings.cycles settings.roll settings.epoch settings.names
 unfolding made
 made_of settings = refl
 
@@ -219,16 +219,16 @@ module _ (one other : Settings) (places places' : List ℕ) (floor floor' : ℕ)
       floors.1 in
       let roll_is : one.roll ≡ other.roll = roll_word_injective one.roll other.roll roll.0 in
       let epoch_is : one.epoch ≡ other.epoch = decimal_injective one.epoch other.epoch writable.epoch writable'.epoch epoch.0 in
-      let version_is : version_of one.shape.store ≡ version_of other.shape.store =
-      version_word_injective (version_of one.shape.store) (version_of other.shape.store) version.0 in
-      let store_is : one.shape.store ≡ other.shape.store =
+      let version_is : version_of one.layout.store ≡ version_of other.layout.store =
+      version_word_injective (version_of one.layout.store) (version_of other.layout.store) version.0 in
+      let store_is : one.layout.store ≡ other.layout.store =
       writable.store ∙ (λ i. store_in (version_is i) (roll_is i) (epoch_is i)) ∙ sym writable'.store in
-      let cells_is : one.shape.cells ≡ other.shape.cells =
-      decimal_injective one.shape.cells other.shape.cells writable.cells writable'.cells cells.0 in
-      let count_is : one.shape.index_count ≡ other.shape.index_count =
-      decimal_injective one.shape.index_count other.shape.index_count writable.count writable'.count count.0 in
-      let spacing_is : one.shape.index_spacing ≡ other.shape.index_spacing =
-      decimal_injective one.shape.index_spacing other.shape.index_spacing writable.spacing writable'.spacing spacing.0 in
+      let cells_is : one.layout.cells ≡ other.layout.cells =
+      decimal_injective one.layout.cells other.layout.cells writable.cells writable'.cells cells.0 in
+      let count_is : one.layout.index_count ≡ other.layout.index_count =
+      decimal_injective one.layout.index_count other.layout.index_count writable.count writable'.count count.0 in
+      let spacing_is : one.layout.index_spacing ≡ other.layout.index_spacing =
+      decimal_injective one.layout.index_spacing other.layout.index_spacing writable.spacing writable'.spacing spacing.0 in
       let cycles_is : one.cycles ≡ other.cycles =
       decimal_injective one.cycles other.cycles writable.cycles writable'.cycles cycles.0 in
       let names_is : one.names ≡ other.names = declared.0 in

@@ -137,17 +137,17 @@ printed_append (line ∷ one) other printed printed' = (printed.0, printed_appen
 module _ (settings : Settings) (positions : List ℕ) (floor : ℕ) (writable : IsWritable settings positions floor) where
   pub head_printed : ArePrintedLines (head_lines settings)
   head_printed = (
-    (text_printed (codes "cq") refl, (version_printed (version_of settings.shape.store), tt)),
+    (text_printed (codes "cq") refl, (version_printed (version_of settings.layout.store), tt)),
     (
       (text_printed (codes "roll") refl, (roll_printed settings.roll, tt)),
       (
         setting_printed (codes "epoch") settings.epoch (text_printed (codes "epoch") refl) writable.epoch,
         (
-          setting_printed (codes "cells") settings.shape.cells (text_printed (codes "cells") refl) writable.cells,
+          setting_printed (codes "cells") settings.layout.cells (text_printed (codes "cells") refl) writable.cells,
           (
-            setting_printed (codes "count") settings.shape.index_count (text_printed (codes "count") refl) writable.count,
+            setting_printed (codes "count") settings.layout.index_count (text_printed (codes "count") refl) writable.count,
             (
-              setting_printed (codes "spacing") settings.shape.index_spacing (text_printed (codes "spacing") refl)
+              setting_printed (codes "spacing") settings.layout.index_spacing (text_printed (codes "spacing") refl)
                   writable.spacing,
               (setting_printed (codes "cycles") settings.cycles (text_printed (codes "cycles") refl) writable.cycles, tt),
             ),

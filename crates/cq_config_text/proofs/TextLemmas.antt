@@ -125,12 +125,12 @@ pub lawful_writable : (settings : Settings) (positions : List ℕ) (floor : ℕ)
     → IsWritable settings positions floor
 lawful_writable settings positions floor lawful paired fits low = record {
   epoch = omega (arith, lawful.begun);
-  cells = omega (arith, lawful.shape.cells_high);
-  count = omega (arith, lawful.shape.count_high);
-  spacing = omega (arith, lawful.shape.spacing_high);
+  cells = omega (arith, lawful.layout.shape.cells_high);
+  count = omega (arith, lawful.layout.shape.count_high);
+  spacing = omega (arith, lawful.layout.shape.spacing_high);
   cycles = omega (arith, lawful.few);
   low = low;
-  store = own_store settings.roll settings.epoch settings.shape.store lawful.store;
+  store = own_store settings.roll settings.epoch settings.layout.store lawful.store;
   declared = record {
     words = All-weaker IsTailerName IsNameWord tailer_word settings.names lawful.names.each;
     places = fits;

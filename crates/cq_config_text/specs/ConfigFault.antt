@@ -1,24 +1,24 @@
 -- Why a text gives no configuration.
 use Rattle.std.specs.Prelude.{ℕ, ◌<◌, ◌≤◌, ◌≡◌, ◌⊎◌, ⊤, List, Some, Result, Ok, Err}
 use Rattle.cq_cycle.specs.declared.roll.TheConstants.{LAST_CYCLE}
-use Rattle.cq_layout.specs.Shape.{IsLawfulShape}
+use Rattle.cq_layout.specs.Layout.{IsLawfulLayout}
 use Rattle.cq_model.specs.Settings.{IsLawfulSettings, Settings}
 use Rattle.cq_config_text.specs.declared.config_text.SavedConfig.{SavedConfig}
 use Rattle.cq_config_text.specs.declared.config_fault.ConfigFault.{ConfigFault}
 use Rattle.cq_config_text.specs.declared.config_fault.ConfigFault.TheVariants.{OutOfMemory, Line, BadShape, BadConfig}
 use Rattle.cq_config_text.specs.ConfigText.{IsTextOf, faulty_line}
 
--- which settings are refused for their limits: the shape's come first
+-- which settings are refused for their limits: the layout's come first
 abbrev pub RefusesSettings : ConfigFault → Settings → Type 0
 RefusesSettings OutOfMemory settings = ⊤
 RefusesSettings (Line number) settings = ⊥
-RefusesSettings BadShape settings = ¬ IsLawfulShape settings.shape
-RefusesSettings BadConfig settings = IsLawfulShape settings.shape × ¬ IsLawfulSettings settings
+RefusesSettings BadShape settings = ¬ IsLawfulLayout settings.layout
+RefusesSettings BadConfig settings = IsLawfulLayout settings.layout × ¬ IsLawfulSettings settings
 
 -- the same with a floor, whose limit is among the last
 abbrev pub RefusesSaved : ConfigFault → Settings → ℕ → Type 0
 RefusesSaved BadConfig settings floor =
-    IsLawfulShape settings.shape × ((¬ IsLawfulSettings settings) ⊎ (LAST_CYCLE < floor))
+    IsLawfulLayout settings.layout × ((¬ IsLawfulSettings settings) ⊎ (LAST_CYCLE < floor))
 RefusesSaved fault settings floor = RefusesSettings fault settings
 
 -- why a text is refused: a line is faulty, or it is the text of settings and a floor that are refused

@@ -23,12 +23,12 @@ name_words declared = codes "name" ∷ declared.0 ∷ decimal declared.1 ∷ []
 -- the words of the lines before the names
 abbrev pub head_lines : Settings → List (List (List ℕ))
 head_lines settings =
-    (codes "cq" ∷ version_word (version_of settings.shape.store) ∷ [])
+    (codes "cq" ∷ version_word (version_of settings.layout.store) ∷ [])
     ∷ (codes "roll" ∷ roll_word settings.roll ∷ [])
     ∷ setting_words (codes "epoch") settings.epoch
-    ∷ setting_words (codes "cells") settings.shape.cells
-    ∷ setting_words (codes "count") settings.shape.index_count
-    ∷ setting_words (codes "spacing") settings.shape.index_spacing
+    ∷ setting_words (codes "cells") settings.layout.cells
+    ∷ setting_words (codes "count") settings.layout.index_count
+    ∷ setting_words (codes "spacing") settings.layout.index_spacing
     ∷ setting_words (codes "cycles") settings.cycles
     ∷ []
 
@@ -68,13 +68,13 @@ pub record AreWritableNames (names : List (List ℕ)) (positions : List ℕ) : T
 -- record that tells an origin tells that of the settings
 pub record IsWritable (settings : Settings) (positions : List ℕ) (floor : ℕ) : Type 0 where
   pub epoch : settings.epoch < 2 ^ 64
-  pub cells : settings.shape.cells < 2 ^ 64
-  pub count : settings.shape.index_count < 2 ^ 64
-  pub spacing : settings.shape.index_spacing < 2 ^ 64
+  pub cells : settings.layout.cells < 2 ^ 64
+  pub count : settings.layout.index_count < 2 ^ 64
+  pub spacing : settings.layout.index_spacing < 2 ^ 64
   pub cycles : settings.cycles < 2 ^ 64
   pub low : floor < 2 ^ 64
   pub declared : AreWritableNames settings.names positions
-  pub store : settings.shape.store ≡ store_in (version_of settings.shape.store) settings.roll settings.epoch
+  pub store : settings.layout.store ≡ store_in (version_of settings.layout.store) settings.roll settings.epoch
 
 -- the text is that of these settings, positions and floor
 pub record IsTextOf (settings : Settings) (positions : List ℕ) (floor : ℕ) (text : List ℕ) : Type 0 where

@@ -38,18 +38,18 @@ pub fn write_config(
 fn head_text(alloc: Global, config: &Config) -> Result<String, AllocError>
     ensures { IfOk result (λ text. string_bytes text ≡ lines_text (head_lines config.now)) }
 {
-    let shape = config.shape();
+    let layout = config.layout();
     let mut text = first_lines(
         alloc,
-        FolderVersion::of(shape.store()),
+        FolderVersion::of(layout.store()),
         config.roll(),
         config.epoch(),
     )?;
     push_shape(
         &mut text,
-        shape.cells(),
-        shape.index_count(),
-        shape.index_spacing(),
+        layout.cells(),
+        layout.index_count(),
+        layout.index_spacing(),
     )?;
     writeln!(text, "cycles {}", config.cycles())?;
     Ok(text)
@@ -69,7 +69,7 @@ fn first_lines(
     format!(in alloc; "cq {version}\nroll {roll}\nepoch {epoch}\n")
 }
 
-/// Adds the lines that tell the shape to the text.
+/// Adds the lines that tell the layout to the text.
 fn push_shape(text: &mut String, cells: u32, count: u32, spacing: u32) -> Result<(), AllocError>
     ensures { OnOk result (string_bytes text.new ≡ string_bytes text.old
         ++ (codes "cells " ++ (decimal cells ++ (codes "\ncount " ++ (decimal count

@@ -2,7 +2,7 @@
 
 ghost use Rattle.std.specs.Prelude.{◌≡◌, ◌<◌, ◌^◌, ℕ, List, [], ◌∷◌, All, None, Some, codes, length};
 ghost use Rattle.cq_cycle.specs.declared.roll.Roll.TheVariants.{Daily};
-ghost use Rattle.cq_layout.specs.Shape.{measures};
+ghost use Rattle.cq_layout.specs.Layout.{measures};
 ghost use Rattle.cq_model.specs.Settings.{IsLawfulSettings, Settings, settings_of};
 ghost use Rattle.cq_config_text.specs.ConfigText.{IsTextOf, config_text, faulty_line};
 

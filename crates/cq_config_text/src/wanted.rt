@@ -1,17 +1,17 @@
 //! The settings of a queue before their limits were looked at.
 
 ghost use Rattle.std.specs.Prelude.{◌≡◌, ◌≢◌, IfErr, IfOk, MatchOption};
-ghost use Rattle.cq_layout.specs.Shape.{IsLawfulShape, measures_in};
+ghost use Rattle.cq_layout.specs.Layout.{IsLawfulLayout, measures_in};
 ghost use Rattle.cq_layout.specs.declared.store_record.StoreVersion.TheVariants.{First};
 ghost use Rattle.cq_model.specs.Settings.{IsLawfulSettings, texts};
 ghost use Rattle.cq_config_text.specs.ConfigFault.{RefusesSettings};
 ghost use Rattle.cq_config_text.specs.Version.{store_in};
-ghost use Rattle.cq_config_text.specs.Written.{settings_in, shape_in};
+ghost use Rattle.cq_config_text.specs.Written.{settings_in, layout_in};
 
 use crate::FolderVersion;
 use crate::config_fault::ConfigFault;
 use cq_cycle::Roll;
-use cq_layout::{Shape, StoreVersion};
+use cq_layout::{Layout, StoreVersion};
 use cq_model::Config;
 
 /// The settings that a queue is to have but the names of its tailers. They may be outside the limits.
@@ -34,7 +34,7 @@ pub struct WantedConfig {
 }
 
 impl WantedConfig {
-    /// The configuration with these settings and names, if they are within the limits. Answers `BadShape` where the shape is
+    /// The configuration with these settings and names, if they are within the limits. Answers `BadShape` where the layout is
     /// not, else `BadConfig`; the names are dropped then.
     pub fn config(self, names: Vec<String>) -> Result<Config, ConfigFault>
         ensures accepted { IfOk result (λ config. (config ≡ settings_in self (texts names.items))
@@ -42,38 +42,38 @@ impl WantedConfig {
         ensures refused { IfErr result (λ fault. RefusesSettings fault (settings_in self (texts names.items))) }
         ensures known { IfErr result (λ fault. fault ≢ ConfigFault.OutOfMemory) }
     {
-        let Some(shape) = self.shape() else {
+        let Some(layout) = self.layout() else {
             return Err(ConfigFault::BadShape);
         };
         let Some(cycles) = u32::try_from(self.cycles).ok() else {
             return Err(ConfigFault::BadConfig);
         };
-        match Config::of_shape(shape, cycles, self.roll, self.epoch, names) {
+        match Config::of_layout(layout, cycles, self.roll, self.epoch, names) {
             Ok(config) => Ok(config),
             Err(_bad) => Err(ConfigFault::BadConfig),
         }
     }
 
-    /// The shape with these measures, if they are within its limits.
-    fn shape(self) -> Option<Shape>
-        ensures { MatchOption result (¬ IsLawfulShape (shape_in self))
-            (λ lawful. (lawful ≡ shape_in self) × IsLawfulShape (shape_in self)) }
+    /// The layout with these measures, if they are within its limits.
+    fn layout(self) -> Option<Layout>
+        ensures { MatchOption result (¬ IsLawfulLayout (layout_in self))
+            (λ lawful. (lawful ≡ layout_in self) × IsLawfulLayout (layout_in self)) }
     {
         let cells = u32::try_from(self.cells).ok()?;
         let index_count = u32::try_from(self.index_count).ok()?;
         let index_spacing = u32::try_from(self.index_spacing).ok()?;
-        let shape = Shape::new(cells, index_count, index_spacing).ok()?;
-        Some(self.in_version(shape))
+        let layout = Layout::new(cells, index_count, index_spacing).ok()?;
+        Some(self.in_version(layout))
     }
 
-    /// This shape, whose store record is of the first version, with that of the folder's version.
-    fn in_version(self, shape: Shape) -> Shape
-        requires { shape.store ≡ First }
-        ensures { result ≡ measures_in (store_in self.version self.roll self.epoch) shape.cells shape.index_count shape.index_spacing }
+    /// This layout, whose store record is of the first version, with that of the folder's version.
+    fn in_version(self, layout: Layout) -> Layout
+        requires { layout.store ≡ First }
+        ensures { result ≡ measures_in (store_in self.version self.roll self.epoch) layout.cells layout.index_count layout.index_spacing }
     {
         match self.version.store(self.roll, self.epoch) {
-            StoreVersion::First => shape,
-            StoreVersion::Second(origin) => shape.with_origin(origin),
+            StoreVersion::First => layout,
+            StoreVersion::Second(origin) => layout.with_origin(origin),
         }
     }
 }

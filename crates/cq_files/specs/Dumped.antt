@@ -13,10 +13,10 @@ pub record IsDumped (settings : Settings) (file : List ℕ) (text : List ℕ) (f
   pub messages : List (List ℕ)
   pub ended : Bool
   pub named : IsImageName settings cycle file
-  pub next : AreNext settings.shape [] messages
-  pub held : files file ≡ Some (image_of settings.shape cycle messages ended)
-  pub text_is : text ≡ dump_of settings.shape cycle messages ended
+  pub next : AreNext settings.layout [] messages
+  pub held : files file ≡ Some (image_of settings.layout cycle messages ended)
+  pub text_is : text ≡ dump_of settings.layout cycle messages ended
 
--- the folder's configuration gives the shape and the names of cycles by which the file was dumped
+-- the folder's configuration gives the layout and the names of cycles by which the file was dumped
 abbrev pub IsDumpedQueue : List ℕ → Option Files → List ℕ → Type 0
 IsDumpedQueue file files text = IsShown IsDumped file files text

@@ -3,7 +3,7 @@ use Rattle.std.specs.Prelude.{◌≡◌, ◌⊎◌, ⊤, ℕ, ◌+◌, true, fal
 use Rattle.std.specs.List.{AllByRecursion}
 use Rattle.std.specs.declared.cmp.Ordering.TheVariants.{Less}
 use Rattle.cq_cycle.specs.declared.roll.TheConstants.{LAST_CYCLE}
-use Rattle.cq_layout.specs.Shape.{IsLawfulShape}
+use Rattle.cq_layout.specs.Layout.{IsLawfulLayout}
 use Rattle.cq_model.specs.Settings.{IsLawfulSettings, Settings}
 use Rattle.cq_image.specs.declared.fault.ImageFault.{ImageFault}
 use Rattle.cq_image.specs.Reading.{read_of}
@@ -49,11 +49,11 @@ abbrev pub TellsFile : (List ℕ → Type 0) → ToolFault → Type 0
 TellsFile IsName (FileFault file) = IsName (string_bytes file)
 TellsFile IsName _ = ⊤
 
--- why settings are refused: their limits, of which the shape's come first
+-- why settings are refused: their limits, of which the layout's come first
 abbrev pub IsLimitFault : Settings → ToolFault → Type 0
 IsLimitFault settings OutOfMemory = ⊤
-IsLimitFault settings BadShape = ¬ IsLawfulShape settings.shape
-IsLimitFault settings BadConfig = IsLawfulShape settings.shape × ¬ IsLawfulSettings settings
+IsLimitFault settings BadShape = ¬ IsLawfulLayout settings.layout
+IsLimitFault settings BadConfig = IsLawfulLayout settings.layout × ¬ IsLawfulSettings settings
 IsLimitFault settings _ = ⊥
 
 -- an image ends wrongly: it is open before the last, or ended at the last
@@ -73,7 +73,7 @@ pub record HasVersion (files : Files) (version : FolderVersion) : Type 0 where
   pub configured : HasSettings files settings
   pub lawful : IsLawfulSettings settings
   pub low : configured.floor ≤ LAST_CYCLE
-  pub told : version_of settings.shape.store ≡ version
+  pub told : version_of settings.layout.store ≡ version
 
 -- the text of the files' configuration, which is small enough to be read, is refused so
 abbrev pub RefusesConfig : Files → ConfigFault → Type 0
@@ -93,7 +93,7 @@ pub record HoldsFault (files : Files) (file : List ℕ) (fault : ImageFault) : T
   pub configured : HasSettings files settings
   pub cycle : ℕ
   pub named : IsImageName settings cycle file
-  pub found : IsSomeAnd (files file) (λ bytes. (length bytes ≤ MOST_FILE_BYTES) × (read_of settings.shape cycle bytes ≡ Err fault))
+  pub found : IsSomeAnd (files file) (λ bytes. (length bytes ≤ MOST_FILE_BYTES) × (read_of settings.layout cycle bytes ≡ Err fault))
 
 -- the first of these images that ends wrongly has this file
 pub record EndsWronglyIn (images : List CycleImage) (file : List ℕ) : Type 0 where
@@ -146,7 +146,7 @@ IsSmall files settings file = IsSomeAnd (files file) (λ bytes. length bytes ≤
 pub record IsWhole (files : Files) (settings : Settings) (file : List ℕ) : Type 0 where
   pub cycle : ℕ
   pub named : IsImageName settings cycle file
-  pub read : IsSomeAnd (files file) (λ bytes. (length bytes ≤ MOST_FILE_BYTES) × IsOk (read_of settings.shape cycle bytes))
+  pub read : IsSomeAnd (files file) (λ bytes. (length bytes ≤ MOST_FILE_BYTES) × IsOk (read_of settings.layout cycle bytes))
 
 -- by the files' configuration all image files are named as images of cycles
 pub record NameCycles (files : Files) : Type 0 where

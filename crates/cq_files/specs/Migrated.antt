@@ -2,7 +2,7 @@
 use Rattle.std.specs.Prelude.{◌≡◌, ◌⊎◌, ⊤, ℕ, ◌+◌, ◌≤◌, List, [], ◌∷◌, ◌++◌, Option, IfSome, IsOk, IsSomeAnd, Err, codes, if◌then◌else◌, length, map, string_bytes}
 use Rattle.std.specs.List.{AllByRecursion}
 use Rattle.cq_cycle.specs.declared.roll.TheConstants.{LAST_CYCLE}
-use Rattle.cq_layout.specs.Shape.{Measures, measures}
+use Rattle.cq_layout.specs.Layout.{CycleLayout, measures}
 use Rattle.cq_model.specs.Settings.{IsLawfulSettings, Settings, new_settings}
 use Rattle.cq_image.specs.Image.{AreNext, image_of}
 use Rattle.cq_image.specs.Reading.{read_of}
@@ -25,30 +25,30 @@ use Rattle.cq_files.specs.Saved.{first_file}
 -- the same settings in version 2, with 3 more cells a cycle
 abbrev pub moved_settings : Settings → Settings
 moved_settings settings =
-    new_settings (measures (settings.shape.cells + 3) settings.shape.index_count settings.shape.index_spacing) settings.cycles
+    new_settings (measures (settings.layout.cells + 3) settings.layout.index_count settings.layout.index_spacing) settings.cycles
     settings.roll settings.epoch settings.names
 
--- the shape by which an image is read: that of version 2 where it begins with a store record of that
-abbrev pub moving_shape : Settings → List ℕ → Measures
-moving_shape settings bytes =
-    if begins_as (moved_settings settings).shape bytes then (moved_settings settings).shape else settings.shape
+-- the layout by which an image is read: that of version 2 where it begins with a store record of that
+abbrev pub moving_layout : Settings → List ℕ → CycleLayout
+moving_layout settings bytes =
+    if begins_as (moved_settings settings).layout bytes then (moved_settings settings).layout else settings.layout
 
 -- the files hold this image, in the version with which it begins
 abbrev pub HoldsEither : Settings → Files → CycleImage → Type 0
 HoldsEither settings files image = IsSomeAnd (files (file_of image)) (λ bytes.
-    bytes ≡ image_of (moving_shape settings bytes) image.file.cycle image.messages image.ended)
+    bytes ≡ image_of (moving_layout settings bytes) image.file.cycle image.messages image.ended)
 
 -- these are all images of the folder in the order of their names, each in version 1 or 2, and their messages fit version 2
 pub record AreInEither (settings : Settings) (images : List CycleImage) (files : Files) : Type 0 where
   pub named : AllByRecursion (λ image. IsImageName settings image.file.cycle (file_of image)) images
-  pub fit : AllByRecursion (λ image. AreNext (moved_settings settings).shape [] image.messages) images
+  pub fit : AllByRecursion (λ image. AreNext (moved_settings settings).layout [] image.messages) images
   pub held : AllByRecursion (HoldsEither settings files) images
   pub listed : ListsImages (map file_of images) files
 
 -- this image in version 2, under its name
 abbrev pub moved_file : Settings → CycleImage → NamedFile
 moved_file settings image =
-    (file_of image, image_of (moved_settings settings).shape image.file.cycle image.messages image.ended)
+    (file_of image, image_of (moved_settings settings).layout image.file.cycle image.messages image.ended)
 
 -- these are the folder's images in version 2, in the order of their cycles; all but the last are ended, and the last is open
 pub record AreMovedImages (settings : Settings) (files : Files) (moved : List NamedFile) : Type 0 where
@@ -76,7 +76,7 @@ pub record MovesFiles (saved : SavedConfig) (names : List (List ℕ)) (before af
 pub record IsMoved (before after : Option Files) : Type 0 where
   pub saved : SavedConfig
   pub moved : List NamedFile
-  pub old : version_of saved.config.shape.store ≡ First
+  pub old : version_of saved.config.layout.store ≡ First
   pub lawful : IsLawfulSettings saved.config
   pub low : saved.floor ≤ LAST_CYCLE
   pub configured : IfSome before (λ files.
@@ -94,7 +94,7 @@ pub record IsWholeInEither (files : Files) (settings : Settings) (file : List �
   pub cycle : ℕ
   pub named : IsImageName settings cycle file
   pub read : IsSomeAnd (files file) (λ bytes. (length bytes ≤ MOST_FILE_BYTES)
-      × IsOk (read_of (moving_shape settings bytes) cycle bytes))
+      × IsOk (read_of (moving_layout settings bytes) cycle bytes))
 
 -- the file is named as the image of a cycle, it is small enough to be read, and the strict reader finds this fault in it, by the
 -- version with which it begins
@@ -102,7 +102,7 @@ pub record HoldsFaultInEither (settings : Settings) (files : Files) (file : List
   pub cycle : ℕ
   pub named : IsImageName settings cycle file
   pub found : IsSomeAnd (files file) (λ bytes. (length bytes ≤ MOST_FILE_BYTES)
-      × (read_of (moving_shape settings bytes) cycle bytes ≡ Err fault))
+      × (read_of (moving_layout settings bytes) cycle bytes ≡ Err fault))
 
 -- the images are read, and the first of them that ends wrongly has this file
 pub record EndsWronglyInEither (settings : Settings) (files : Files) (file : List ℕ) : Type 0 where
@@ -114,7 +114,7 @@ pub record EndsWronglyInEither (settings : Settings) (files : Files) (file : Lis
 abbrev pub IsReadingFault : Settings → ImageFile → List ℕ → ToolFault → Type 0
 IsReadingFault settings file bytes OutOfMemory = ⊤
 IsReadingFault settings file bytes (FaultyImage name fault) =
-    (string_bytes name ≡ string_bytes file.name) × (read_of (moving_shape settings bytes) file.cycle bytes ≡ Err fault)
+    (string_bytes name ≡ string_bytes file.name) × (read_of (moving_layout settings bytes) file.cycle bytes ≡ Err fault)
 IsReadingFault settings file bytes _ = ⊥
 
 -- what the files have to do with the fault of an image
@@ -149,7 +149,7 @@ pub record RefusesMove (files : Files) (fault : ToolFault) : Type 0 where
   pub configured : HasSettings files settings
   pub lawful : IsLawfulSettings settings
   pub low : configured.floor ≤ LAST_CYCLE
-  pub old : version_of settings.shape.store ≡ First
+  pub old : version_of settings.layout.store ≡ First
   pub cause : IsMoveFault settings files fault
 
 -- why a folder is not made one of version 2: it is not opened, or it is of version 1 and not moved

@@ -14,8 +14,8 @@ pub record IsSalvaged (settings : Settings) (file : List ℕ) (text : List ℕ) 
   pub cycle : ℕ
   pub named : IsImageName settings cycle file
   pub saved : IsSomeAnd (files file) (λ bytes. (length bytes ≤ MOST_FILE_BYTES)
-      × (text ≡ saved_text (salvage_of settings.shape cycle bytes)))
+      × (text ≡ saved_text (salvage_of settings.layout cycle bytes)))
 
--- the folder's configuration gives the shape and the names of cycles by which messages of the file were saved
+-- the folder's configuration gives the layout and the names of cycles by which messages of the file were saved
 abbrev pub IsSalvagedQueue : List ℕ → Option Files → List ℕ → Type 0
 IsSalvagedQueue file files text = IsShown IsSalvaged file files text

@@ -68,23 +68,23 @@ fn expect_read(alloc: Global, text: &str, want: &str) -> Result<(), Fail> {
 static TEXTS: [(&str, &str); 4] = [
     (
         "cq 1\nroll daily\nepoch 0\ncells 64\ncount 8\nspacing 1\ncycles 4\nname reader 0\n",
-        "Daily from 0, 4 of Shape { store: First, cells: 64, index_count: 8, index_spacing: 1 }, [\"reader\"] at [0] from 0",
+        "Daily from 0, 4 of Layout { store: First, cells: 64, index_count: 8, index_spacing: 1 }, [\"reader\"] at [0] from 0",
     ),
     (
         "cq 1\nroll daily\nepoch 0\ncells 64\ncount 8\nspacing 1\ncycles 4\nfloor 20005\n\
         name reader 85920820756481\n",
-        "Daily from 0, 4 of Shape { store: First, cells: 64, index_count: 8, index_spacing: 1 }, [\"reader\"] at [85920820756481] \
+        "Daily from 0, 4 of Layout { store: First, cells: 64, index_count: 8, index_spacing: 1 }, [\"reader\"] at [85920820756481] \
         from 20005",
     ),
     (
         "cq 1\nroll minutely\nepoch 253402300799999\ncells 3000\ncount 16\nspacing 256\ncycles 64\n\
         name b-2_.Z 18446744073709551615\nname a 85899345920001\n",
-        "Minutely from 253402300799999, 64 of Shape { store: First, cells: 3000, index_count: 16, index_spacing: 256 }, \
+        "Minutely from 253402300799999, 64 of Layout { store: First, cells: 3000, index_count: 16, index_spacing: 256 }, \
         [\"b-2_.Z\", \"a\"] at [18446744073709551615, 85899345920001] from 0",
     ),
     (
         "cq 2\nroll hourly\nepoch 3600000\ncells 64\ncount 8\nspacing 1\ncycles 4\nname reader 0\n",
-        "Hourly from 3600000, 4 of Shape { store: Second(Origin { epoch: 3600000, roll_length: 3600000 }), \
+        "Hourly from 3600000, 4 of Layout { store: Second(Origin { epoch: 3600000, roll_length: 3600000 }), \
         cells: 64, index_count: 8, index_spacing: 1 }, [\"reader\"] at [0] from 0",
     ),
 ];
@@ -279,7 +279,7 @@ static LIMITS: [(&str, &str); 14] = [
         "epoch 253402300800000\ncells 64\ncount 8\nspacing 1\ncycles 4\n",
         "BadConfig",
     ),
-    // The limits of a shape come first.
+    // The limits of a layout come first.
     (
         "epoch 18446744073709551615\ncells 30\ncount 8\nspacing 1\ncycles 0\n",
         "BadShape",

@@ -26,14 +26,14 @@ pub fn push_message(message: &[u8], behind: &str, text: &mut String) -> Result<(
     text.push_str(behind)
 }
 
-/// Settings as text: the roll and the epoch, the number of cycles and their shape, and the names.
+/// Settings as text: the roll and the epoch, the number of cycles and their layout, and the names.
 pub fn settings_text(alloc: Global, config: &Config) -> Result<String, AllocError> {
     format!(in alloc;
         "{:?} from {}, {} of {:?}, {:?}",
         config.roll(),
         config.epoch(),
         config.cycles(),
-        config.shape(),
+        config.layout(),
         config.names()
     )
 }

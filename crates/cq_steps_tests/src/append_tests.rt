@@ -1,6 +1,6 @@
 //! Appenders that are lost between any two steps of an append.
 use crate::queues::{
-    Call, Lost, Measures, Outcome, assert_none, push_missed_lost, shape_of, steps_to_stand,
+    Call, Lost, Measures, Outcome, assert_none, push_missed_lost, layout_of, steps_to_stand,
 };
 use cq_chain::message_length;
 use cq_layout::store_size;
@@ -40,9 +40,9 @@ impl Append<'_> {
 /// What is answered or left otherwise than wanted, where the caller is lost after each number of steps.
 fn missed_of(alloc: Global, append: &Append<'_>) -> Result<String, Fail> {
     let mut missed = String::new(alloc);
-    let shape = shape_of(alloc, append.measures)?;
+    let layout = layout_of(alloc, append.measures)?;
     let len = message_length(append.text.as_bytes())?;
-    let stands = steps_to_stand(shape, append.count, len);
+    let stands = steps_to_stand(layout, append.count, len);
     let lost = Lost {
         measures: append.measures,
         count: append.count,
@@ -145,7 +145,7 @@ fn assert_filled(
 
 #[test]
 fn an_appender_that_fills_the_cycle_is_lost(rt: HostRuntime) -> Result<(), Fail> {
-    let store = store_size(shape_of(rt.alloc(), (64, 8, 1))?);
+    let store = store_size(layout_of(rt.alloc(), (64, 8, 1))?);
     for (count, cells, begins) in &FILLED {
         let text = text_of(rt.alloc(), cells.saturating_sub(store))?;
         assert_filled(&rt, rt.alloc(), *count, text.as_str(), begins)?;

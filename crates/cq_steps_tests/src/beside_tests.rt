@@ -7,14 +7,14 @@ ghost use Rattle.cq_words.specs.Values.{IsOf};
 use crate::looking::look;
 use crate::publishing::publish;
 use crate::queues::{
-    Call, Measures, append_first, assert_none, lose, new_queue, push_left, shape_of, steps_to_stand,
+    Call, Measures, append_first, assert_none, lose, new_queue, push_left, layout_of, steps_to_stand,
 };
 use crate::reading::{load_first, tell};
 use crate::steps::Steps;
 use crate::writing::write;
 use cq_cycle::Index;
 use cq_fixtures::{DAY, push_missed};
-use cq_layout::Shape;
+use cq_layout::Layout;
 use cq_tail::{At, Found, Tailer};
 use cq_walks::{MessagePlace, Trail, behind};
 use cq_words::{Caller, Queue};
@@ -26,11 +26,11 @@ const MEASURES: Measures = (64, 8, 1);
 impl Call<'_> {
     /// The step that shows behind so many messages: the message of one byte stands, or the last of four steps, as that which
     /// ends the cycle before.
-    fn shows(self, shape: Shape, count: u32) -> u32
+    fn shows(self, layout: Layout, count: u32) -> u32
         ensures { result ≤ 2 ^ 31 }
     {
         match self {
-            Call::Append(_) => steps_to_stand(shape, count, 1),
+            Call::Append(_) => steps_to_stand(layout, count, 1),
             Call::Advance(_) | Call::GiveUp(_) => 4,
         }
     }
@@ -434,7 +434,7 @@ impl Beside {
 /// What is told otherwise than wanted, beside an appender that is lost behind so many messages after each number of steps.
 fn missed_beside(alloc: Global, count: u32, beside: &Beside) -> Result<String, Fail> {
     let mut missed = String::new(alloc);
-    let shows = beside.call.shows(shape_of(alloc, MEASURES)?, count);
+    let shows = beside.call.shows(layout_of(alloc, MEASURES)?, count);
     for steps in 0..shows + beside.call.rest() + 1 {
         let mut told = String::new(alloc);
         push_told(alloc, count, beside, steps, &mut told)?;

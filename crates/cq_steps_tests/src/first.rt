@@ -20,11 +20,11 @@ pub fn claim_first(queue: &Queue, caller: &mut Caller, room: u32) -> Option<u32>
     ensures of { IsOf queue.now caller.new }
     ensures claim { AfterClaim caller.old.view caller.new.view result }
 {
-    let shape = queue.config().shape();
-    if !fits(shape, &[], room) {
+    let layout = queue.config().layout();
+    if !fits(layout, &[], room) {
         return None;
     }
-    let walker = Walker::new(shape);
+    let walker = Walker::new(layout);
     let word = queue.cell_word(0, walker.position());
     Some(queue.claim(caller, 0, walker, word, 0, room))
 }

@@ -22,10 +22,10 @@ returns-clause-found c =
     }) [] in
     let text = c.args.text.now in
     let rest = c.in_ok-cycles.rest.now in
-    let kept : version_of settings.shape.store ≡ c.in_ok-version.version =
+    let kept : version_of settings.layout.store ≡ c.in_ok-version.version =
     version_kept c.in_ok-version.version c.in_ok-roll.roll c.in_ok-epoch.epoch in
     let lines : List (List (List ℕ)) = head_lines settings in
-    line_before (codes "cq" ∷ version_word (version_of settings.shape.store) ∷ []) (drop 1 lines) text
+    line_before (codes "cq" ∷ version_word (version_of settings.layout.store) ∷ []) (drop 1 lines) text
     c.in_ok-version.rest.now rest
     (c.in_ok-version.ensures.found ∙ ap (λ (v : FolderVersion). line_of (codes "cq" ∷ version_word v ∷ []) ++ 10
     ∷ c.in_ok-version.rest.now) (sym kept))
@@ -55,7 +55,7 @@ returns-clause-next c =
     }) [] in
     let text = c.args.text.now in
     let rest = c.in_ok-cycles.rest.now in
-    let kept : version_of settings.shape.store ≡ c.in_ok-version.version =
+    let kept : version_of settings.layout.store ≡ c.in_ok-version.version =
     version_kept c.in_ok-version.version c.in_ok-roll.roll c.in_ok-epoch.epoch in
     let writable : IsWritable settings [] 0 = record {
       epoch = c.in_ok-epoch.ensures.found.0;

@@ -1,5 +1,0 @@
-use Rattle.std.proofs.Common.{rules}
-use Rattle.cq_model.proofs.config.Config.of_shape.Goals as goal
-
-pub returns : goal.returns
-returns c = search rules
