@@ -1,0 +1,27 @@
+//! When the cycles of a queue begin and how long they are, as its store records say it from version 2 on, and the layout of
+//! cycles with such a store record.
+#![tactic(auto)]
+
+ghost use Rattle.std.specs.Prelude.{◌≡◌};
+ghost use Rattle.cq_origin.specs.Origins.{layout_of, origin_of};
+
+use cq_cycle::Roll;
+use cq_layout::{Layout, Origin, Shape, StoreVersion};
+
+/// The origin that a store record has in a queue with this roll and this epoch, in milliseconds of Unix time.
+pub fn origin_of(roll: Roll, epoch: u64) -> Origin
+    ensures { result ≡ origin_of roll epoch }
+{
+    Origin {
+        epoch,
+        roll_length: roll.millis() as u32,
+    }
+}
+
+/// The layout of a cycle of this shape with a store record of version 2, in a queue with this roll and this epoch, in
+/// milliseconds of Unix time.
+pub fn layout_of(shape: Shape, roll: Roll, epoch: u64) -> Layout
+    ensures { result ≡ layout_of shape roll epoch }
+{
+    Layout::new(shape, StoreVersion::Second(origin_of(roll, epoch)))
+}
