@@ -6,7 +6,8 @@ use Rattle.std.specs.Fmt.{decimal}
 use Rattle.cq_cycle.specs.RollWord.{roll_word}
 use Rattle.cq_cycle.specs.declared.roll.Roll.{Roll}
 use Rattle.cq_cycle.specs.declared.roll.Roll.TheVariants.{Daily, Hourly, Minutely}
-use Rattle.cq_layout.specs.Layout.{measures_in}
+use Rattle.cq_layout.specs.Layout.{layout_in}
+use Rattle.cq_layout.specs.Shape.{measures}
 use Rattle.cq_layout.specs.declared.store_record.StoreVersion.{StoreVersion}
 use Rattle.cq_config_text.specs.Version.{store_in, version_of, version_word}
 use Rattle.cq_config_text.specs.declared.version.FolderVersion.{FolderVersion}
@@ -193,7 +194,7 @@ name_lines_injective (name ∷ names) (place ∷ places) (name' ∷ names') (pla
 -- the settings with these parts
 made : StoreVersion → ℕ → ℕ → ℕ → ℕ → Roll → ℕ → List (List ℕ) → Settings
 made store cells count spacing cycles roll epoch names =
-    settings_of (measures_in store cells count spacing) cycles roll epoch names
+    settings_of (layout_in store (measures cells count spacing)) cycles roll epoch names
 
 made_of : (settings : Settings) → settings ≡ made settings.layout.store settings.layout.cells settings.layout.index_count
     settings.layout.index_spacing settings.cycles settings.roll settings.epoch settings.names

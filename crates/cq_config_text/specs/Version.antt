@@ -3,7 +3,7 @@ use Rattle.std.specs.Prelude.{ℕ, List, codes}
 use Rattle.cq_cycle.specs.declared.roll.Roll.{Roll}
 use Rattle.cq_layout.specs.declared.store_record.StoreVersion.{StoreVersion}
 use Rattle.cq_layout.specs.declared.store_record.StoreVersion.TheVariants as store
-use Rattle.cq_model.specs.Settings.{origin_of}
+use Rattle.cq_origin.specs.Origins.{origin_of}
 use Rattle.cq_config_text.specs.declared.version.FolderVersion.{FolderVersion}
 use Rattle.cq_config_text.specs.declared.version.FolderVersion.TheVariants.{First, Second}
 

@@ -2,13 +2,19 @@
 
 ghost use Rattle.std.specs.Prelude.{◌≡◌, ◌<◌, ◌^◌, ℕ, List, [], ◌∷◌, All, None, Some, codes, length};
 ghost use Rattle.cq_cycle.specs.declared.roll.Roll.TheVariants.{Daily};
-ghost use Rattle.cq_layout.specs.Layout.{measures};
-ghost use Rattle.cq_model.specs.Settings.{IsLawfulSettings, Settings, settings_of};
+ghost use Rattle.cq_layout.specs.Layout.{layout_in};
+ghost use Rattle.cq_layout.specs.Shape.{measures};
+ghost use Rattle.cq_layout.specs.declared.store_record.StoreVersion.TheVariants.{First};
+ghost use Rattle.cq_model.specs.Settings.{IsLawfulSettings, Settings, new_settings, settings_of};
 ghost use Rattle.cq_config_text.specs.ConfigText.{IsTextOf, config_text, faulty_line};
 
-/// The text of a queue with one tailer, which has no faulty line.
+/// The text of a new queue with one tailer, and that of version 1. Neither has a faulty line.
 pub fn a_configuration_has_its_text()
-    ensures text { config_text (settings_of (measures 64 8 1) 4 Daily 0 (codes "reader" ∷ [])) (0 ∷ []) 0
+    ensures new { config_text (new_settings (measures 64 8 1) 4 Daily 0 (codes "reader" ∷ [])) (0 ∷ []) 0
+        ≡ codes "cq 2\nroll daily\nepoch 0\ncells 64\ncount 8\nspacing 1\ncycles 4\nname reader 0\n" }
+    ensures whole_new { faulty_line
+        (codes "cq 2\nroll daily\nepoch 0\ncells 64\ncount 8\nspacing 1\ncycles 4\nname reader 0\n") ≡ None }
+    ensures text { config_text (settings_of (layout_in First (measures 64 8 1)) 4 Daily 0 (codes "reader" ∷ [])) (0 ∷ []) 0
         ≡ codes "cq 1\nroll daily\nepoch 0\ncells 64\ncount 8\nspacing 1\ncycles 4\nname reader 0\n" }
     ensures whole { faulty_line
         (codes "cq 1\nroll daily\nepoch 0\ncells 64\ncount 8\nspacing 1\ncycles 4\nname reader 0\n") ≡ None }
@@ -16,7 +22,7 @@ pub fn a_configuration_has_its_text()
 
 /// The text of that queue where reads look at the cycles from 20005 on.
 pub fn a_floor_has_its_line()
-    ensures text { config_text (settings_of (measures 64 8 1) 4 Daily 0 (codes "reader" ∷ [])) (0 ∷ []) 20005
+    ensures text { config_text (settings_of (layout_in First (measures 64 8 1)) 4 Daily 0 (codes "reader" ∷ [])) (0 ∷ []) 20005
         ≡ codes "cq 1\nroll daily\nepoch 0\ncells 64\ncount 8\nspacing 1\ncycles 4\nfloor 20005\nname reader 0\n" }
     ensures whole { faulty_line
         (codes "cq 1\nroll daily\nepoch 0\ncells 64\ncount 8\nspacing 1\ncycles 4\nfloor 20005\nname reader 0\n") ≡ None }

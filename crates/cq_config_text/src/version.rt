@@ -7,7 +7,7 @@ ghost use Rattle.cq_config_text.specs.declared.version.FolderVersion.{FolderVers
 
 use cq_cycle::Roll;
 use cq_layout::StoreVersion;
-use cq_model::origin_of;
+use cq_origin::origin_of;
 use std::fmt;
 
 /// The version of a folder, which is that of the store records of its images.

@@ -1,7 +1,7 @@
 -- The queue of a race, and how its workers end.
 use Rattle.std.specs.Prelude.{◌≡◌, ℕ, ◌*◌, [], IfOk, Result, Vec, vec_len}
 use Rattle.cq_cycle.specs.declared.roll.Roll.TheVariants.{Daily}
-use Rattle.cq_layout.specs.Layout.{measures}
+use Rattle.cq_layout.specs.Shape.{measures}
 use Rattle.cq_model.specs.Settings.{Settings, new_settings}
 use Rattle.cq_text.specs.declared.fault.ToolFault.{ToolFault}
 use Rattle.cq_text.specs.declared.fault.ToolFault.TheVariants as fault

@@ -16,7 +16,7 @@ mod salvage_lines;
 mod text;
 
 pub use cycle_line::cycle;
-pub use dump_lines::dump_text;
+pub use dump_lines::{dump_text, dump_text_by_layout};
 pub use echoing::echo;
 pub use fault::ToolFault;
 pub use input::read_input;

@@ -4,7 +4,7 @@ use Rattle.std.specs.List.{AllByRecursion}
 use Rattle.std.specs.Str.{IsUtf8}
 use Rattle.cq_cycle.specs.declared.roll.Roll.{Roll}
 use Rattle.cq_cycle.specs.declared.roll.Roll.TheVariants as roll
-use Rattle.cq_layout.specs.Layout.{measures}
+use Rattle.cq_layout.specs.Shape.{measures}
 use Rattle.cq_model.specs.Settings.{IsLawfulSettings, new_settings}
 use Rattle.cq_model.specs.Settings as model
 use Rattle.cq_text.specs.Lines.{input_lines}

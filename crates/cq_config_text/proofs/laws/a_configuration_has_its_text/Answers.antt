@@ -10,3 +10,11 @@ returns-clause-text c = refl
 pub returns-clause-whole : goal.returns-clause-whole
 unfolding digits fault_from first_fault has_form
 returns-clause-whole c = refl
+
+pub returns-clause-new : goal.returns-clause-new
+unfolding digits
+returns-clause-new c = refl
+
+pub returns-clause-whole_new : goal.returns-clause-whole_new
+unfolding digits fault_from first_fault has_form
+returns-clause-whole_new c = refl
