@@ -62,6 +62,9 @@ impl WantedConfig {
         let index_count = u32::try_from(self.index_count).ok()?;
         let index_spacing = u32::try_from(self.index_spacing).ok()?;
         let shape = Shape::new(cells, index_count, index_spacing).ok()?;
-        Some(Layout::new(shape, self.version.store(self.roll, self.epoch)))
+        let layout = Layout::new(shape, self.version.store(self.roll, self.epoch));
+        // The readers of a layout ensure that it is lawful.
+        let _cells = layout.cells();
+        Some(layout)
     }
 }
