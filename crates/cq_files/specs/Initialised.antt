@@ -1,6 +1,6 @@
 -- What `init` makes of its settings.
 use Rattle.std.specs.Prelude.{◌≡◌, ◌⊎◌, ⊤, ℕ, List, length, replicate, Option, IfSome, IsSome, codes, string_bytes}
-use Rattle.cq_layout.specs.Layout.{CycleLayout, measures}
+use Rattle.cq_layout.specs.Shape.{Measures, measures}
 use Rattle.cq_cycle.specs.declared.roll.Roll.{Roll}
 use Rattle.cq_cycle.specs.RollWord.{roll_word}
 use Rattle.cq_model.specs.Settings.{IsLawfulSettings, Settings, new_settings, texts}
@@ -12,12 +12,12 @@ use Rattle.cq_orders.specs.declared.settings.InitSettings.{InitSettings}
 use Rattle.cq_files.specs.FolderFaults.{IsFileFault, IsLimitFault, IsSaveFault}
 
 -- the measures that were asked for
-abbrev pub wanted_layout : InitSettings → CycleLayout
-wanted_layout wanted = measures wanted.cells wanted.index_count wanted.index_spacing
+abbrev pub wanted_shape : InitSettings → Measures
+wanted_shape wanted = measures wanted.cells wanted.index_count wanted.index_spacing
 
 -- the settings of a new queue that were asked for, with this roll
 abbrev pub wanted_settings : InitSettings → Roll → Settings
-wanted_settings wanted roll = new_settings (wanted_layout wanted) wanted.cycles roll wanted.epoch (texts wanted.names.items)
+wanted_settings wanted roll = new_settings (wanted_shape wanted) wanted.cycles roll wanted.epoch (texts wanted.names.items)
 
 -- the text says what was asked for, which is lawful, each name stands at 0, and so does the floor
 pub record IsTextFor (wanted : InitSettings) (roll : Roll) (text : List ℕ) : Type 0 where

@@ -2,7 +2,8 @@
 use Rattle.std.specs.Prelude.{◌≡◌, ◌⊎◌, ⊤, ℕ, ◌+◌, ◌≤◌, List, [], ◌∷◌, ◌++◌, Option, IfSome, IsOk, IsSomeAnd, Err, codes, if◌then◌else◌, length, map, string_bytes}
 use Rattle.std.specs.List.{AllByRecursion}
 use Rattle.cq_cycle.specs.declared.roll.TheConstants.{LAST_CYCLE}
-use Rattle.cq_layout.specs.Layout.{CycleLayout, measures}
+use Rattle.cq_layout.specs.Layout.{CycleLayout}
+use Rattle.cq_layout.specs.Shape.{measures}
 use Rattle.cq_model.specs.Settings.{IsLawfulSettings, Settings, new_settings}
 use Rattle.cq_image.specs.Image.{AreNext, image_of}
 use Rattle.cq_image.specs.Reading.{read_of}
