@@ -99,7 +99,7 @@ pub fn case_of(word: &str) -> Option<Case> {
     None
 }
 
-/// CycleLayout all cases, and prints their lines.
+/// Measures all cases, and prints their lines.
 pub fn print_all<R: AllocGlobal + Clock + Print + Threads + Sync>(
     rt: &R,
     settings: &Settings,
@@ -110,7 +110,7 @@ pub fn print_all<R: AllocGlobal + Clock + Print + Threads + Sync>(
     Ok(())
 }
 
-/// CycleLayout a case, and prints its lines.
+/// Measures a case, and prints its lines.
 pub fn print_case<R: AllocGlobal + Clock + Print + Threads + Sync>(
     rt: &R,
     settings: &Settings,

@@ -6,7 +6,7 @@ use crate::queues::{SharedQueue, message_count};
 use crate::reading::{Reading, Target};
 use crate::running::{Job, time_of};
 use crate::settings::Settings;
-use cq_layout::Layout;
+use cq_layout::Shape;
 use std::alloc::{AllocError, Global};
 use std::rt::Clock;
 use std::thread::Threads;
@@ -93,12 +93,12 @@ impl Crew {
 /// The time of a crew on a new queue.
 fn crew_time<R: AllocGlobal + Clock + Threads + Sync>(
     rt: &R,
-    layout: Layout,
+    shape: Shape,
     crew: Crew,
     share: Share,
     bytes: &[u8],
 ) -> Result<Duration, BenchFault> {
-    let mut shared = SharedQueue::new(rt.alloc(), layout)?;
+    let mut shared = SharedQueue::new(rt.alloc(), shape)?;
     if crew.appenders == 0 {
         shared.appender()?.append_all(bytes, share.all)?;
     }
@@ -114,15 +114,15 @@ fn crew_figure<R: AllocGlobal + Clock + Threads + Sync>(
     length: u32,
 ) -> Result<Figure, BenchFault> {
     let bytes = Vec::from_elem(rt.alloc(), b'x', length as usize)?;
-    let share = crew.share(message_count(settings.layout, length))?;
+    let share = crew.share(message_count(settings.shape, length))?;
     let mut best = Duration::MAX;
     for _ in 0..settings.repetitions {
-        best = best.min(crew_time(rt, settings.layout, crew, share, bytes.as_slice())?);
+        best = best.min(crew_time(rt, settings.shape, crew, share, bytes.as_slice())?);
     }
     Ok(Figure::rate(crew.messages(share), best))
 }
 
-/// CycleLayout each crew with each length of messages.
+/// Measures each crew with each length of messages.
 pub fn print_crews<R: AllocGlobal + Clock + Print + Threads + Sync>(
     rt: &R,
     settings: &Settings,

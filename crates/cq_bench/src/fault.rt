@@ -5,8 +5,8 @@ use std::alloc::AllocError;
 /// Why a case has no figure.
 #[derive(Debug, Drop, thiserror::Error)]
 pub enum BenchFault {
-    /// There is no queue of this layout.
-    #[error("there is no queue of this layout")]
+    /// There is no queue of this shape.
+    #[error("there is no queue of this shape")]
     NoQueue,
     /// A cycle has no room for the messages of the case.
     #[error("a cycle has no room for the messages")]

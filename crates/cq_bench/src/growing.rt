@@ -4,7 +4,7 @@ use crate::figures::{Figure, Label, print_line};
 use crate::queues::{SharedAppender, SharedQueue, message_count};
 use crate::running::now;
 use crate::settings::Settings;
-use cq_layout::Layout;
+use cq_layout::Shape;
 use std::alloc::{AllocError, Global};
 use std::rt::Clock;
 use std::time::Duration;
@@ -119,22 +119,22 @@ fn eighths_by<R: AllocGlobal + Clock>(
 /// The times over a new queue.
 fn eighths_of<R: AllocGlobal + Clock>(
     rt: &R,
-    layout: Layout,
+    shape: Shape,
     growth: Growth,
     eighth: u32,
 ) -> Result<Eighths, BenchFault> {
-    let mut shared = SharedQueue::new(rt.alloc(), layout)?;
+    let mut shared = SharedQueue::new(rt.alloc(), shape)?;
     let mut warm = shared.appender()?;
     eighths_by(rt, growth, &mut shared, &mut warm, eighth)
 }
 
-/// CycleLayout appends early and late in a cycle.
+/// Measures appends early and late in a cycle.
 pub fn print_growth<R: AllocGlobal + Clock + Print>(
     rt: &R,
     settings: &Settings,
     growth: Growth,
 ) -> Result<(), BenchFault> {
-    let eighth = message_count(settings.layout, LENGTH) / 8;
+    let eighth = message_count(settings.shape, LENGTH) / 8;
     if eighth < BATCHES * BATCH {
         return Err(BenchFault::NoRoom);
     }
@@ -143,7 +143,7 @@ pub fn print_growth<R: AllocGlobal + Clock + Print>(
         last: Duration::MAX,
     };
     for _ in 0..settings.repetitions {
-        let Eighths { first, last } = eighths_of(rt, settings.layout, growth, eighth)?;
+        let Eighths { first, last } = eighths_of(rt, settings.shape, growth, eighth)?;
         best = Eighths {
             first: best.first.min(first),
             last: best.last.min(last),

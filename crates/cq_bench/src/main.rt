@@ -1,4 +1,4 @@
-//! CycleLayout a queue: prints a line of JSON for each figure on standard output.
+//! Measures a queue: prints a line of JSON for each figure on standard output.
 //!
 //! The words of the command line say which cases, or `all`. Without a word it prints what words there are. It ends with
 //! status 0 where all was measured, 1 after a fault and 2 where a word or a variable is not understood. What is wrong goes
@@ -91,7 +91,7 @@ fn is_known(word: &str) -> bool {
     word == ALL || word == TRIAL || case_of(word).is_some()
 }
 
-/// CycleLayout what each word says. Where there is none, prints the words.
+/// Measures what each word says. Where there is none, prints the words.
 fn print_words<R>(rt: &R, settings: &Settings, words: &[String]) -> Result<(), BenchFault>
 where
     R: AllocGlobal + Clock + Print + Threads + Sync,
@@ -105,7 +105,7 @@ where
     Ok(())
 }
 
-/// CycleLayout what a word says.
+/// Measures what a word says.
 fn print_word<R>(rt: &R, settings: &Settings, word: &str) -> Result<(), BenchFault>
 where
     R: AllocGlobal + Clock + Print + Threads + Sync,

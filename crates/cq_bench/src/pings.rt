@@ -9,7 +9,7 @@ use crate::reading::read_copy;
 use crate::running::{Gate, now};
 use crate::settings::Settings;
 use cq_append::Appender;
-use cq_layout::Layout;
+use cq_layout::Shape;
 use cq_tail::Tailer;
 use cq_words::Queue;
 use std::alloc::Global;
@@ -108,8 +108,8 @@ fn receive<R: AllocGlobal + Clock>(
 }
 
 /// An appender and a tailer of a new queue.
-fn new_pair(alloc: Global, layout: Layout) -> Result<(SharedAppender, SharedTailer), BenchFault> {
-    let mut shared = SharedQueue::new(alloc, layout)?;
+fn new_pair(alloc: Global, shape: Shape) -> Result<(SharedAppender, SharedTailer), BenchFault> {
+    let mut shared = SharedQueue::new(alloc, shape)?;
     Ok((shared.appender()?, shared.tailer()?))
 }
 
@@ -134,10 +134,10 @@ fn send_and_receive<R: AllocGlobal + Clock + Threads + Sync>(
 /// The times of so many messages, one at a time.
 fn ping_times<R: AllocGlobal + Clock + Threads + Sync>(
     rt: &R,
-    layout: Layout,
+    shape: Shape,
     count: u32,
 ) -> Result<Times, BenchFault> {
-    let (appender, tailer) = new_pair(rt.alloc(), layout)?;
+    let (appender, tailer) = new_pair(rt.alloc(), shape)?;
     let (sent, received) = send_and_receive(rt, appender, tailer, count);
     let mut times = times_between(rt.alloc(), sent?.as_slice(), received?.as_slice())?;
     times.sort_unstable();
@@ -173,18 +173,18 @@ fn times_of(times: &[Duration]) -> Result<Times, BenchFault> {
     }
 }
 
-/// CycleLayout messages that are sent one at a time.
+/// Measures messages that are sent one at a time.
 pub fn print_pings<R: AllocGlobal + Clock + Print + Threads + Sync>(
     rt: &R,
     settings: &Settings,
 ) -> Result<(), BenchFault> {
-    let count = message_count(settings.layout, LENGTH).min(MOST_PINGS);
+    let count = message_count(settings.shape, LENGTH).min(MOST_PINGS);
     let mut best = Times {
         half: Duration::MAX,
         most: Duration::MAX,
     };
     for _ in 0..settings.repetitions {
-        let Times { half, most } = ping_times(rt, settings.layout, count)?;
+        let Times { half, most } = ping_times(rt, settings.shape, count)?;
         best = Times {
             half: best.half.min(half),
             most: best.most.min(most),

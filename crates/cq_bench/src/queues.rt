@@ -9,36 +9,38 @@ use crate::fault::BenchFault;
 use crate::reading::{Target, read_all};
 use cq_append::Appender;
 use cq_cycle::Roll;
-use cq_layout::{Layout, record_cells, store_size};
+use cq_layout::{Shape, record_cells, store_size};
+use cq_origin::layout_of;
 use cq_model::Config;
 use cq_tail::Tailer;
 use cq_words::{Caller, Queue};
 use std::alloc::{AllocError, Global};
 use std::sync::Arc;
 
-/// The settings of a queue with one cycle of this layout, which is a day.
-pub fn config_of(alloc: Global, layout: Layout) -> Result<Config, BenchFault> {
-    match Config::new(layout, 1, Roll::Daily, 0, Vec::new(alloc)) {
+/// The settings of a queue with one cycle of this shape, which is a day.
+pub fn config_of(alloc: Global, shape: Shape) -> Result<Config, BenchFault> {
+    match Config::new(shape, 1, Roll::Daily, 0, Vec::new(alloc)) {
         Ok(config) => Ok(config),
         Err(_) => Err(BenchFault::NoQueue),
     }
 }
 
-/// A new queue with one cycle of this layout, and its first caller.
-pub fn new_queue(alloc: Global, layout: Layout) -> Result<(Queue, Caller), BenchFault>
+/// A new queue with one cycle of this shape, and its first caller.
+pub fn new_queue(alloc: Global, shape: Shape) -> Result<(Queue, Caller), BenchFault>
     ensures of { IfOk result (λ made. IsOf made.0 made.1) }
     ensures idle { IfOk result (λ made. made.1.view.claim ≡ None) }
 {
-    Ok(Queue::create(alloc, config_of(alloc, layout)?, MOMENT)?)
+    Ok(Queue::create(alloc, config_of(alloc, shape)?, MOMENT)?)
 }
 
-/// How many messages of so many bytes fit in a cycle of this layout for certain, with all tables that they need.
-pub fn message_count(layout: Layout, length: u32) -> u32 {
-    let table = 1 + u64::from(layout.index_count());
+/// How many messages of so many bytes fit in a cycle of this shape for certain, with all tables that they need.
+pub fn message_count(shape: Shape, length: u32) -> u32 {
+    let layout = layout_of(shape, Roll::Daily, 0);
+    let table = 1 + u64::from(shape.index_count());
     let served = u64::from(layout.messages_per_table());
     let record = u64::from(record_cells(length));
     // Behind the store record, the top table, one index table and the end of data.
-    let room = u64::from(layout.cells()) - u64::from(store_size(layout)) - 2 * table - 1;
+    let room = u64::from(shape.cells()) - u64::from(store_size(layout)) - 2 * table - 1;
     let fitting = room * served / (served * record + table);
     fitting.min(u64::from(layout.message_limit())) as u32
 }
@@ -53,9 +55,9 @@ pub struct SharedQueue {
 }
 
 impl SharedQueue {
-    /// A new queue with one cycle of this layout.
-    pub fn new(alloc: Global, layout: Layout) -> Result<SharedQueue, BenchFault> {
-        let (queue, caller) = new_queue(alloc, layout)?;
+    /// A new queue with one cycle of this shape.
+    pub fn new(alloc: Global, shape: Shape) -> Result<SharedQueue, BenchFault> {
+        let (queue, caller) = new_queue(alloc, shape)?;
         let queue = Arc::new(alloc, queue).map_err(|_| AllocError)?;
         Ok(SharedQueue { queue, caller })
     }

@@ -128,18 +128,18 @@ fn best_reads_of_new<R: AllocGlobal + Clock>(
 ) -> Result<Figure, BenchFault>
     requires some { 0 < count }
 {
-    let (queue, mut caller) = new_queue(rt.alloc(), settings.layout)?;
+    let (queue, mut caller) = new_queue(rt.alloc(), settings.shape)?;
     let mut tailer = Tailer::new(queue.split(&mut caller));
     fill(&queue, caller, count)?;
     best_reads(rt, settings, &queue, &mut tailer, count)
 }
 
-/// CycleLayout reads by index.
+/// Measures reads by index.
 pub fn print_random_reads<R: AllocGlobal + Clock + Print>(
     rt: &R,
     settings: &Settings,
 ) -> Result<(), BenchFault> {
-    let count = message_count(settings.layout, LENGTH);
+    let count = message_count(settings.shape, LENGTH);
     if count == 0 {
         return Err(BenchFault::NoRoom);
     }

@@ -10,11 +10,11 @@ use crate::reading::{Target, read_all};
 use crate::running::now;
 use crate::settings::Settings;
 use cq_append::Appender;
-use cq_image::{ImageRead, ReadFault, image};
+use cq_cycle::Roll;
+use cq_image::{ImageRead, ReadFault, image_by_layout, recover};
 use cq_journal::laws::what_a_stopped_queue_holds_has_images;
-use cq_layout::Layout;
+use cq_layout::Shape;
 use cq_model::{Contents, CycleList, Items, Message};
-use cq_shown::recover;
 use cq_tail::Tailer;
 use cq_words::{Caller, Queue};
 use std::alloc::{AllocError, Global};
@@ -42,7 +42,13 @@ fn stopped_image(alloc: Global, queue: Queue, caller: Caller) -> Result<Vec<u8>,
         return Err(BenchFault::Missing);
     };
     what_a_stopped_queue_holds_has_images();
-    Ok(image(alloc, list.cycle, layout, list.messages.as_slice(), false)?)
+    Ok(image_by_layout(
+        alloc,
+        list.cycle,
+        layout,
+        list.messages.as_slice(),
+        false,
+    )?)
 }
 
 /// Appends so many messages to a queue, stops it, and makes its image.
@@ -61,8 +67,8 @@ fn filled_image(
 }
 
 /// The image of a new queue to which so many messages were appended, and how long that took.
-fn save<R: AllocGlobal + Clock>(rt: &R, layout: Layout, count: u32) -> Result<Saved, BenchFault> {
-    let (queue, caller) = new_queue(rt.alloc(), layout)?;
+fn save<R: AllocGlobal + Clock>(rt: &R, shape: Shape, count: u32) -> Result<Saved, BenchFault> {
+    let (queue, caller) = new_queue(rt.alloc(), shape)?;
     let start = now(rt)?;
     let image = filled_image(rt.alloc(), queue, caller, count)?;
     let time = now(rt)?.duration_since(start);
@@ -70,8 +76,8 @@ fn save<R: AllocGlobal + Clock>(rt: &R, layout: Layout, count: u32) -> Result<Sa
 }
 
 /// The messages of the cycle of which this is the image.
-fn messages_of(alloc: Global, layout: Layout, image: &[u8]) -> Result<Items<Message>, BenchFault> {
-    match cq_image::read(alloc, 0, layout, image) {
+fn messages_of(alloc: Global, shape: Shape, image: &[u8]) -> Result<Items<Message>, BenchFault> {
+    match cq_image::read(alloc, 0, shape, Roll::Daily, 0, image) {
         Ok(ImageRead { messages, ended: _ }) => Ok(messages),
         Err(ReadFault::Fault(_)) => Err(BenchFault::Missing),
         Err(ReadFault::OutOfMemory) => Err(BenchFault::OutOfMemory),
@@ -89,16 +95,16 @@ fn contents_of(alloc: Global, messages: Items<Message>) -> Result<Contents, Allo
 }
 
 /// What the queue holds of which this is the image.
-fn contents_in(alloc: Global, layout: Layout, image: &[u8]) -> Result<Contents, BenchFault> {
-    Ok(contents_of(alloc, messages_of(alloc, layout, image)?)?)
+fn contents_in(alloc: Global, shape: Shape, image: &[u8]) -> Result<Contents, BenchFault> {
+    Ok(contents_of(alloc, messages_of(alloc, shape, image)?)?)
 }
 
 /// A queue that is opened with these contents, and its first caller.
-fn reopened(alloc: Global, layout: Layout, contents: &Contents) -> Result<(Queue, Caller), BenchFault>
+fn reopened(alloc: Global, shape: Shape, contents: &Contents) -> Result<(Queue, Caller), BenchFault>
     ensures of { IfOk result (λ made. IsOf made.0 made.1) }
     ensures idle { IfOk result (λ made. made.1.view.claim ≡ None) }
 {
-    Ok(Queue::reopen(alloc, config_of(alloc, layout)?, contents)?)
+    Ok(Queue::reopen(alloc, config_of(alloc, shape)?, contents)?)
 }
 
 /// Reads so many messages, and answers the time since a start.
@@ -119,39 +125,39 @@ fn time_to_read<R: AllocGlobal + Clock>(
 /// Reads an image, opens a queue with what it holds, and reads so many messages. Answers the time that it took.
 fn reopen_time<R: AllocGlobal + Clock>(
     rt: &R,
-    layout: Layout,
+    shape: Shape,
     image: &[u8],
     count: u32,
 ) -> Result<Duration, BenchFault> {
     let start = now(rt)?;
-    let contents = contents_in(rt.alloc(), layout, image)?;
-    let (queue, caller) = reopened(rt.alloc(), layout, &contents)?;
+    let contents = contents_in(rt.alloc(), shape, image)?;
+    let (queue, caller) = reopened(rt.alloc(), shape, &contents)?;
     time_to_read(rt, &queue, &mut Tailer::new(caller), count, start)
 }
 
-/// CycleLayout how a queue is saved.
+/// Measures how a queue is saved.
 pub fn print_save<R: AllocGlobal + Clock + Print>(
     rt: &R,
     settings: &Settings,
 ) -> Result<(), BenchFault> {
-    let count = message_count(settings.layout, LENGTH);
+    let count = message_count(settings.shape, LENGTH);
     let mut best = Duration::MAX;
     for _ in 0..settings.repetitions {
-        best = best.min(save(rt, settings.layout, count)?.time);
+        best = best.min(save(rt, settings.shape, count)?.time);
     }
     print_messages(rt, settings, "save", count, best)
 }
 
-/// CycleLayout how a queue is opened again.
+/// Measures how a queue is opened again.
 pub fn print_reopen<R: AllocGlobal + Clock + Print>(
     rt: &R,
     settings: &Settings,
 ) -> Result<(), BenchFault> {
-    let count = message_count(settings.layout, LENGTH);
-    let image = save(rt, settings.layout, count)?.image;
+    let count = message_count(settings.shape, LENGTH);
+    let image = save(rt, settings.shape, count)?.image;
     let mut best = Duration::MAX;
     for _ in 0..settings.repetitions {
-        best = best.min(reopen_time(rt, settings.layout, image.as_slice(), count)?);
+        best = best.min(reopen_time(rt, settings.shape, image.as_slice(), count)?);
     }
     print_messages(rt, settings, "reopen", count, best)
 }

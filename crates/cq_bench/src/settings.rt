@@ -1,20 +1,18 @@
-//! What a run is given: the layout of the queues, and how often and how long is measured.
+//! What a run is given: the shape of the queues, and how often and how long is measured.
 use crate::fault::BenchFault;
-use cq_cycle::Roll;
-use cq_layout::Layout;
-use cq_model::origin_of;
+use cq_layout::Shape;
 use std::env::{self, VarError};
 use std::rt::Env;
 use std::time::Duration;
 
-/// The layout where none is given.
+/// The shape where none is given.
 const SHAPE: &str = "1048576,256,16";
 
 /// What every case is given.
 #[derive(Clone, Copy)]
 pub struct Settings {
-    /// The layout of each queue's one cycle.
-    pub layout: Layout,
+    /// The shape of each queue's one cycle.
+    pub shape: Shape,
     /// How often each case is measured. The best figure counts.
     pub repetitions: u32,
     /// How long random reads go on at least.
@@ -26,8 +24,8 @@ pub struct Settings {
 /// A variable of the environment is not understood.
 #[derive(Debug, Drop, thiserror::Error)]
 pub enum SettingFault {
-    /// The layout is not three numbers within the limits of a layout.
-    #[error("CQ_SHAPE is no layout: CELLS,COUNT,SPACING")]
+    /// The shape is not three numbers within the limits of a shape.
+    #[error("CQ_SHAPE is no shape: CELLS,COUNT,SPACING")]
     BadShape,
     /// The repetitions are no number from 1 to 1,000.
     #[error("REPS is no number from 1 to 1000")]
@@ -38,7 +36,7 @@ impl Settings {
     /// What the environment says: in `CQ_SHAPE` the cells of a cycle, the entries of a table and the spacing, and in `REPS`
     /// how often each case is measured.
     pub fn of_environment<R: AllocGlobal + Env>(rt: &R) -> Result<Settings, SettingFault> {
-        let Some(layout) = variable(rt, "CQ_SHAPE", SHAPE).and_then(|text| layout_of(text.as_str()))
+        let Some(shape) = variable(rt, "CQ_SHAPE", SHAPE).and_then(|text| shape_of(text.as_str()))
         else {
             return Err(SettingFault::BadShape);
         };
@@ -48,7 +46,7 @@ impl Settings {
             return Err(SettingFault::BadRepetitions);
         };
         Ok(Settings {
-            layout,
+            shape,
             repetitions,
             reading_time: Duration::from_millis(300),
             is_trial: false,
@@ -57,11 +55,11 @@ impl Settings {
 
     /// A short run over small queues, without figures.
     pub fn of_trial() -> Result<Settings, BenchFault> {
-        let Some(layout) = layout_with(8192, 32, 4) else {
+        let Some(shape) = shape_with(8192, 32, 4) else {
             return Err(BenchFault::NoQueue);
         };
         Ok(Settings {
-            layout,
+            shape,
             repetitions: 1,
             reading_time: Duration::ZERO,
             is_trial: true,
@@ -78,8 +76,8 @@ fn variable<R: AllocGlobal + Env>(rt: &R, name: &str, otherwise: &str) -> Option
     }
 }
 
-/// The layout of three numbers.
-fn layout_of(text: &str) -> Option<Layout> {
+/// The shape of three numbers.
+fn shape_of(text: &str) -> Option<Shape> {
     let mut parts = text.split(',');
     let cells = number_of(parts.next())?;
     let count = number_of(parts.next())?;
@@ -87,13 +85,12 @@ fn layout_of(text: &str) -> Option<Layout> {
     if parts.next().is_some() {
         return None;
     }
-    layout_with(cells, count, spacing)
+    shape_with(cells, count, spacing)
 }
 
-/// The layout of a queue with these measures, whose cycles are days.
-fn layout_with(cells: u32, count: u32, spacing: u32) -> Option<Layout> {
-    let layout = Layout::new(cells, count, spacing).ok()?;
-    Some(layout.with_origin(origin_of(Roll::Daily, 0)))
+/// The shape with these measures.
+fn shape_with(cells: u32, count: u32, spacing: u32) -> Option<Shape> {
+    Shape::new(cells, count, spacing).ok()
 }
 
 fn number_of(text: Option<&str>) -> Option<u32> {

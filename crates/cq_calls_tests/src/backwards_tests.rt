@@ -5,7 +5,7 @@ ghost use Rattle.cq_words.specs.Values.{IsOf};
 
 use cq_append::Appender;
 use cq_fixtures::{DAY, config_of};
-use cq_layout::Layout;
+use cq_layout::Shape;
 use cq_tail::{Direction, Found, Tailer};
 use cq_words::{Caller, Queue};
 use std::alloc::{AllocError, Global};
@@ -206,7 +206,7 @@ fn back_text(alloc: Global, queue: &Queue, mut caller: Caller) -> Result<String,
 
 /// The same of a new queue whose index has an entry for each so many messages.
 fn new_queue_text(alloc: Global, spacing: u32) -> Result<String, Fail> {
-    let config = config_of(alloc, Layout::new(16384, 256, spacing)?, 4)?;
+    let config = config_of(alloc, Shape::new(16384, 256, spacing)?, 4)?;
     let (queue, caller) = Queue::create(alloc, config, 0)?;
     back_text(alloc, &queue, caller)
 }

@@ -2,7 +2,7 @@
 use crate::new_queues::two_of;
 use cq_endpoint::{AppendFault, Endpoint, Found};
 use cq_fixtures::{config_of, expect};
-use cq_layout::{Refusal, Layout};
+use cq_layout::{Refusal, Shape};
 use std::alloc::Global;
 use std::test::Fail;
 use std::thread::{Threads, map_vec, yield_now};
@@ -58,7 +58,7 @@ fn work(alloc: Global, mut endpoint: Endpoint) -> u32 {
 
 /// Two endpoints of a new queue, which has room for all messages.
 fn endpoints(alloc: Global) -> Result<Vec<Endpoint>, Fail> {
-    let config = config_of(alloc, Layout::new(16384, 64, 1)?, 1)?;
+    let config = config_of(alloc, Shape::new(16384, 64, 1)?, 1)?;
     let (first, second) = two_of(alloc, config)?;
     Ok(vec![in alloc; first, second]?)
 }

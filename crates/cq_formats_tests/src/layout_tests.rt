@@ -2,9 +2,8 @@
 
 ghost use Rattle.std.specs.Prelude.{◌≤◌};
 
-use crate::image_tests::DAYS;
 use cq_fixtures::{expect, expect_row, expect_text};
-use cq_layout::{BadShape, Layout, cells_for, fits, needs, pack, unpack};
+use cq_layout::{BadShape, Shape, cells_for, fits, fits_v1, needs, needs_v1, pack, unpack};
 use std::alloc::{AllocError, Global};
 use std::test::Fail;
 
@@ -45,13 +44,13 @@ fn payloads_are_unpacked(rt: HostRuntime) -> Result<(), Fail> {
     expect_text(unpacked_text(rt.alloc())?, "[104, 101, 108, 108, 111] []")
 }
 
-/// The measures of the layout that is made with these: cells, index count and index spacing.
+/// The measures of the shape that is made with these: cells, index count and index spacing.
 fn measures(cells: u32, index_count: u32, index_spacing: u32) -> Result<(u32, u32, u32), BadShape> {
-    let layout = Layout::new(cells, index_count, index_spacing)?;
-    Ok((layout.cells(), layout.index_count(), layout.index_spacing()))
+    let shape = Shape::new(cells, index_count, index_spacing)?;
+    Ok((shape.cells(), shape.index_count(), shape.index_spacing()))
 }
 
-/// Cells, index counts and index spacings, each beside whether they are measures of a layout.
+/// Cells, index counts and index spacings, each beside whether they are measures of a shape.
 static SHAPES: [(u32, u32, u32, bool); 16] = [
     (31, 8, 1, true),
     (64, 8, 1, true),
@@ -86,63 +85,78 @@ fn shapes_have_limits() -> Result<(), Fail> {
 
 #[test]
 fn messages_need_cells() -> Result<(), Fail> {
-    let layout = Layout::new(64, 8, 1)?;
-    expect_row(needs(layout, &[]) == 0, 0)?;
-    expect_row(needs(layout, &[5]) == 28, 1)?;
-    expect_row(needs(layout, &[5; 9]) == 61, 9)
+    let shape = Shape::new(64, 8, 1)?;
+    expect_row(needs(shape, &[]) == 0, 0)?;
+    expect_row(needs(shape, &[5]) == 31, 1)?;
+    expect_row(needs(shape, &[5; 8]) == 52, 8)
+}
+
+#[test]
+fn messages_need_three_cells_fewer_in_version_1() -> Result<(), Fail> {
+    let shape = Shape::new(64, 8, 1)?;
+    expect_row(needs_v1(shape, &[]) == 0, 0)?;
+    expect_row(needs_v1(shape, &[5]) == 28, 1)?;
+    expect_row(needs_v1(shape, &[5; 9]) == 61, 9)
 }
 
 #[test]
 fn messages_fit_up_to_the_end_of_data() -> Result<(), Fail> {
-    let layout = Layout::new(64, 8, 1)?;
-    expect(fits(layout, &[5; 8], 5), "a ninth message fits")?;
-    expect(!fits(layout, &[5; 9], 5), "a tenth message does not fit")?;
-    expect(fits(layout, &[5; 9], 4), "a tenth message of one cell fits")?;
+    let shape = Shape::new(64, 8, 1)?;
+    expect(fits(shape, &[5; 7], 5), "an eighth message fits")?;
+    expect(!fits(shape, &[5; 8], 5), "a ninth message does not fit")?;
+    expect(fits(shape, &[5; 8], 4), "a ninth message of one cell fits")?;
     expect(
-        !fits(layout, &[5, 5, 5, 5, 5, 5, 5, 5, 5, 4], 1),
+        !fits(shape, &[5, 5, 5, 5, 5, 5, 5, 5, 4], 1),
         "nothing fits in a full cycle",
     )?;
     expect(
-        !fits(layout, &[], 1_073_741_823),
+        !fits(shape, &[], 1_073_741_823),
         "the longest message does not fit",
     )
 }
 
 #[test]
-fn a_store_record_of_version_2_takes_three_cells_more() -> Result<(), Fail> {
-    let layout = Layout::new(64, 8, 1)?.with_origin(DAYS);
-    expect_row(needs(layout, &[5]) == 31, 1)?;
-    expect_row(needs(layout, &[5; 8]) == 52, 8)?;
-    expect(fits(layout, &[5; 7], 5), "an eighth message fits")?;
-    expect(!fits(layout, &[5; 8], 5), "a ninth message does not fit")?;
-    expect(fits(layout, &[5; 8], 4), "a ninth message of one cell fits")
+fn messages_fit_up_to_the_end_of_data_in_version_1() -> Result<(), Fail> {
+    let shape = Shape::new(64, 8, 1)?;
+    expect(fits_v1(shape, &[5; 8], 5), "a ninth message fits")?;
+    expect(!fits_v1(shape, &[5; 9], 5), "a tenth message does not fit")?;
+    expect(
+        fits_v1(shape, &[5; 9], 4),
+        "a tenth message of one cell fits",
+    )?;
+    expect(
+        !fits_v1(shape, &[5, 5, 5, 5, 5, 5, 5, 5, 5, 4], 1),
+        "nothing fits in a full cycle",
+    )?;
+    expect(
+        !fits_v1(shape, &[], 1_073_741_823),
+        "the longest message does not fit",
+    )
 }
 
-/// What so many messages of 128 bytes need in a cycle of this layout.
+/// What this many messages of 128 bytes need in a cycle of 65,536 cells, in version 1 and in version 2.
 #[tactic(auto, using(std::proofs::lemmas::Grind::pieces))]
-fn need_of(alloc: Global, layout: Layout, count: usize) -> Result<u64, Fail>
+fn needs_of(alloc: Global, count: usize) -> Result<(u64, u64), Fail>
     requires { count ≤ 1000 }
 {
+    let shape = Shape::new(65_536, 32, 1)?;
     let lengths = vec![in alloc; 128; count]?;
-    Ok(needs(layout, &lengths))
+    Ok((needs_v1(shape, &lengths), needs(shape, &lengths)))
 }
 
 #[test]
 fn a_thousand_messages_need_cells(rt: HostRuntime) -> Result<(), Fail> {
-    // Beside 33 cells for each message: the top table and 32 index tables of 33 cells each, and the store record of 7 or 10.
-    let first = Layout::new(65_536, 32, 1)?;
-    let second = first.with_origin(DAYS);
-    expect_row(need_of(rt.alloc(), first, 1000)? == 34_096, 1)?;
-    expect_row(need_of(rt.alloc(), second, 1000)? == 34_099, 2)
+    // 33 cells for each message, for the top table and for each of 32 index tables, and 7 or 10 for the store record.
+    expect_row(needs_of(rt.alloc(), 1000)? == (34_096, 34_099), 1)
 }
 
-/// Whether a message of one byte fits behind so many others in a cycle of 4,096 cells.
+/// Whether a message of one byte fits after this many others in a cycle of 4,096 cells.
 #[tactic(auto, using(std::proofs::lemmas::Grind::pieces))]
 fn fits_behind(alloc: Global, count: usize) -> Result<bool, Fail>
     requires { count ≤ 64 }
 {
     let lengths = vec![in alloc; 1; count]?;
-    Ok(fits(Layout::new(4096, 8, 1)?, &lengths, 1))
+    Ok(fits(Shape::new(4096, 8, 1)?, &lengths, 1))
 }
 
 #[test]

@@ -2,16 +2,16 @@
 use crate::settings::{names_of, settings_text};
 use cq_cycle::{LAST_MOMENT, Roll};
 use cq_fixtures::{contents_of, contents_text, expect_row, expect_text};
-use cq_layout::Layout;
+use cq_layout::Shape;
 use cq_model::Config;
 use std::alloc::{AllocError, Global};
 use std::test::Fail;
 
 /// What the settings of four cycles of an hour each, of 64 cells, say of themselves.
 fn hourly_text(alloc: Global) -> Result<String, Fail> {
-    let layout = Layout::new(64, 8, 1)?;
+    let shape = Shape::new(64, 8, 1)?;
     let names = names_of(alloc, &["reader", "b-2_.Z"])?;
-    let config = Config::new(layout, 4, Roll::Hourly, 3_600_000, names)?;
+    let config = Config::new(shape, 4, Roll::Hourly, 3_600_000, names)?;
     Ok(settings_text(alloc, &config)?)
 }
 
@@ -32,9 +32,9 @@ fn is_config(
     epoch: u64,
     names: &[&str],
 ) -> Result<bool, Fail> {
-    let layout = Layout::new(cells, 8, 1)?;
+    let shape = Shape::new(cells, 8, 1)?;
     let names = names_of(alloc, names)?;
-    Ok(Config::new(layout, cycles, Roll::Daily, epoch, names).is_ok())
+    Ok(Config::new(shape, cycles, Roll::Daily, epoch, names).is_ok())
 }
 
 /// Cells, cycles and epochs, each beside whether they are settings.

@@ -1,18 +1,19 @@
 //! What is saved of images that are cut or changed.
 use crate::image_tests::{
-    Change, DAYS, HELLO, HELLO_OF_VERSION_2, HELLO_RECORD, changed, image_of_copies, image_with,
+    Change, HELLO, HELLO_OF_VERSION_2, HELLO_RECORD, changed, image_of_copies, image_with,
     outcome,
 };
 use crate::settings::push_message;
+use cq_cycle::Roll;
 use cq_fixtures::expect_text;
 use cq_image::{ImageFault, Salvaged, salvage};
-use cq_layout::{Messages, Layout};
+use cq_layout::{Messages, Shape};
 use std::alloc::{AllocError, Global};
 use std::test::Fail;
 
 /// What is saved of the bytes: each message with a space behind it, and then the fault, or `whole`.
-fn saved(alloc: Global, cycle: u32, layout: Layout, bytes: &[u8]) -> Result<String, Fail> {
-    let Salvaged { messages, fault } = salvage(alloc, cycle, layout, bytes)?;
+fn saved(alloc: Global, cycle: u32, shape: Shape, bytes: &[u8]) -> Result<String, Fail> {
+    let Salvaged { messages, fault } = salvage(alloc, cycle, shape, Roll::Daily, 0, bytes)?;
     let mut text = String::new(alloc);
     push_messages(&messages.messages(), &mut text)?;
     push_fault(fault, &mut text)?;
@@ -50,10 +51,10 @@ static BEGINNINGS: [(usize, usize, &str, &str); 8] = [
 
 /// Fails where the first bytes of the worked image, so many of them, are read or saved otherwise.
 fn expect_beginning(alloc: Global, len: usize, read: &str, want: &str) -> Result<(), Fail> {
-    let layout = Layout::new(64, 8, 1)?;
+    let shape = Shape::new(64, 8, 1)?;
     let bytes = changed(alloc, &HELLO, &[Change::Cut(len)])?;
-    expect_text(outcome(alloc, 0, layout, &bytes)?, read)?;
-    expect_text(saved(alloc, 0, layout, &bytes)?, want)
+    expect_text(outcome(alloc, 0, shape, &bytes)?, read)?;
+    expect_text(saved(alloc, 0, shape, &bytes)?, want)
 }
 
 #[test]
@@ -69,24 +70,24 @@ fn every_beginning_is_saved(rt: HostRuntime) -> Result<(), Fail> {
 /// Of a queue of version 2 the messages of either version are saved.
 #[test]
 fn messages_of_either_version_are_saved(rt: HostRuntime) -> Result<(), Fail> {
-    let layout = Layout::new(64, 8, 1)?.with_origin(DAYS);
+    let shape = Shape::new(64, 8, 1)?;
     let first = changed(rt.alloc(), &HELLO, &[Change::Cut(113)])?;
-    expect_text(saved(rt.alloc(), 0, layout, &first)?, "hello Cut at 112")?;
+    expect_text(saved(rt.alloc(), 0, shape, &first)?, "hello Cut at 112")?;
     let second = changed(rt.alloc(), &HELLO_OF_VERSION_2, &[Change::Cut(127)])?;
-    expect_text(saved(rt.alloc(), 0, layout, &second)?, "hello Cut at 124")
+    expect_text(saved(rt.alloc(), 0, shape, &second)?, "hello Cut at 124")
 }
 
 /// Fails where an image is saved otherwise with the changes of a row.
 fn expect_saved(
     alloc: Global,
     cycle: u32,
-    layout: Layout,
+    shape: Shape,
     bytes: &[u8],
     table: &[(&[Change], &str)],
 ) -> Result<(), Fail> {
     for &(changes, want) in table {
         let bytes = changed(alloc, bytes, changes)?;
-        expect_text(saved(alloc, cycle, layout, &bytes)?, want)?;
+        expect_text(saved(alloc, cycle, shape, &bytes)?, want)?;
     }
     Ok(())
 }
@@ -127,7 +128,7 @@ static CHANGED: [(&[Change], &str); 11] = [
 
 #[test]
 fn the_worked_image_is_saved_changed(rt: HostRuntime) -> Result<(), Fail> {
-    expect_saved(rt.alloc(), 0, Layout::new(64, 8, 1)?, &HELLO, &CHANGED)
+    expect_saved(rt.alloc(), 0, Shape::new(64, 8, 1)?, &HELLO, &CHANGED)
 }
 
 /// A cycle of nine messages, of which one more does not fit, and what is saved of it.
@@ -149,9 +150,9 @@ static FULL: [(&[Change], &str); 3] = [
 
 #[test]
 fn a_full_cycle_is_saved(rt: HostRuntime) -> Result<(), Fail> {
-    let layout = Layout::new(64, 8, 1)?;
-    let bytes = image_of_copies(rt.alloc(), 0, layout, b"hello", 9, false)?;
-    expect_saved(rt.alloc(), 0, layout, &bytes, &FULL)
+    let shape = Shape::new(64, 8, 1)?;
+    let bytes = image_of_copies(rt.alloc(), 0, shape, b"hello", 9, false)?;
+    expect_saved(rt.alloc(), 0, shape, &bytes, &FULL)
 }
 
 /// The open image of two messages in cycle 20,000, whole and cut.
@@ -162,7 +163,7 @@ static TWO: [(&[Change], &str); 2] = [
 
 #[test]
 fn an_open_image_is_saved(rt: HostRuntime) -> Result<(), Fail> {
-    let layout = Layout::new(64, 8, 1)?;
-    let bytes = image_with(rt.alloc(), 20_000, layout, &[b"hello", b"world"], false)?;
-    expect_saved(rt.alloc(), 20_000, layout, &bytes, &TWO)
+    let shape = Shape::new(64, 8, 1)?;
+    let bytes = image_with(rt.alloc(), 20_000, shape, &[b"hello", b"world"], false)?;
+    expect_saved(rt.alloc(), 20_000, shape, &bytes, &TWO)
 }

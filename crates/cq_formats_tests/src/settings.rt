@@ -1,4 +1,5 @@
 //! Settings and messages for the tests.
+use cq_layout::{BadShape, Layout, Shape, StoreVersion};
 use cq_model::{Config, Items, Message};
 use std::alloc::{AllocError, Global};
 
@@ -24,6 +25,11 @@ pub fn messages_of(alloc: Global, texts: &[&[u8]]) -> Result<Vec<Message>, Alloc
 pub fn push_message(message: &[u8], behind: &str, text: &mut String) -> Result<(), AllocError> {
     text.push_str(str::from_utf8(message).unwrap_or("no text"))?;
     text.push_str(behind)
+}
+
+/// The layout of cycles of 64 cells, with 8 entries and spacing 1, and a store record of version 1.
+pub fn layout_64() -> Result<Layout, BadShape> {
+    Ok(Layout::new(Shape::new(64, 8, 1)?, StoreVersion::First))
 }
 
 /// Settings as text: the roll and the epoch, the number of cycles and their layout, and the names.

@@ -1,7 +1,7 @@
 //! Entries of the index, and hints at where a walk may begin.
 
 use cq_fixtures::expect_row;
-use cq_layout::Layout;
+use cq_layout::Shape;
 use cq_tables::{entry_places, pack_hint, start_for, unpack_hint};
 use std::test::Fail;
 
@@ -17,8 +17,8 @@ static ENTRIES: [(u32, u32, u32, Option<(u32, u32)>); 5] = [
 #[test]
 fn messages_have_entries() -> Result<(), Fail> {
     for &(count, spacing, sequence, want) in &ENTRIES {
-        let layout = Layout::new(4096, count, spacing)?;
-        expect_row(entry_places(layout, sequence) == want, u64::from(sequence))?;
+        let shape = Shape::new(4096, count, spacing)?;
+        expect_row(entry_places(shape, sequence) == want, u64::from(sequence))?;
     }
     Ok(())
 }

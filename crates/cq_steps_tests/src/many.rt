@@ -5,7 +5,7 @@ ghost use Rattle.cq_words.specs.Values.{IsOf};
 
 use cq_append::Appender;
 use cq_fixtures::config_of;
-use cq_layout::Layout;
+use cq_layout::Shape;
 use cq_model::Config;
 use cq_shown::recover;
 use cq_words::{Caller, Queue};
@@ -20,7 +20,7 @@ pub const SPACING: u32 = 16;
 
 /// One cycle in which all messages fit.
 fn config(alloc: Global) -> Result<Config, Fail> {
-    Ok(config_of(alloc, Layout::new(1_048_576, 256, SPACING)?, 1)?)
+    Ok(config_of(alloc, Shape::new(1_048_576, 256, SPACING)?, 1)?)
 }
 
 /// A new queue, and its first caller.

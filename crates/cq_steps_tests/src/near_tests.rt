@@ -5,7 +5,7 @@ ghost use Rattle.cq_words.specs.Values.{IsOf};
 use crate::many::{append_all, full_queue};
 use cq_fixtures::{config_of, contents_of};
 use cq_hints::near;
-use cq_layout::Layout;
+use cq_layout::Shape;
 use cq_walks::enter_slot;
 use cq_words::{Caller, Queue};
 use std::alloc::Global;
@@ -68,7 +68,7 @@ fn walks_begin_at_the_last_message(rt: HostRuntime) -> Result<(), Fail> {
 
 /// Where walks begin in a cycle that was opened again with three messages, behind which one was appended.
 fn starts_behind_others(alloc: Global, wanted: &[u32]) -> Result<Vec<u32>, Fail> {
-    let config = config_of(alloc, Layout::new(64, 8, 1)?, 1)?;
+    let config = config_of(alloc, Shape::new(64, 8, 1)?, 1)?;
     let contents = contents_of(alloc, &[(0, &["a", "b", "c"])], &[0])?;
     let (queue, caller) = Queue::reopen(alloc, config, &contents)?;
     let mut caller = append_all(&queue, caller, 1)?;

@@ -6,7 +6,7 @@ use crate::beginnings::{is_beginning, is_some_beginning};
 use crate::thread_tests::both_append;
 use cq_append::Appender;
 use cq_fixtures::{Cycles, config_of, contents_of, expect_row, expect_text};
-use cq_layout::Layout;
+use cq_layout::Shape;
 use cq_model::CycleList;
 use cq_shown::{Stopped, recover};
 use cq_tail::Tailer;
@@ -108,7 +108,7 @@ fn held_text(
 
 /// The same of a new queue, and whether each snapshot began the next one.
 fn grown_text<R: Threads + Wait + Sync>(rt: &R, alloc: Global) -> Result<String, Fail> {
-    let config = config_of(alloc, Layout::new(4096, 64, 1)?, DAYS)?;
+    let config = config_of(alloc, Shape::new(4096, 64, 1)?, DAYS)?;
     let (queue, mut caller) = Queue::create(alloc, config, 0)?;
     let (all, last) = snapshots_beside(rt, alloc, &queue, &mut caller);
     held_text(alloc, all, &last, &queue.stop(caller))

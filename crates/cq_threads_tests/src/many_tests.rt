@@ -5,7 +5,7 @@ ghost use Rattle.cq_words.specs.Values.{IsOf};
 use crate::shared::{SharedAppender, SharedQueue, SharedTailer};
 use cq_append::Appender;
 use cq_fixtures::{DAY, config_of, expect};
-use cq_layout::Layout;
+use cq_layout::Shape;
 use cq_model::Config;
 use cq_tail::{Found, Tailer, Take, TakeFault};
 use cq_words::Queue;
@@ -148,7 +148,7 @@ fn read_all(alloc: Global, queue: &Queue, tailer: &mut Tailer) -> Tally
 
 /// A queue of 8 cycles of a day each.
 fn config(alloc: Global) -> Result<Config, Fail> {
-    config_of(alloc, Layout::new(262_144, 256, 1)?, 8)
+    config_of(alloc, Shape::new(262_144, 256, 1)?, 8)
 }
 
 /// Keeps the index of what was taken, if it is a message. Answers whether it is.

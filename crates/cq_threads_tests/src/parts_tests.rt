@@ -5,7 +5,7 @@ ghost use Rattle.cq_words.specs.Values.{IsOf};
 
 use cq_append::{Appender, Writing};
 use cq_fixtures::{config_of, expect, expect_row};
-use cq_layout::Layout;
+use cq_layout::Shape;
 use cq_tail::{Found, Tailer};
 use cq_words::Queue;
 use std::alloc::Global;
@@ -145,7 +145,7 @@ fn write_and_read<R: Threads + Sync>(
 
 /// The same of a new queue.
 fn whole_in_new<R: Threads + Sync>(rt: &R, alloc: Global) -> Result<(bool, u32), Fail> {
-    let config = config_of(alloc, Layout::new(16384, 64, 1)?, 1)?;
+    let config = config_of(alloc, Shape::new(16384, 64, 1)?, 1)?;
     let (queue, mut caller) = Queue::create(alloc, config, 0)?;
     let appender = Appender::new(queue.split(&mut caller));
     let tailer = Tailer::new(queue.split(&mut caller));

@@ -11,7 +11,7 @@ use crate::thread_tests::both_append;
 use cq_append::Appender;
 use cq_cycle::Index;
 use cq_fixtures::{Cycles, config_of, contents_of, expect_row, expect_text};
-use cq_layout::Layout;
+use cq_layout::Shape;
 use cq_model::{Contents, CycleList};
 use cq_shown::recover;
 use cq_tail::Tailer;
@@ -266,7 +266,7 @@ fn share<R: Threads + Wait + Sync>(
 
 /// What five callers of a new queue saw beside what the stopped queue held.
 fn new_queue_text<R: Threads + Wait + Sync>(rt: &R, alloc: Global) -> Result<String, Fail> {
-    let config = config_of(alloc, Layout::new(4_096, 64, 1)?, DAYS)?;
+    let config = config_of(alloc, Shape::new(4_096, 64, 1)?, DAYS)?;
     let (queue, mut caller) = Queue::create(alloc, config, 0)?;
     let shared = share(rt, alloc, &queue, &mut caller);
     let contents = recover(alloc, &queue.stop(caller))?;

@@ -8,7 +8,7 @@ ghost use Rattle.linnetshelf.specs.declared.status.Status.TheVariants.{OutOfMemo
 
 use crate::status::Status;
 use cq_cycle::Roll;
-use cq_layout::Layout;
+use cq_layout::Shape;
 use cq_model::Config;
 use cq_text::InputLines;
 use std::alloc::Global;
@@ -41,12 +41,12 @@ pub(crate) fn config_of(alloc: Global, settings: &Settings, names: &[u8]) -> Res
     let Some(roll) = roll_of(settings.roll) else {
         return Err(Status::BadSettings);
     };
-    let layout = Layout::new(settings.cells, settings.index_count, settings.index_spacing);
-    let Ok(layout) = layout else {
+    let shape = Shape::new(settings.cells, settings.index_count, settings.index_spacing);
+    let Ok(shape) = shape else {
         return Err(Status::BadSettings);
     };
     let names = names_in(alloc, names)?;
-    match Config::new(layout, settings.cycles, roll, settings.epoch, names) {
+    match Config::new(shape, settings.cycles, roll, settings.epoch, names) {
         Ok(config) => Ok(config),
         Err(_) => Err(Status::BadSettings),
     }
