@@ -2,35 +2,46 @@
 use crate::lives::Start;
 use crate::queues::{Call, Fixture};
 use cq_chain::fits_all;
+use cq_cycle::Roll;
 use cq_fixtures::{DAY, small_config};
 use cq_image::{ImageRead, image, read};
-use cq_layout::Layout;
+use cq_layout::Shape;
 use cq_model::CycleList;
+use cq_origin::layout_of;
 use cq_text::dump_text;
 use std::alloc::Global;
 use std::test::Fail;
 
-/// The image of a cycle.
+/// The image of a cycle of a queue whose cycles are days.
 #[tactic(auto, using(cq_chain::proofs::HeldLemmas::held_are_next))]
-fn image_of(alloc: Global, layout: Layout, list: &CycleList, ended: bool) -> Result<Vec<u8>, Fail> {
-    // A layout's readers tell that it is lawful.
+fn image_of(alloc: Global, shape: Shape, list: &CycleList, ended: bool) -> Result<Vec<u8>, Fail> {
+    let layout = layout_of(shape, Roll::Daily, 0);
+    // The readers of a layout ensure that it is lawful.
     let _cells = layout.cells();
     let messages = list.messages.as_slice();
     if !fits_all(layout, messages) {
         return Err(Fail::new("the messages do not fit"));
     }
-    Ok(image(alloc, list.cycle, layout, messages, ended)?)
+    Ok(image(
+        alloc,
+        list.cycle,
+        shape,
+        Roll::Daily,
+        0,
+        messages,
+        ended,
+    )?)
 }
 
 /// What an image is read as: its messages in brackets, and its mark.
 fn push_read(
     alloc: Global,
-    layout: Layout,
+    shape: Shape,
     cycle: u32,
     bytes: &[u8],
     out: &mut String,
 ) -> Result<(), Fail> {
-    let ImageRead { messages, ended } = read(alloc, cycle, layout, bytes)?;
+    let ImageRead { messages, ended } = read(alloc, cycle, shape, Roll::Daily, 0, bytes)?;
     write!(out, "{cycle}[")?;
     for message in messages.as_slice() {
         out.push_str(str::from_utf8(message.as_slice())?)?;
@@ -42,16 +53,16 @@ fn push_read(
 /// What the images of these cycles are read as, the last one open and the others ended, and then the records of the last one.
 fn push_images(
     alloc: Global,
-    layout: Layout,
+    shape: Shape,
     lists: &[CycleList],
     out: &mut String,
 ) -> Result<(), Fail> {
     for (place, list) in lists.iter().enumerate() {
         let is_last = place + 1 == lists.len();
-        let bytes = image_of(alloc, layout, list, !is_last)?;
-        push_read(alloc, layout, list.cycle, bytes.as_slice(), out)?;
+        let bytes = image_of(alloc, shape, list, !is_last)?;
+        push_read(alloc, shape, list.cycle, bytes.as_slice(), out)?;
         if is_last {
-            let records = dump_text(alloc, list.cycle, layout, bytes.as_slice())?;
+            let records = dump_text(alloc, list.cycle, shape, Roll::Daily, 0, bytes.as_slice())?;
             out.push_str(str::from_utf8(records.as_slice())?)?;
         }
     }
@@ -68,22 +79,22 @@ const BESIDE_A_CLAIM: &[Call] = &[
 /// What these calls of a queue answer, and the images of a snapshot behind them.
 fn push_imaged(
     alloc: Global,
-    layout: Layout,
+    shape: Shape,
     fixture: &mut Fixture,
     calls: &[Call],
     out: &mut String,
 ) -> Result<(), Fail> {
     fixture.answers(alloc, calls, out)?;
     let lists = fixture.snapshot_lists(alloc)?;
-    push_images(alloc, layout, lists.as_slice(), out)
+    push_images(alloc, shape, lists.as_slice(), out)
 }
 
 /// The same of a new queue.
 fn push_imaged_of_new(alloc: Global, calls: &[Call], out: &mut String) -> Result<(), Fail> {
     let config = small_config(alloc, 4)?;
-    let layout = config.layout();
+    let shape = config.shape();
     let mut fixture = Start::New(0).queue(alloc, config)?;
-    push_imaged(alloc, layout, &mut fixture, calls, out)
+    push_imaged(alloc, shape, &mut fixture, calls, out)
 }
 
 /// What is answered to these calls, what the images are read as, and the records of the last one.

@@ -74,8 +74,9 @@ fn cycles_without_messages_are_kept(rt: HostRuntime) -> Result<(), Fail> {
 
 /// The image of a cycle without messages that has ended, or that has not.
 fn image_without_messages(alloc: Global, cycle: u32, has_ended: bool) -> Result<Vec<u8>, Fail> {
-    let layout = small_config(alloc, 4)?.layout();
-    Ok(image(alloc, cycle, layout, &[], has_ended)?)
+    let config = small_config(alloc, 4)?;
+    let (shape, roll, epoch) = (config.shape(), config.roll(), config.epoch());
+    Ok(image(alloc, cycle, shape, roll, epoch, &[], has_ended)?)
 }
 
 /// Cycles, whether they have ended, and the images that they have without messages.

@@ -1,7 +1,6 @@
 //! What is saved of images that are cut or changed.
 use crate::image_tests::{
-    Change, HELLO, HELLO_OF_VERSION_2, HELLO_RECORD, changed, image_of_copies, image_with,
-    outcome,
+    Change, HELLO, HELLO_OF_VERSION_2, HELLO_RECORD, changed, image_of_copies, image_with, outcome,
 };
 use crate::settings::push_message;
 use cq_cycle::Roll;

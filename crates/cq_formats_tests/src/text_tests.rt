@@ -1,12 +1,14 @@
-//! The texts of faults and rolls.
+//! The texts of faults and rolls, and of the records of images.
+use crate::image_tests::{HELLO, HELLO_OF_VERSION_2};
 use cq_config_text::ConfigFault;
 use cq_cycle::{BadMoment, NameFault, Roll};
 use cq_fixtures::expect_text;
 use cq_header::BadHeader;
 use cq_image::{FaultKind, ImageFault, ReadFault};
-use cq_layout::BadShape;
+use cq_layout::{BadShape, Shape};
 use cq_model::{BadConfig, Refusal};
 use cq_shown::CreateError;
+use cq_text::dump_text;
 use std::alloc::{AllocError, Global};
 use std::fmt::Display;
 use std::test::Fail;
@@ -122,4 +124,28 @@ fn faults_and_refusals_have_their_texts(rt: HostRuntime) -> Result<(), Fail> {
         texts(alloc, &CREATE_ERRORS)?,
         "BadMoment; BadContents; OutOfMemory; ",
     )
+}
+
+/// The records of the worked image of version 1.
+const DUMP: &str = "00000000 40000018 store 1 0 8 1 64\n0000001c 40000020 top 64 0 0 0 0 0 0 0\n\
+00000040 40000020 table 0 100 0 0 0 0 0 0 0\n00000064 00000005 data 0 68656c6c6f\n00000070 c0000000 end\n";
+
+/// The records of the worked image of version 2.
+const DUMP_OF_VERSION_2: &str = "00000000 40000024 store 2 0 8 1 64 0 86400000\n\
+00000028 40000020 top 76 0 0 0 0 0 0 0\n0000004c 40000020 table 0 112 0 0 0 0 0 0 0\n\
+00000070 00000005 data 0 68656c6c6f\n0000007c c0000000 end\n";
+
+/// The text of the records of an image of cycle 0 with 64 cells, in a queue whose cycles are days, or the fault.
+fn dumped(alloc: Global, bytes: &[u8]) -> Result<String, Fail> {
+    match dump_text(alloc, 0, Shape::new(64, 8, 1)?, Roll::Daily, 0, bytes) {
+        Ok(text) => Ok(String::from_str(alloc, str::from_utf8(text.as_slice())?)?),
+        Err(fault) => Ok(format!(in alloc; "{fault}")?),
+    }
+}
+
+#[test]
+fn the_records_of_either_version_are_printed(rt: HostRuntime) -> Result<(), Fail> {
+    expect_text(dumped(rt.alloc(), &HELLO)?, DUMP)?;
+    expect_text(dumped(rt.alloc(), &HELLO_OF_VERSION_2)?, DUMP_OF_VERSION_2)?;
+    expect_text(dumped(rt.alloc(), &HELLO[..110])?, "Cut at 100")
 }

@@ -6,8 +6,8 @@ ghost use Rattle.cq_words.specs.Rule.{first_mark};
 ghost use Rattle.cq_words.specs.Values.{IsOf};
 ghost use Rattle.cq_steps_tests.specs.First.{AfterClaim};
 
+use crate::claiming::has_place;
 use cq_chain::Walker;
-use cq_layout::fits;
 use cq_words::{Caller, Queue};
 
 /// Claims the first header of the first slot for a message of at most so many bytes, where one fits a cycle that has none.
@@ -20,11 +20,10 @@ pub fn claim_first(queue: &Queue, caller: &mut Caller, room: u32) -> Option<u32>
     ensures of { IsOf queue.now caller.new }
     ensures claim { AfterClaim caller.old.view caller.new.view result }
 {
-    let layout = queue.config().layout();
-    if !fits(layout, &[], room) {
+    let walker = Walker::new(queue.config().shape());
+    if !has_place(queue.config().layout(), walker, room) {
         return None;
     }
-    let walker = Walker::new(layout);
     let word = queue.cell_word(0, walker.position());
     Some(queue.claim(caller, 0, walker, word, 0, room))
 }
