@@ -1,5 +1,5 @@
 use cq_layout::Refusal;
-use cq_shown::CreateError;
+use cq_words::CreateError;
 use std::alloc::AllocError;
 
 /// Why a case has no figure.

@@ -10,8 +10,8 @@ use crate::reading::{Target, read_all};
 use cq_append::Appender;
 use cq_cycle::Roll;
 use cq_layout::{Shape, record_cells, store_size};
-use cq_origin::layout_of;
 use cq_model::Config;
+use cq_origin::layout_of;
 use cq_tail::Tailer;
 use cq_words::{Caller, Queue};
 use std::alloc::{AllocError, Global};
@@ -33,7 +33,7 @@ pub fn new_queue(alloc: Global, shape: Shape) -> Result<(Queue, Caller), BenchFa
     Ok(Queue::create(alloc, config_of(alloc, shape)?, MOMENT)?)
 }
 
-/// How many messages of so many bytes fit in a cycle of this shape for certain, with all tables that they need.
+/// How many messages of this length, in bytes, fit in a cycle of this shape for certain, with all tables that they need.
 pub fn message_count(shape: Shape, length: u32) -> u32 {
     let layout = layout_of(shape, Roll::Daily, 0);
     let table = 1 + u64::from(shape.index_count());

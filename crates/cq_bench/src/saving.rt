@@ -42,13 +42,7 @@ fn stopped_image(alloc: Global, queue: Queue, caller: Caller) -> Result<Vec<u8>,
         return Err(BenchFault::Missing);
     };
     what_a_stopped_queue_holds_has_images();
-    Ok(image_by_layout(
-        alloc,
-        list.cycle,
-        layout,
-        list.messages.as_slice(),
-        false,
-    )?)
+    Ok(image_by_layout(alloc, list.cycle, layout, list.messages.as_slice(), false)?)
 }
 
 /// Appends so many messages to a queue, stops it, and makes its image.

@@ -22,15 +22,7 @@ fn image_of(alloc: Global, shape: Shape, list: &CycleList, ended: bool) -> Resul
     if !fits_all(layout, messages) {
         return Err(Fail::new("the messages do not fit"));
     }
-    Ok(image(
-        alloc,
-        list.cycle,
-        shape,
-        Roll::Daily,
-        0,
-        messages,
-        ended,
-    )?)
+    Ok(image(alloc, list.cycle, shape, Roll::Daily, 0, messages, ended)?)
 }
 
 /// What an image is read as: its messages in brackets, and its mark.

@@ -12,7 +12,7 @@ use Rattle.cq_command_line.specs.declared.commands.Description.{Description}
 pub made-with_rule : (old new : Command) (arg : Arg) (app : App) (rule : Rule) → AddsArg old arg new → Makes old app → Follows arg rule
     → Makes new (with_rule app rule)
 made-with_rule old new arg app rule adds makes follows = record {
-  is = adds.layout follows.local ∙ ap₂ with_rule makes.is follows.is;
+  is = adds.shape follows.local ∙ ap₂ with_rule makes.is follows.is;
   local = adds.globals ∙ (rw (makes.local, follows.local) refl);
 }
 
@@ -28,7 +28,7 @@ made-with_more old new arg app arguments i argument below adds makes follows =
 pub made-with_subcommand : (old new sub : Command) (app inner : App) → AddsSubcommand old sub new → Makes old app → Makes sub inner
     → Makes new (with_subcommand app inner.top)
 made-with_subcommand old new sub app inner adds makes within = record {
-  is = adds.layout within.local ∙ ap₂ with_subcommand makes.is (ap (λ (a : App). a.top) within.is);
+  is = adds.shape within.local ∙ ap₂ with_subcommand makes.is (ap (λ (a : App). a.top) within.is);
   local = adds.globals ∙ (rw (makes.local, within.local) refl);
 }
 

@@ -8,7 +8,7 @@ use Rattle.cq_config_text.specs.declared.config_fault.ConfigFault.{ConfigFault}
 use Rattle.cq_config_text.specs.declared.config_fault.ConfigFault.TheVariants.{OutOfMemory, Line, BadShape, BadConfig}
 use Rattle.cq_config_text.specs.ConfigText.{IsTextOf, faulty_line}
 
--- which settings are refused for their limits: the layout's come first
+-- which settings are refused for their limits: the shape's come first
 abbrev pub RefusesSettings : ConfigFault → Settings → Type 0
 RefusesSettings OutOfMemory settings = ⊤
 RefusesSettings (Line number) settings = ⊥

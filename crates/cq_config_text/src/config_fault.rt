@@ -13,7 +13,7 @@ pub enum ConfigFault {
     /// Its line feed counts to it; a text that ends too early is reported by the line after its last line feed.
     #[error("line {0}")]
     Line(u64),
-    /// The cells, the index count or the index spacing is outside the limits of a layout.
+    /// The cells, the index count or the index spacing is outside the limits of a shape.
     #[error("BadShape")]
     BadShape,
     /// Another setting or a name is outside the limits of a configuration.

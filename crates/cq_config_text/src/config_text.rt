@@ -144,10 +144,10 @@ fn floor_within(floor: u64) -> Option<u32>
 
 /// Reads the text of `queue.cqc` (this project's profile). Its lines give, in this order and each ended by a line feed,
 /// the version, the roll, the epoch in milliseconds of Unix time, the cells, index count and index spacing of a
-/// cycle's layout, the number of cycles, the floor where that is not 0, and then each name with its position.
+/// cycle's shape, the number of cycles, the floor where that is not 0, and then each name with its position.
 ///
 /// Answers `Line(n)` where line n, counted from 1, is the first that is not one whole line of the format in its place.
-/// Answers `BadShape` where the text is one of the format and its layout is outside the limits of a layout, and
+/// Answers `BadShape` where the text is one of the format and its measures are outside the limits of a shape, and
 /// `BadConfig` where another setting or a name is outside the limits of a configuration, or the floor above
 /// `LAST_CYCLE`. `OutOfMemory` can come in place of each.
 pub fn read_config(alloc: Global, text: &[u8]) -> Result<SavedConfig, ConfigFault>

@@ -69,7 +69,7 @@ fn first_lines(
     format!(in alloc; "cq {version}\nroll {roll}\nepoch {epoch}\n")
 }
 
-/// Adds the lines that tell the layout to the text.
+/// Adds the lines of the three measures to the text.
 fn push_shape(text: &mut String, cells: u32, count: u32, spacing: u32) -> Result<(), AllocError>
     ensures { OnOk result (string_bytes text.new ≡ string_bytes text.old
         ++ (codes "cells " ++ (decimal cells ++ (codes "\ncount " ++ (decimal count

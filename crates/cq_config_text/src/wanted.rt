@@ -4,7 +4,6 @@ ghost use Rattle.std.specs.Prelude.{◌≡◌, ◌≢◌, IfErr, IfOk, MatchOpti
 ghost use Rattle.cq_layout.specs.Layout.{IsLawfulLayout};
 ghost use Rattle.cq_model.specs.Settings.{IsLawfulSettings, texts};
 ghost use Rattle.cq_config_text.specs.ConfigFault.{RefusesSettings};
-ghost use Rattle.cq_config_text.specs.Version.{store_in};
 ghost use Rattle.cq_config_text.specs.Written.{settings_in, wanted_layout};
 
 use crate::FolderVersion;

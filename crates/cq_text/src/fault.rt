@@ -60,7 +60,7 @@ pub enum ToolFault {
     /// An index is not 16 lower-case hexadecimal digits.
     #[error("BadIndex")]
     BadIndex,
-    /// A measure is outside the limits of a layout.
+    /// A measure is outside the limits of a shape.
     #[error("BadShape")]
     BadShape,
     /// No queue of these settings holds what the images and the positions of the names say.

@@ -1,6 +1,6 @@
 use Rattle.std.proofs.Common.{◌≡◌, rules, subst}
-use Rattle.cq_layout.specs.Layout.{IsLawfulLayout, layout_in}
-use Rattle.cq_layout.specs.Shape.{Measures, measures}
+use Rattle.cq_layout.specs.Layout.{IsLawfulLayout}
+use Rattle.cq_layout.specs.Shape.{measures}
 use Rattle.cq_config_text.specs.Version.{store_in}
 use Rattle.cq_config_text.specs.Written.{wanted_layout}
 use Rattle.cq_config_text.proofs.wanted.WantedConfig.layout.Goals as goal
