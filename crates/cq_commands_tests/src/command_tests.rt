@@ -163,7 +163,7 @@ fn dumps_records(rt: HostRuntime) -> Result<(), Fail> {
 }
 
 /// The order that the words of a line are.
-fn order_of(alloc: Global, line: &str) -> Result<Order, Fail> {
+pub fn order_of(alloc: Global, line: &str) -> Result<Order, Fail> {
     let words = words_of(alloc, line)?;
     match parse(alloc, words.as_slice()) {
         Ok(order) => Ok(order),

@@ -27,6 +27,8 @@ impl Folder for FallingFolder {
 
     ghost failed = { λ falling. falling.folder.failures };
 
+    ghost entered = { λ falling. falling.folder.entered };
+
     fn begin(&mut self, alloc: Global, access: Access) -> Result<(), FolderFault> {
         self.folder.begin(alloc, access)
     }
@@ -51,6 +53,10 @@ impl Folder for FallingFolder {
 
     fn save(&mut self, changes: &[NewFile]) -> Result<(), FolderFault> {
         self.folder.save(changes)
+    }
+
+    fn access(&self) -> Option<Access> {
+        self.folder.access()
     }
 
     fn failures(&self) -> u64 {

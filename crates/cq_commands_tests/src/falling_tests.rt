@@ -3,7 +3,7 @@ use crate::falling::FallingFolder;
 use crate::images::{A, HELLO};
 use crate::steps::{DAY, Step, expect_each, said_by};
 use cq_fixtures::expect_text;
-use cq_folder::{Folder, FolderFault};
+use cq_folder::{Access, Folder, FolderFault};
 use std::alloc::Global;
 use std::test::Fail;
 
@@ -35,6 +35,7 @@ static THREE_FILES: [Step; 3] = [
 /// The names that a folder lists when those three files were put into it, as text.
 fn three_names<F: Folder>(alloc: Global, folder: &mut F) -> Result<String, FolderFault> {
     said_by(alloc, folder, &THREE_FILES)?;
+    folder.begin(alloc, Access::Shared)?;
     let names = folder.names(alloc)?;
     Ok(format!(in alloc; "{:?}", names.as_slice())?)
 }

@@ -23,6 +23,8 @@ mod limit_tests;
 #[cfg(test)]
 mod migrate_tests;
 #[cfg(test)]
+mod outside_tests;
+#[cfg(test)]
 mod pair_tests;
 #[cfg(test)]
 mod race_tests;
@@ -36,5 +38,7 @@ mod streams;
 mod take_tests;
 #[cfg(test)]
 mod version_tests;
+#[cfg(test)]
+mod watched;
 #[cfg(test)]
 mod word_tests;

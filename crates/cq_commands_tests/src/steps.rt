@@ -4,7 +4,7 @@ use cq_commands::{
     InitSettings, ToolFault, check, drop_before, dump, init, migrate, read, salvage, take, write,
 };
 use cq_fixtures::{expect_text, push_missed};
-use cq_folder::{FailingFolder, Folder, FolderFault, MemoryFolder};
+use cq_folder::{Access, FailingFolder, Folder, FolderFault, MemoryFolder};
 use std::alloc::{AllocError, Global};
 use std::io::Write;
 use std::test::Fail;
@@ -278,6 +278,7 @@ fn copies(alloc: Global, byte: u8, count: usize) -> Result<Vec<u8>, AllocError> 
 
 /// The bytes of a file, none where it is not there.
 fn bytes_of<F: Folder>(alloc: Global, folder: &mut F, file: &str) -> Result<Vec<u8>, FolderFault> {
+    folder.begin(alloc, Access::Shared)?;
     match folder.read(alloc, file, MOST_BYTES) {
         Err(FolderFault::Device) => Ok(Vec::new(alloc)),
         read => read,
@@ -312,6 +313,7 @@ fn put<F: Folder>(
     file: &str,
     bytes: &[u8],
 ) -> Result<String, FolderFault> {
+    folder.begin(alloc, Access::Alone)?;
     folder.write(file, bytes)?;
     Ok(String::new(alloc))
 }

@@ -51,3 +51,9 @@ pub kept_behind : {T : Type 0} (P : ToolFault → Type 0) (a b c : Option Files)
     → IfErr result (λ fault. P fault → KeepsFiles b c) → IfErr result (λ fault. P fault → KeepsFiles a c)
 kept_behind P a b c (Ok value) kept keeps = tt
 kept_behind P a b c (Err fault) kept keeps = λ is. keeps-trans a b c kept (keeps is)
+
+-- what holds after a fault in any case, in place of something else
+pub in_any_case : {T : Type 0} (result : Result T ToolFault) (Kept : Type 0) (Other : ToolFault → Type 0) → Kept
+    → IfErr result (λ fault. Kept ⊎ Other fault)
+in_any_case (Ok value) Kept Other kept = tt
+in_any_case (Err fault) Kept Other kept = inl kept

@@ -49,7 +49,7 @@ abbrev pub TellsFile : (List ℕ → Type 0) → ToolFault → Type 0
 TellsFile IsName (FileFault file) = IsName (string_bytes file)
 TellsFile IsName _ = ⊤
 
--- why settings are refused: their limits, of which the layout's come first
+-- why settings are refused: their limits, of which the shape's come first
 abbrev pub IsLimitFault : Settings → ToolFault → Type 0
 IsLimitFault settings OutOfMemory = ⊤
 IsLimitFault settings BadShape = ¬ IsLawfulLayout settings.layout

@@ -19,7 +19,7 @@ use Rattle.cq_text.specs.declared.fault.ToolFault.TheVariants.{BadCycleName, Fau
 use Rattle.cq_files.specs.declared.files.TheConstants.{MOST_FILE_BYTES}
 use Rattle.cq_files.specs.declared.opening.CycleImage.{CycleImage}
 use Rattle.cq_files.specs.declared.opening.ImageFile.{ImageFile}
-use Rattle.cq_files.specs.FolderFaults.{EndsWronglyIn, HasCause, HasSettings, HasVersion, IsFirstFault, IsFolderFault, IsLimitFault, IsReached}
+use Rattle.cq_files.specs.FolderFaults.{EndsWronglyIn, HasCause, HasSettings, HasVersion, IsFirstFault, IsFolderFault, IsLimitFault, IsReached, TellsFile}
 use Rattle.cq_files.specs.Queue.{HaveEnds, IsImageName, ListsImages, file_of}
 use Rattle.cq_files.specs.Saved.{first_file}
 
@@ -88,6 +88,10 @@ pub record IsMoved (before after : Option Files) : Type 0 where
 -- the folder is of version 2, and no file changed; or it was of version 1, and was moved
 abbrev pub IsMigrated : Option Files → Option Files → Type 0
 IsMigrated before after = (IfSome before (λ files. HasVersion files Second) × KeepsFiles before after) ⊎ IsMoved before after
+
+-- the folder was moved, and a file fault names the first file that was written
+abbrev pub TellsMoved : Option Files → Option Files → ToolFault → Type 0
+TellsMoved before after fault = (moved : IsMoved before after) × TellsFile (λ name. name ≡ first_file [] moved.moved) fault
 
 -- the file is small enough, and the strict reader finds no fault in the image of the cycle that its name gives, by the
 -- version with which it begins

@@ -1,18 +1,21 @@
 //! The files of a queue's folder.
 
-ghost use Rattle.std.specs.Prelude.{◌≡◌, ◌≢◌, ◌≤◌, ◌∷◌, [], length, map, string_bytes, IfOk, IfErr, IfSome, OnOk, OnErr, Some};
+ghost use Rattle.std.specs.Prelude.{◌≡◌, ◌≢◌, ◌≤◌, ◌∷◌, [], length, map, string_bytes, IfOk, IfErr, IfSome, OnOk, OnErr, Some, IsSome, None};
 ghost use Rattle.std.specs.List.{list_any};
 ghost use Rattle.std.specs.Str.{bytes_eq};
 ghost use Rattle.cq_model.specs.Settings.{texts};
 ghost use Rattle.cq_folder.specs.Folder.{KeepsFiles, KeepsOrWrites, ListsFiles, WritesFile, WritesFiles, named_file};
 ghost use Rattle.cq_files.specs.FolderFaults.{HasCause, IsFileFault, IsListFault, IsSaveFault, TellsFile};
 ghost use Rattle.cq_files.specs.Saved.{first_file};
+ghost use Rattle.std.specs.Io.KnownBytes.{Appends};
 ghost use Rattle.cq_text.specs.Faults.{IsDeviceFault};
+ghost use Rattle.cq_text.specs.Output.{AppendsBeginning};
 ghost use Rattle.cq_files.specs.Counted.{CountsFaults};
 
 use cq_folder::{Access, Folder, FolderFault, NewFile};
-use cq_text::ToolFault;
+use cq_text::{ToolFault, print};
 use std::alloc::{AllocError, Global};
+use std::io::Write;
 
 /// The file in which a queue's settings and positions are kept.
 pub const CONFIG_FILE: &str = "queue.cqc";
@@ -34,6 +37,7 @@ pub(crate) fn listed<F: Folder>(
     ensures cause { IfErr result (λ fault. IfSome (F.files folder.old) (λ files. HasCause files fault)) }
     ensures kept { KeepsFiles (F.files folder.old) (F.files folder.new) }
     ensures counted { CountsFaults (F.failed folder.old) (F.failed folder.new) result }
+    ensures inside { OnOk result (F.entered folder.new ≡ Some access) }
 {
     if let Err(fault) = folder.begin(alloc, access) {
         return Err(list_fault(fault));
@@ -68,12 +72,14 @@ pub(crate) fn read_file<F: Folder>(
     folder: &mut F,
     name: &str,
 ) -> Result<Vec<u8>, ToolFault>
+    requires { IsSome (F.entered folder.old) }
     ensures held { IfOk result (λ bytes. IfSome (F.files folder.old) (λ files. files name.now ≡ Some bytes.items)) }
     ensures small { IfOk result (λ bytes. length bytes.items ≤ MOST_FILE_BYTES) }
     ensures fault { IfErr result (IsFileFault name.now) }
     ensures cause { IfErr result (λ fault. IfSome (F.files folder.old) (λ files. HasCause files fault)) }
     ensures kept { KeepsFiles (F.files folder.old) (F.files folder.new) }
     ensures counted { CountsFaults (F.failed folder.old) (F.failed folder.new) result }
+    ensures inside { F.entered folder.new ≡ F.entered folder.old }
 {
     match folder.read(alloc, name, MOST_FILE_BYTES) {
         Ok(bytes) => Ok(bytes),
@@ -95,6 +101,7 @@ pub fn write_file<F: Folder>(
     name: &str,
     bytes: &[u8],
 ) -> Result<(), ToolFault>
+    requires { F.entered folder.old ≡ Some Access.Alone }
     ensures written { OnOk result (WritesFile (F.files folder.old) (F.files folder.new) name.now bytes.now) }
     ensures fault { IfErr result (IsFileFault name.now) }
     ensures save { IfErr result IsSaveFault }
@@ -102,6 +109,7 @@ pub fn write_file<F: Folder>(
     ensures scarce { IfErr result (λ fault. fault ≡ ToolFault.OutOfMemory
         → KeepsFiles (F.files folder.old) (F.files folder.new)) }
     ensures counted { CountsFaults (F.failed folder.old) (F.failed folder.new) result }
+    ensures inside { F.entered folder.new ≡ F.entered folder.old }
 {
     // Made before the file is written: want of memory then leaves it as it was.
     let file = String::from_str(alloc, name)?;
@@ -117,6 +125,7 @@ pub(crate) fn save_files<F: Folder>(
     folder: &mut F,
     changes: &[NewFile],
 ) -> Result<(), ToolFault>
+    requires { F.entered folder.old ≡ Some Access.Alone }
     ensures written { OnOk result (WritesFiles (F.files folder.old) (F.files folder.new) (map named_file changes.now)) }
     ensures save { IfErr result IsSaveFault }
     ensures first { IfErr result (TellsFile (λ name. name ≡ first_file [] (map named_file changes.now))) }
@@ -125,12 +134,27 @@ pub(crate) fn save_files<F: Folder>(
     ensures scarce { IfErr result (λ fault. fault ≡ ToolFault.OutOfMemory
         → KeepsFiles (F.files folder.old) (F.files folder.new)) }
     ensures counted { CountsFaults (F.failed folder.old) (F.failed folder.new) result }
+    ensures inside { F.entered folder.new ≡ F.entered folder.old }
 {
     let first = first_name(alloc, changes)?;
     match folder.save(changes) {
         Ok(()) => Ok(()),
         Err(fault) => Err(save_fault(fault, first)),
     }
+}
+
+/// Writes a text as `print` does, for a command that is out of the folder: no other command waits while the text is read.
+pub fn print_outside<F: Folder, W: Write>(
+    _folder: &F,
+    output: &mut W,
+    text: &[u8],
+) -> Result<(), ToolFault>
+    requires { F.entered _folder.now ≡ None }
+    ensures written { OnOk result (Appends (W.contents output.old) (W.contents output.new) text.now) }
+    ensures fault { IfErr result (λ fault. fault ≡ ToolFault.WriteFault) }
+    ensures begun { OnErr result (AppendsBeginning (W.contents output.old) (W.contents output.new) text.now) }
+{
+    print(output, text)
 }
 
 /// The name of the first of these files.

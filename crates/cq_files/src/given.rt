@@ -1,6 +1,6 @@
 //! The image that a command is given by the name of its file.
 
-ghost use Rattle.std.specs.Prelude.{◌≡◌, ◌≢◌, IfErr, IfOk, IfSome};
+ghost use Rattle.std.specs.Prelude.{◌≡◌, ◌≢◌, IfErr, IfOk, IfSome, OnOk, Some};
 ghost use Rattle.cq_folder.specs.Folder.{KeepsFiles};
 ghost use Rattle.cq_files.specs.Counted.{CountsFaults};
 ghost use Rattle.cq_files.specs.FolderFaults.{IsNoFault, IsShowFault};
@@ -36,6 +36,7 @@ pub(crate) fn open_image<F: Folder>(
     ensures unprinted { IfErr result (λ fault. fault ≢ ToolFault.WriteFault) }
     ensures kept { KeepsFiles (F.files folder.old) (F.files folder.new) }
     ensures counted { CountsFaults (F.failed folder.old) (F.failed folder.new) result }
+    ensures inside { OnOk result (F.entered folder.new ≡ Some Access.Shared) }
 {
     let QueueFolder { saved, image_names } = open_folder(alloc, folder, Access::Shared)?;
     let name = String::from_str(alloc, file)?;

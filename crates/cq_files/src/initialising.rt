@@ -1,4 +1,4 @@
-ghost use Rattle.std.specs.Prelude.{◌≡◌, ◌⊎◌, ℕ, List, IfErr, IfOk, IfSome, OnErr, OnOk, codes};
+ghost use Rattle.std.specs.Prelude.{◌≡◌, ◌⊎◌, ℕ, List, IfErr, IfOk, IfSome, OnErr, OnOk, codes, Some};
 ghost use Rattle.cq_model.specs.Settings.{IsLawfulSettings};
 ghost use Rattle.cq_folder.specs.Folder.{KeepsFiles, WritesFile};
 ghost use Rattle.cq_files.specs.FolderFaults.{IsLimitFault, IsSaveFault};
@@ -51,6 +51,7 @@ fn check_new<F: Folder>(alloc: Global, folder: &mut F) -> Result<(), ToolFault>
     ensures fault { IfErr result (IsListingFault (F.files folder.old)) }
     ensures kept { KeepsFiles (F.files folder.old) (F.files folder.new) }
     ensures counted { CountsFaults (F.failed folder.old) (F.failed folder.new) result }
+    ensures inside { OnOk result (F.entered folder.new ≡ Some Access.Alone) }
 {
     let files = listed(alloc, folder, Access::Alone)?;
     if has_name(files.as_slice(), CONFIG_FILE) {

@@ -14,7 +14,7 @@ mod saving;
 
 pub use checking::check;
 pub use dumping::dump;
-pub use files::{CONFIG_FILE, MOST_FILE_BYTES, has_name, write_file};
+pub use files::{CONFIG_FILE, MOST_FILE_BYTES, has_name, print_outside, write_file};
 pub use initialising::init;
 pub use migrating::migrate;
 pub use opening::{CycleImage, ImageFile, Kept, ReadQueue, SavedQueue, SeenMessages, open_queue};

@@ -1,12 +1,12 @@
-ghost use Rattle.std.specs.Prelude.{◌≡◌, ◌≢◌, ◌+◌, ◌-◌, ◌^◌, ◌↔◌, Err, IsTrue, false, min, true};
+ghost use Rattle.std.specs.Prelude.{◌≡◌, ◌≢◌, ◌+◌, ◌-◌, ◌^◌, ◌↔◌, Err, IsTrue, None, OnErr, OnOk, Some, false, min, true};
 ghost use Rattle.cq_folder.specs.Folder.{IsCounted, KeepsFiles};
 
 use crate::storage::{Access, Folder, FolderFault, NewFile};
 use std::alloc::Global;
 
 /// A folder of which one call answers `Device`, for tests of what stands on a folder. The calls of `begin`, `names`,
-/// `read`, `write` and `save` are counted together, from 1; all others are those of the folder within. A `write` or a
-/// `save` may be done all the same.
+/// `read`, `write` and `save` are counted together, from 1; all others are those of the folder within. After a `begin` that fails
+/// no command is in the folder. A `write` or a `save` may be done all the same.
 #[derive(Drop)]
 pub struct FailingFolder<F: Folder> {
     /// The folder within.
@@ -96,8 +96,12 @@ impl<F: Folder> Folder for FailingFolder<F> {
 
     ghost failed = { λ failing. min (F.failed failing.folder + failing.failing.failures) (2 ^ 64 - 1) };
 
+    ghost entered = { λ failing. F.entered failing.folder };
+
     // The trait's clauses, and that the call is counted.
     fn begin(&mut self, alloc: Global, access: Access) -> Result<(), FolderFault>
+        ensures inside { OnOk result (F.entered self.new.folder ≡ Some access) }
+        ensures outside { OnErr result (F.entered self.new.folder ≡ None) }
         ensures kept { KeepsFiles (F.files self.old.folder) (F.files self.new.folder) }
         ensures fits { result ≢ Err FolderFault.TooLarge }
         ensures counted { IsCounted (min (F.failed self.old.folder + self.old.failing.failures) (2 ^ 64 - 1))
@@ -106,6 +110,7 @@ impl<F: Folder> Folder for FailingFolder<F> {
         ensures next { self.new.failing.calls_left ≡ self.old.failing.calls_left - 1 }
     {
         if self.failing.is_next() {
+            self.folder.end();
             return Err(FolderFault::Device);
         }
         self.folder.begin(alloc, access)
@@ -147,6 +152,10 @@ impl<F: Folder> Folder for FailingFolder<F> {
             let _ = self.folder.save(changes);
         }
         Err(FolderFault::Device)
+    }
+
+    fn access(&self) -> Option<Access> {
+        self.folder.access()
     }
 
     fn failures(&self) -> u64 {

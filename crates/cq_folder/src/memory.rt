@@ -11,6 +11,8 @@ pub struct MemoryFolder {
     files: BTreeMap<String, Vec<u8>>,
     /// How often a call answered `Device`, up to 2^64 - 1.
     failures: u64,
+    /// How a command is in it; `None` where no command is.
+    entered: Option<Access>,
 }
 
 impl MemoryFolder {
@@ -21,11 +23,13 @@ impl MemoryFolder {
     pub fn new(alloc: Global) -> Self
         ensures empty { (name : List ℕ) → files_in result name ≡ None }
         ensures none { result.failures ≡ 0 }
+        ensures outside { result.entered ≡ None }
     {
         MemoryFolder {
             alloc,
             files: BTreeMap::new(alloc),
             failures: 0,
+            entered: None,
         }
     }
 
@@ -33,11 +37,13 @@ impl MemoryFolder {
     fn copied(&self) -> Result<MemoryFolder, AllocError>
         ensures files { IfOk result (λ copy. (name : List ℕ) → files_in copy name ≡ files_in self.now name) }
         ensures failures { IfOk result (λ copy. copy.failures ≡ self.now.failures) }
+        ensures inside { IfOk result (λ copy. copy.entered ≡ self.now.entered) }
     {
         Ok(MemoryFolder {
             alloc: self.alloc,
             files: self.files.clone()?,
             failures: self.failures,
+            entered: self.entered,
         })
     }
 
@@ -46,6 +52,7 @@ impl MemoryFolder {
         ensures written { OnOk result (WritesFile (Some (files_in self.old)) (Some (files_in self.new)) name.now bytes.now) }
         ensures kept { OnErr result (KeepsFiles (Some (files_in self.old)) (Some (files_in self.new))) }
         ensures failures { self.new.failures ≡ self.old.failures }
+        ensures inside { self.new.entered ≡ self.old.entered }
     {
         let name = String::from_str(self.alloc, name)?;
         let bytes = Vec::from_slice(self.alloc, bytes)?;
@@ -62,11 +69,16 @@ impl Folder for MemoryFolder {
 
     ghost failed = { λ folder. folder.failures };
 
-    fn begin(&mut self, _alloc: Global, _access: Access) -> Result<(), FolderFault> {
+    ghost entered = { λ folder. folder.entered };
+
+    fn begin(&mut self, _alloc: Global, access: Access) -> Result<(), FolderFault> {
+        self.entered = Some(access);
         Ok(())
     }
 
-    fn end(&mut self) {}
+    fn end(&mut self) {
+        self.entered = None;
+    }
 
     fn names(&mut self, alloc: Global) -> Result<Vec<String>, FolderFault> {
         let mut names = Vec::new(alloc);
@@ -99,6 +111,10 @@ impl Folder for MemoryFolder {
         }
         *self = copy;
         Ok(())
+    }
+
+    fn access(&self) -> Option<Access> {
+        self.entered
     }
 
     fn failures(&self) -> u64 {

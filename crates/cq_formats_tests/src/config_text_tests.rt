@@ -279,7 +279,7 @@ static LIMITS: [(&str, &str); 14] = [
         "epoch 253402300800000\ncells 64\ncount 8\nspacing 1\ncycles 4\n",
         "BadConfig",
     ),
-    // The limits of a layout come first.
+    // The limits of a shape come first.
     (
         "epoch 18446744073709551615\ncells 30\ncount 8\nspacing 1\ncycles 0\n",
         "BadShape",

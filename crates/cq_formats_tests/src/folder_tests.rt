@@ -1,4 +1,7 @@
 //! Folders and their files.
+
+ghost use Rattle.std.specs.Prelude.{◌≡◌, IsSome, Some};
+
 use crate::noted_folder::NotedFolder;
 use cq_fixtures::{expect, expect_text};
 use cq_folder::{Access, FailingFolder, Folder, FolderFault, MemoryFolder, NewFile};
@@ -9,8 +12,9 @@ use std::test::Fail;
 static WRITES: [(&str, &[u8]); 4] = [("b", b"old"), ("a", b"old"), ("b", b""), ("a", b"abc")];
 
 /// Writes the files `a` and `b`, at last of three bytes and of none.
-fn write_two_files<F: Folder>(folder: &mut F) -> Result<(), FolderFault> {
+fn write_two_files<F: Folder>(alloc: Global, folder: &mut F) -> Result<(), FolderFault> {
     for &(name, bytes) in &WRITES {
+        folder.begin(alloc, Access::Alone)?;
         folder.write(name, bytes)?;
     }
     Ok(())
@@ -19,7 +23,7 @@ fn write_two_files<F: Folder>(folder: &mut F) -> Result<(), FolderFault> {
 /// A folder in memory with those two files.
 fn two_files(alloc: Global) -> Result<MemoryFolder, FolderFault> {
     let mut folder = MemoryFolder::new(alloc);
-    write_two_files(&mut folder)?;
+    write_two_files(alloc, &mut folder)?;
     Ok(folder)
 }
 
@@ -37,7 +41,10 @@ fn read_text<F: Folder>(
     folder: &mut F,
     name: &str,
     limit: usize,
-) -> Result<String, AllocError> {
+) -> Result<String, AllocError>
+    requires { IsSome (F.entered folder.old) }
+    ensures { F.entered folder.new ≡ F.entered folder.old }
+{
     answer_text(alloc, &folder.read(alloc, name, limit))
 }
 
@@ -53,7 +60,10 @@ pub fn in_order(alloc: Global, names: Vec<String>) -> Result<String, AllocError>
 }
 
 /// The names of the files, in their order, or the fault of the list.
-pub fn names_text<F: Folder>(alloc: Global, folder: &mut F) -> Result<String, AllocError> {
+pub fn names_text<F: Folder>(alloc: Global, folder: &mut F) -> Result<String, AllocError>
+    requires { IsSome (F.entered folder.old) }
+    ensures { F.entered folder.new ≡ F.entered folder.old }
+{
     match folder.names(alloc) {
         Ok(names) => in_order(alloc, names),
         Err(fault) => format!(in alloc; "{fault:?}"),
@@ -72,7 +82,8 @@ static READS: [(&str, usize, &str); 5] = [
 /// Writes those two files, and fails where a folder then keeps other files, or another call of it failed than the read of a
 /// file that is not there.
 fn expect_two_files<F: Folder>(alloc: Global, folder: &mut F) -> Result<(), Fail> {
-    write_two_files(folder)?;
+    write_two_files(alloc, folder)?;
+    folder.begin(alloc, Access::Shared)?;
     expect_text(names_text(alloc, folder)?, "a b ")?;
     expect_reads(alloc, folder)?;
     expect(folder.failures() == 1, "one call fails")
@@ -81,6 +92,7 @@ fn expect_two_files<F: Folder>(alloc: Global, folder: &mut F) -> Result<(), Fail
 /// Fails where a folder answers to reads of those two files otherwise than wanted.
 fn expect_reads<F: Folder>(alloc: Global, folder: &mut F) -> Result<(), Fail> {
     for &(name, limit, want) in &READS {
+        folder.begin(alloc, Access::Shared)?;
         expect_text(read_text(alloc, folder, name, limit)?, want)?;
     }
     Ok(())
@@ -89,6 +101,7 @@ fn expect_reads<F: Folder>(alloc: Global, folder: &mut F) -> Result<(), Fail> {
 /// Fails as `expect_two_files` does, and where there is a file without a name.
 fn expect_no_more_files<F: Folder>(alloc: Global, folder: &mut F) -> Result<(), Fail> {
     expect_two_files(alloc, folder)?;
+    folder.begin(alloc, Access::Shared)?;
     expect_text(read_text(alloc, folder, "", 9)?, "Device")?;
     expect(folder.failures() == 2, "a read of no file is counted")
 }
@@ -116,52 +129,66 @@ pub fn save<F: Folder>(
     alloc: Global,
     folder: &mut F,
     files: &[(&str, &str)],
-) -> Result<Result<(), FolderFault>, AllocError> {
+) -> Result<Result<(), FolderFault>, AllocError>
+    requires { F.entered folder.old ≡ Some Access.Alone }
+    ensures { F.entered folder.new ≡ F.entered folder.old }
+{
     let changes = changes(alloc, files)?;
     Ok(folder.save(changes.as_slice()))
 }
 
-/// What coming in, the list, a write, a read and a save of a folder answer, and how many calls failed, as text.
+/// What coming in, and then the list, a write, a read and a save of a folder answer, and how many calls failed, as text.
 fn calls_text<F: Folder>(alloc: Global, folder: &mut F) -> Result<String, AllocError> {
     let mut text = String::new(alloc);
-    push_first_calls(alloc, folder, &mut text)?;
-    text.push_str(read_text(alloc, folder, "b", 0)?.as_str())?;
-    push_last_calls(alloc, folder, &mut text)?;
+    push_calls(alloc, folder, &mut text)?;
+    folder.end();
+    let failures = folder.failures();
+    write!(text, "{failures} failed")?;
     Ok(text)
 }
 
-/// Adds what coming in, the list and a write answer to a text.
-fn push_first_calls<F: Folder>(
+/// Adds what coming in answers to a text, and what the calls of a command answer that has come in.
+fn push_calls<F: Folder>(
     alloc: Global,
     folder: &mut F,
     text: &mut String,
 ) -> Result<(), AllocError> {
     let begun = folder.begin(alloc, Access::Alone);
+    write!(text, "{begun:?}, ")?;
+    match begun {
+        Ok(()) => push_calls_within(alloc, folder, text),
+        Err(_) => Ok(()),
+    }
+}
+
+/// Adds what the list, a write, a read and a save answer to a text.
+fn push_calls_within<F: Folder>(
+    alloc: Global,
+    folder: &mut F,
+    text: &mut String,
+) -> Result<(), AllocError>
+    requires { F.entered folder.old ≡ Some Access.Alone }
+{
     let names = list(alloc, folder);
     let write = folder.write("a", b"new".as_slice());
-    write!(text, "{begun:?}, {names:?}, {write:?}, ")
+    let read = read_text(alloc, folder, "b", 0)?;
+    let saved = save(alloc, folder, &[("b", "1"), ("c", "2")])?;
+    write!(text, "{names:?}, {write:?}, {read}, {saved:?}, ")
 }
 
 /// Lists the names of the files, and lets them go.
-fn list<F: Folder>(alloc: Global, folder: &mut F) -> Result<(), FolderFault> {
+fn list<F: Folder>(alloc: Global, folder: &mut F) -> Result<(), FolderFault>
+    requires { IsSome (F.entered folder.old) }
+    ensures { F.entered folder.new ≡ F.entered folder.old }
+{
     folder.names(alloc)?;
     Ok(())
 }
 
-/// Adds what a save answers to a text, and how many calls failed.
-fn push_last_calls<F: Folder>(
-    alloc: Global,
-    folder: &mut F,
-    text: &mut String,
-) -> Result<(), AllocError> {
-    let saved = save(alloc, folder, &[("b", "1"), ("c", "2")])?;
-    folder.end();
-    let failures = folder.failures();
-    write!(text, ", {saved:?}, {failures} failed")
-}
-
 /// What the files `a`, `b` and `c` hold, as text.
-fn three_text<F: Folder>(alloc: Global, folder: &mut F) -> Result<String, AllocError> {
+fn three_text<F: Folder>(alloc: Global, folder: &mut F) -> Result<String, AllocError>
+    requires { IsSome (F.entered folder.old) }
+{
     let mut text = read_text(alloc, folder, "a", 3)?;
     push_held(alloc, folder, "b", &mut text)?;
     push_held(alloc, folder, "c", &mut text)?;
@@ -174,7 +201,10 @@ fn push_held<F: Folder>(
     folder: &mut F,
     name: &str,
     text: &mut String,
-) -> Result<(), AllocError> {
+) -> Result<(), AllocError>
+    requires { IsSome (F.entered folder.old) }
+    ensures { F.entered folder.new ≡ F.entered folder.old }
+{
     let held = read_text(alloc, folder, name, 3)?;
     write!(text, " {held}")
 }
@@ -190,6 +220,7 @@ fn expect_failing(
     let mut within = folder.into_inner();
     within.written?;
     expect_text(answers, calls)?;
+    within.begin(alloc, Access::Shared)?;
     expect_text(three_text(alloc, &mut within)?, held)
 }
 
@@ -200,11 +231,7 @@ static FAILURES: [(u64, &str, &str); 7] = [
         "Ok(()), Ok(()), Ok(()), [], Ok(()), 0 failed",
         "[110, 101, 119] [49] [50]",
     ),
-    (
-        1,
-        "Err(Device), Ok(()), Ok(()), [], Ok(()), 1 failed",
-        "[110, 101, 119] [49] [50]",
-    ),
+    (1, "Err(Device), 1 failed", "[97, 98, 99] [] Device"),
     (
         2,
         "Ok(()), Err(Device), Ok(()), [], Ok(()), 1 failed",

@@ -30,6 +30,8 @@ impl Folder for NotedFolder {
 
     ghost failed = { λ noted. noted.folder.failures };
 
+    ghost entered = { λ noted. noted.folder.entered };
+
     fn begin(&mut self, alloc: Global, access: Access) -> Result<(), FolderFault> {
         self.folder.begin(alloc, access)
     }
@@ -56,6 +58,10 @@ impl Folder for NotedFolder {
         let answer = self.folder.save(changes);
         self.written = self.written.and(answer);
         answer
+    }
+
+    fn access(&self) -> Option<Access> {
+        self.folder.access()
     }
 
     fn failures(&self) -> u64 {

@@ -1,10 +1,14 @@
 //! Folders of the system, and what is left in them by commands that were cut short.
+
+ghost use Rattle.std.specs.Prelude.{IsSome};
+
 use crate::folder_tests::{in_order, names_text, save};
 use cq_fixtures::{expect_text, push_missed};
 use cq_folder::{Access, Folder};
 use cq_real_folder::RealFolder;
 use std::alloc::{AllocError, Global};
 use std::fmt::Debug;
+use std::fs::{File, OpenFile, TryLockError};
 use std::rt::Files;
 use std::test::Fail;
 use std::{env, fs, process};
@@ -18,6 +22,8 @@ enum Step {
     Link(&'static str, &'static str),
     /// Makes a folder.
     Make(&'static str),
+    /// Removes the folder, which has no file, by the system's own call.
+    Remove,
     /// Lets a file be read alone.
     Lock(&'static str),
     /// Says whether a file may be read alone.
@@ -30,6 +36,8 @@ enum Step {
     Begin(Access),
     /// Goes out.
     End,
+    /// Says whether another that opens the folder could come in, beside others or alone.
+    Try(Access),
     /// Saves files with these texts together.
     Save(&'static [(&'static str, &'static str)]),
     /// Writes a file with this text.
@@ -92,7 +100,7 @@ fn missed_by<R, F>(
     steps: &[(Step, &str)],
 ) -> Result<String, Fail>
 where
-    R: Files + AllocGlobal + Clone + Drop,
+    R: Files<File = File> + AllocGlobal + Clone + Drop,
     F: Folder,
 {
     let mut text = String::new(rt.alloc());
@@ -109,7 +117,7 @@ fn push_missed_steps<R, F>(
     text: &mut String,
 ) -> Result<(), Fail>
 where
-    R: Files + AllocGlobal + Clone + Drop,
+    R: Files<File = File> + AllocGlobal + Clone + Drop,
     F: Folder,
 {
     for (place, (step, want)) in steps.iter().enumerate() {
@@ -130,7 +138,7 @@ fn said_beside<R, F>(
     want: &str,
 ) -> Result<String, Fail>
 where
-    R: Files + AllocGlobal + Clone + Drop,
+    R: Files<File = File> + AllocGlobal + Clone + Drop,
     F: Folder,
 {
     let said = said_at(rt, path, folder, step)?;
@@ -149,7 +157,7 @@ fn is_put_off<R, F>(
     want: &str,
 ) -> Result<bool, Fail>
 where
-    R: Files + AllocGlobal + Clone + Drop,
+    R: Files<File = File> + AllocGlobal + Clone + Drop,
     F: Folder,
 {
     if folder.begin(rt.alloc(), Access::Alone).is_err() {
@@ -162,7 +170,7 @@ where
 /// Takes a step in the folder at a path, and gives what is said.
 fn said_at<R, F>(rt: &R, path: &str, folder: &mut F, step: &Step) -> Result<String, Fail>
 where
-    R: Files + AllocGlobal + Clone + Drop,
+    R: Files<File = File> + AllocGlobal + Clone + Drop,
     F: Folder,
 {
     let alloc = rt.alloc();
@@ -170,6 +178,7 @@ where
         Step::Put(name, text) => put(rt, path, name, text),
         Step::Link(name, to) => link(rt, path, name, to),
         Step::Make(name) => make(rt, path, name),
+        Step::Remove => removed(rt, path),
         Step::Lock(name) => lock(rt, path, name),
         Step::IsLocked(name) => is_locked(rt, path, name),
         Step::Many(count) => put_many(rt, path, count),
@@ -177,8 +186,9 @@ where
         Step::Count => counted(alloc, folder),
         Step::Begin(access) => answer(alloc, folder.begin(alloc, access)),
         Step::End => ended(alloc, folder),
+        Step::Try(access) => tried(rt, path, access),
         Step::Save(files) => saved(alloc, folder, files),
-        Step::Write(name, text) => answer(alloc, folder.write(name, text.as_bytes())),
+        Step::Write(name, text) => written(alloc, folder, name, text),
         Step::Names => named(alloc, folder),
         Step::Read(name) => text_of(alloc, folder, name),
         Step::Failures => failed(alloc, folder),
@@ -210,6 +220,11 @@ fn link<R: Files + AllocGlobal>(rt: &R, path: &str, name: &str, to: &str) -> Res
 
 fn make<R: Files + AllocGlobal>(rt: &R, path: &str, name: &str) -> Result<String, Fail> {
     fs::create_dir(rt, within(rt.alloc(), path, name)?.as_str())?;
+    Ok(String::new(rt.alloc()))
+}
+
+fn removed<R: Files + AllocGlobal>(rt: &R, path: &str) -> Result<String, Fail> {
+    fs::remove_dir(rt, path)?;
     Ok(String::new(rt.alloc()))
 }
 
@@ -246,12 +261,53 @@ fn put_long<R: Files + AllocGlobal>(rt: &R, path: &str, number: usize) -> Result
     put(rt, path, name.as_str(), "")
 }
 
+/// What is said in place of a call that only a command makes that has come in, or is alone.
+fn outside(alloc: Global) -> Result<String, Fail> {
+    Ok(String::from_str(alloc, "outside")?)
+}
+
 fn saved<F: Folder>(alloc: Global, folder: &mut F, files: &[(&str, &str)]) -> Result<String, Fail> {
-    answer(alloc, save(alloc, folder, files)?)
+    match folder.access() {
+        Some(Access::Alone) => answer(alloc, save(alloc, folder, files)?),
+        Some(Access::Shared) | None => outside(alloc),
+    }
+}
+
+fn written<F: Folder>(
+    alloc: Global,
+    folder: &mut F,
+    name: &str,
+    text: &str,
+) -> Result<String, Fail> {
+    match folder.access() {
+        Some(Access::Alone) => answer(alloc, folder.write(name, text.as_bytes())),
+        Some(Access::Shared) | None => outside(alloc),
+    }
 }
 
 fn counted<F: Folder>(alloc: Global, folder: &mut F) -> Result<String, Fail> {
-    Ok(format!(in alloc; "{}", folder.names(alloc)?.len())?)
+    match folder.access() {
+        Some(_) => Ok(format!(in alloc; "{}", folder.names(alloc)?.len())?),
+        None => outside(alloc),
+    }
+}
+
+/// Whether the folder at a path, which is opened once more, can be locked: "free" or "held".
+fn tried<R: Files<File = File> + AllocGlobal>(
+    rt: &R,
+    path: &str,
+    access: Access,
+) -> Result<String, Fail> {
+    let folder = File::open(rt, path)?;
+    let tried = match access {
+        Access::Shared => folder.try_lock_shared(),
+        Access::Alone => folder.try_lock(),
+    };
+    match tried {
+        Ok(()) => Ok(String::from_str(rt.alloc(), "free")?),
+        Err(TryLockError::WouldBlock) => Ok(String::from_str(rt.alloc(), "held")?),
+        Err(TryLockError::Error(error)) => Err(Fail::from(error)),
+    }
 }
 
 fn ended<F: Folder>(alloc: Global, folder: &mut F) -> Result<String, Fail> {
@@ -260,7 +316,10 @@ fn ended<F: Folder>(alloc: Global, folder: &mut F) -> Result<String, Fail> {
 }
 
 fn named<F: Folder>(alloc: Global, folder: &mut F) -> Result<String, Fail> {
-    Ok(names_text(alloc, folder)?)
+    match folder.access() {
+        Some(_) => Ok(names_text(alloc, folder)?),
+        None => outside(alloc),
+    }
 }
 
 fn failed<F: Folder>(alloc: Global, folder: &mut F) -> Result<String, Fail> {
@@ -269,6 +328,16 @@ fn failed<F: Folder>(alloc: Global, folder: &mut F) -> Result<String, Fail> {
 
 /// The text of a file, or the fault of its read.
 fn text_of<F: Folder>(alloc: Global, folder: &mut F, name: &str) -> Result<String, Fail> {
+    match folder.access() {
+        Some(_) => text_within(alloc, folder, name),
+        None => outside(alloc),
+    }
+}
+
+/// The same where a command has come in.
+fn text_within<F: Folder>(alloc: Global, folder: &mut F, name: &str) -> Result<String, Fail>
+    requires { IsSome (F.entered folder.old) }
+{
     match folder.read(alloc, name, 100) {
         Ok(bytes) => Ok(String::from_utf8_lossy(alloc, bytes.as_slice())?),
         Err(fault) => Ok(format!(in alloc; "{fault:?}")?),
@@ -276,7 +345,10 @@ fn text_of<F: Folder>(alloc: Global, folder: &mut F, name: &str) -> Result<Strin
 }
 
 /// The names that the system lists.
-fn listed<R: Files + AllocGlobal + Clone + Drop>(rt: &R, path: &str) -> Result<String, Fail> {
+fn listed<R: Files<File = File> + AllocGlobal + Clone + Drop>(
+    rt: &R,
+    path: &str,
+) -> Result<String, Fail> {
     let mut names = Vec::new(rt.alloc());
     push_names(rt, path, &mut names)?;
     Ok(in_order(rt.alloc(), names)?)
@@ -285,7 +357,7 @@ fn listed<R: Files + AllocGlobal + Clone + Drop>(rt: &R, path: &str) -> Result<S
 /// Adds the names that the system lists to others.
 fn push_names<R>(rt: &R, path: &str, names: &mut Vec<String>) -> Result<(), Fail>
 where
-    R: Files + AllocGlobal + Clone + Drop,
+    R: Files<File = File> + AllocGlobal + Clone + Drop,
 {
     for entry in fs::read_dir(rt, path)? {
         push_name(rt.alloc(), entry?.file_name(), names)?;
@@ -299,7 +371,9 @@ fn push_name(alloc: Global, name: &str, names: &mut Vec<String>) -> Result<(), A
 }
 
 /// A write replaces a file, and what an older write of this process left.
-static WRITTEN: [(Step, &str); 9] = [
+static WRITTEN: [(Step, &str); 11] = [
+    (Step::Names, "outside"),
+    (Step::Begin(Access::Alone), ""),
     (Step::Names, ""),
     (Step::Put("a.7.part", "much longer than the new bytes"), ""),
     (Step::Write("a", "old"), ""),
@@ -317,8 +391,9 @@ fn a_real_folder_keeps_its_files(rt: HostRuntime) -> Result<(), Fail> {
 }
 
 /// All names of a folder are listed, however many there are.
-static MANY: [(Step, &str); 4] = [
+static MANY: [(Step, &str); 5] = [
     (Step::Many(150), ""),
+    (Step::Begin(Access::Shared), ""),
     (Step::Count, "150"),
     (Step::Begin(Access::Alone), ""),
     (Step::Count, "150"),
@@ -330,7 +405,7 @@ fn all_names_are_listed(rt: HostRuntime) -> Result<(), Fail> {
 }
 
 /// Two files are saved together; a file that no record can name is refused, and nothing of its save is left.
-static SAVED: [(Step, &str); 9] = [
+static SAVED: [(Step, &str); 13] = [
     (Step::Begin(Access::Alone), ""),
     (Step::Save(&[("1.cqi", "one"), ("queue.cqc", "two")]), ""),
     (Step::Save(&[("1.cqi", "three"), ("2.txt", "")]), "Device"),
@@ -340,6 +415,10 @@ static SAVED: [(Step, &str); 9] = [
     ),
     (Step::Save(&[]), ""),
     (Step::End, ""),
+    (Step::Read("1.cqi"), "outside"),
+    (Step::Begin(Access::Shared), ""),
+    (Step::Write("1.cqi", "three"), "outside"),
+    (Step::Save(&[("1.cqi", "three")]), "outside"),
     (Step::Read("1.cqi"), "one"),
     (Step::Read("queue.cqc"), "two"),
     (Step::Listed, "1.cqi queue.cqc "),
@@ -461,7 +540,8 @@ fn links_are_not_followed(rt: HostRuntime) -> Result<(), Fail> {
 }
 
 /// What a queue's files may be read and written by stays.
-static MODE: [(Step, &str); 4] = [
+static MODE: [(Step, &str); 5] = [
+    (Step::Begin(Access::Alone), ""),
     (Step::Put("1.cqi", "old"), ""),
     (Step::Lock("1.cqi"), ""),
     (Step::Write("1.cqi", "new"), ""),
@@ -473,18 +553,118 @@ fn a_file_keeps_its_mode(rt: HostRuntime) -> Result<(), Fail> {
     expect_steps(&rt, "mode", &MODE)
 }
 
-/// Each call of a folder that is not there is a fault, but for that which ends a command.
-static MISSING: [(Step, &str); 7] = [
-    (Step::Begin(Access::Alone), "Device"),
-    (Step::Names, "Device"),
-    (Step::Write("a", "new"), "Device"),
-    (Step::Read("b"), "Device"),
-    (Step::Save(&[("b", "1"), ("c", "2")]), "Device"),
+/// Nobody else comes in while a command is alone in the folder, and only others that read while one reads.
+static HELD: [(Step, &str); 32] = [
+    (Step::Try(Access::Alone), "free"),
+    (Step::Begin(Access::Alone), ""),
+    (Step::Try(Access::Shared), "held"),
+    (Step::Try(Access::Alone), "held"),
+    (Step::Names, ""),
+    (Step::Try(Access::Shared), "held"),
+    (Step::Write("1.cqi", "old"), ""),
+    (Step::Try(Access::Shared), "held"),
+    (Step::Save(&[("1.cqi", "one"), ("2.cqi", "two")]), ""),
+    (Step::Try(Access::Shared), "held"),
+    (Step::Read("1.cqi"), "one"),
+    (Step::Try(Access::Shared), "held"),
     (Step::End, ""),
-    (Step::Failures, "5"),
+    (Step::Try(Access::Alone), "free"),
+    (Step::Begin(Access::Shared), ""),
+    (Step::Try(Access::Shared), "free"),
+    (Step::Try(Access::Alone), "held"),
+    (Step::Names, "1.cqi 2.cqi "),
+    (Step::Read("1.cqi"), "one"),
+    (Step::Read("3.cqi"), "Device"),
+    (Step::Try(Access::Shared), "free"),
+    (Step::Try(Access::Alone), "held"),
+    (Step::Begin(Access::Alone), ""),
+    (Step::Try(Access::Shared), "held"),
+    (Step::Begin(Access::Shared), ""),
+    (Step::Try(Access::Shared), "free"),
+    (Step::Try(Access::Alone), "held"),
+    (Step::End, ""),
+    (Step::Put("queue.save", "no record"), ""),
+    (Step::Begin(Access::Shared), "Device"),
+    (Step::Begin(Access::Alone), "Device"),
+    (Step::Try(Access::Alone), "free"),
+];
+
+#[test]
+fn the_lock_is_held_while_a_command_is_in(rt: HostRuntime) -> Result<(), Fail> {
+    expect_steps(&rt, "held", &HELD)
+}
+
+/// The names of parts, and others that are none: whoever comes in alone removes the parts, and nothing else.
+static SWEPT: [(Step, &str); 29] = [
+    (Step::Put("queue.cqc.7.part", ""), ""),
+    (Step::Put("queue.save.0.part", ""), ""),
+    (Step::Put("19700101.cqi.4294967295.part", ""), ""),
+    (Step::Put(".cqi.10.part", ""), ""),
+    (Step::Put("19700101.cqi", ""), ""),
+    (Step::Put("queue.cqc", ""), ""),
+    (Step::Put("movie.part", ""), ""),
+    (Step::Put("movie.7.part", ""), ""),
+    (Step::Put("movie.old.part", ""), ""),
+    (Step::Put("movie.cqi.part", ""), ""),
+    (Step::Put("movie.cqi.old.part", ""), ""),
+    (Step::Put("movie.cqc.7.part", ""), ""),
+    (Step::Put("queue.cqc.part", ""), ""),
+    (Step::Put("queue.cqc..part", ""), ""),
+    (Step::Put("queue.cqc7.part", ""), ""),
+    (Step::Put("queue.save.old.part", ""), ""),
+    (Step::Put("1.cqi.07.part", ""), ""),
+    (Step::Put("1.cqi.+7.part", ""), ""),
+    (Step::Put("1.cqi.-7.part", ""), ""),
+    (Step::Put("1.cqi.4294967296.part", ""), ""),
+    (Step::Put("1.cqi.7.8.part", ""), ""),
+    (Step::Put("1.cqi.7.part.part", ""), ""),
+    (Step::Put("1.cqi.7.part.old", ""), ""),
+    (Step::Put("1.cqi.7.Part", ""), ""),
+    (Step::Put("7.part", ""), ""),
+    (Step::Begin(Access::Shared), ""),
+    (Step::Count, "25"),
+    (Step::Begin(Access::Alone), ""),
+    (
+        Step::Listed,
+        "1.cqi.+7.part 1.cqi.-7.part 1.cqi.07.part 1.cqi.4294967296.part 1.cqi.7.8.part 1.cqi.7.Part 1.cqi.7.part.old \
+1.cqi.7.part.part 19700101.cqi 7.part movie.7.part movie.cqc.7.part movie.cqi.old.part movie.cqi.part movie.old.part \
+movie.part queue.cqc queue.cqc..part queue.cqc.part queue.cqc7.part queue.save.old.part ",
+    ),
+];
+
+#[test]
+fn parts_alone_are_removed(rt: HostRuntime) -> Result<(), Fail> {
+    expect_steps(&rt, "swept", &SWEPT)
+}
+
+/// No command comes into a folder that is not there.
+static MISSING: [(Step, &str); 4] = [
+    (Step::Begin(Access::Alone), "Device"),
+    (Step::Names, "outside"),
+    (Step::End, ""),
+    (Step::Failures, "1"),
 ];
 
 #[test]
 fn a_missing_folder_is_a_device_fault(rt: HostRuntime) -> Result<(), Fail> {
     expect_text(missed(&rt, "/no/such/folder", &MISSING)?, "")
+}
+
+/// Each call of a folder that is gone since a command came in is a fault, but for that which ends the command.
+static GONE: [(Step, &str); 8] = [
+    (Step::Begin(Access::Alone), ""),
+    (Step::Remove, ""),
+    (Step::Names, "Device"),
+    (Step::Write("a", "new"), "Device"),
+    (Step::Read("b"), "Device"),
+    (Step::Save(&[("1.cqi", "1"), ("2.cqi", "2")]), "Device"),
+    (Step::End, ""),
+    (Step::Failures, "4"),
+];
+
+#[test]
+fn a_folder_that_is_gone_is_a_device_fault(rt: HostRuntime) -> Result<(), Fail> {
+    let path = temporary_path(&rt, "gone")?;
+    fs::create_dir(&rt, path.as_str())?;
+    expect_text(missed(&rt, path.as_str(), &GONE)?, "")
 }

@@ -1,2 +1,4 @@
 pub mod FaultLemmas
+pub mod PartLemmas
+pub mod ReadLemmas
 pub mod RecordLemmas

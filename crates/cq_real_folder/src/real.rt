@@ -1,10 +1,12 @@
-ghost use Rattle.std.specs.Prelude.{◌≡◌, None};
+ghost use Rattle.std.specs.Prelude.{◌≡◌, None, option_map};
 
 mod entering;
+mod locking;
 mod reading;
 mod replacing;
 
-use crate::record::Record;
+use crate::real::locking::Lock;
+use crate::record::{Record, part_name};
 use cq_folder::{Access, Folder, FolderFault, NewFile, fault_of};
 use std::alloc::{AllocError, Global};
 use std::fs::{File, OpenFile};
@@ -26,8 +28,8 @@ pub struct RealFolder<'a, R: Files<File = File> + AllocGlobal + Clone + Drop> {
     path: String,
     /// The number of this process.
     process: u32,
-    /// The open folder, which holds the lock.
-    lock: Option<File>,
+    /// The lock of the folder; `None` where no command is in it.
+    lock: Option<Lock>,
     /// The record that stands, which is read through.
     record: Option<Record>,
     /// How often a call answered `Device`, up to 2^64 - 1.
@@ -57,7 +59,8 @@ impl<'a, R: Files<File = File> + AllocGlobal + Clone + Drop> RealFolder<'a, R> {
     }
 
     fn part_of(&self, name: &str, process: u32) -> Result<String, AllocError> {
-        format!(in self.rt.alloc(); "{}/{name}.{process}.part", self.path)
+        let part = part_name(self.rt.alloc(), name, process)?;
+        self.path_of(part.as_str())
     }
 
     /// Brings what the folder lists to the device.
@@ -76,6 +79,8 @@ fn unless_missing(done: io::Result<()>) -> io::Result<()> {
 
 impl<'a, R: Files<File = File> + AllocGlobal + Clone + Drop> Folder for RealFolder<'a, R> {
     ghost failed = { λ folder. folder.failures };
+
+    ghost entered = { λ folder. option_map (λ lock. lock.access) folder.lock };
 
     fn begin(&mut self, alloc: Global, access: Access) -> Result<(), FolderFault> {
         match self.enter(alloc, access) {
@@ -117,6 +122,13 @@ impl<'a, R: Files<File = File> + AllocGlobal + Clone + Drop> Folder for RealFold
         match self.replace_some(changes) {
             Ok(()) => Ok(()),
             Err(error) => Err(fault_of(&mut self.failures, &error)),
+        }
+    }
+
+    fn access(&self) -> Option<Access> {
+        match &self.lock {
+            Some(lock) => Some(lock.access()),
+            None => None,
         }
     }
 

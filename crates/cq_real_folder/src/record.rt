@@ -1,7 +1,7 @@
-ghost use Rattle.std.specs.Prelude.{◌≡◌, ◌↔◌, ◌<◌, All, IfOk, IfSome, IsTrue, string_bytes, vec_len};
+ghost use Rattle.std.specs.Prelude.{◌≡◌, ◌↔◌, ◌<◌, ◌^◌, ℕ, All, IfOk, IfSome, IsSomeAnd, IsTrue, List, String, map, string_bytes, vec_len};
 ghost use Rattle.std.specs.List.{list_any};
 ghost use Rattle.std.specs.Str.{bytes_eq};
-ghost use Rattle.cq_real_folder.specs.Record.{IsFileName, record_text};
+ghost use Rattle.cq_real_folder.specs.Record.{HasParts, IsFileName, IsPartName, IsRecord, name_text, part_name, record_text};
 
 use std::alloc::{AllocError, Global};
 
@@ -45,6 +45,9 @@ impl Record {
         ensures some { IfOk result (λ read. IfSome read (λ found. 0 < vec_len found.names)) }
         ensures names { IfOk result (λ read. IfSome read (λ found.
             All (λ name. IsFileName (string_bytes name)) found.names.items)) }
+        ensures only { (process : ℕ) (names : List (String Global)) → IsRecord process names → text.now ≡ record_text process names
+            → IfOk result (λ read. IsSomeAnd read (λ found. (found.process ≡ process)
+            × (map string_bytes found.names.items ≡ map string_bytes names))) }
     {
         let Some(record) = Record::of_lines(alloc, text)? else {
             return Ok(None);
@@ -57,31 +60,51 @@ impl Record {
 
     /// The process and the names on the lines of a text, whose form is not looked at closely.
     fn of_lines(alloc: Global, text: &[u8]) -> Result<Option<Record>, AllocError>
-        ensures { IfOk result (λ read. IfSome read (λ found.
+        ensures names { IfOk result (λ read. IfSome read (λ found.
             All (λ name. IsFileName (string_bytes name)) found.names.items)) }
+        ensures only { (process : ℕ) (names : List (String Global)) → IsRecord process names → text.now ≡ record_text process names
+            → IfOk result (λ read. IsSomeAnd read (λ found. (found.process ≡ process)
+            × (map string_bytes found.names.items ≡ map string_bytes names))) }
     {
         let Ok(text) = str::from_utf8(text) else {
             return Ok(None);
         };
-        let Some(text) = text.strip_suffix("end\n") else {
+        let Some((process, lines)) = parts_of(text) else {
             return Ok(None);
         };
-        let mut lines = text.lines();
-        if lines.next() != Some("cq save 1") {
-            return Ok(None);
-        }
-        let Some(Ok(process)) = lines.next().map(|word| word.parse::<u32>()) else {
+        let Some(names) = names_on(alloc, lines)? else {
             return Ok(None);
         };
-        let mut names = Vec::new(alloc);
-        for name in lines {
-            if !is_file_name(name) {
-                return Ok(None);
-            }
-            names.push(String::from_str(alloc, name)?)?;
-        }
         Ok(Some(Record { process, names }))
     }
+}
+
+/// The number of the process and the lines of the names in the text of a record. The number may have a sign or leading zeros.
+fn parts_of(text: &str) -> Option<(u32, &str)>
+    ensures { (process : ℕ) (names : List (String Global)) → process < 2 ^ 32 → text.now ≡ record_text process names
+        → IsSomeAnd result (λ found. (found.0 ≡ process) × (found.1.now ≡ name_text names)) }
+{
+    let lines = text.strip_prefix("cq save 1\n")?;
+    let lines = lines.strip_suffix("end\n")?;
+    let (word, names) = lines.split_once('\n')?;
+    let process = word.parse().ok()?;
+    Some((process, names))
+}
+
+/// The names on the lines of a text; `None` where a record cannot have a line as a name.
+fn names_on(alloc: Global, text: &str) -> Result<Option<Vec<String>>, AllocError>
+    ensures names { IfOk result (λ read. IfSome read (λ found. All (λ name. IsFileName (string_bytes name)) found.items)) }
+    ensures only { (names : List (String Global)) → All (λ name. IsFileName (string_bytes name)) names → text.now ≡ name_text names
+        → IfOk result (λ read. IsSomeAnd read (λ found. map string_bytes found.items ≡ map string_bytes names)) }
+{
+    let mut names = Vec::new(alloc);
+    for name in text.lines() {
+        if !is_file_name(name) {
+            return Ok(None);
+        }
+        names.push(String::from_str(alloc, name)?)?;
+    }
+    Ok(Some(names))
 }
 
 /// Whether a record can name the file: it is an image's or `queue.cqc` by its name, and in no other folder.
@@ -95,13 +118,41 @@ pub(crate) fn is_file_name(name: &str) -> bool
     name == "queue.cqc" || bytes.ends_with(b".cqi")
 }
 
-/// Whether a file is a part by its name, of a file of a queue or of the record.
-pub(crate) fn is_part_name(name: &str) -> bool {
-    let Some(front) = name.strip_suffix(".part") else {
-        return false;
+/// The name of the part of a file that the process with this number writes.
+pub(crate) fn part_name(alloc: Global, file: &str, process: u32) -> Result<String, AllocError>
+    ensures { IfOk result (λ name. string_bytes name ≡ part_name file.now process) }
+{
+    format!(in alloc; "{file}.{process}.part")
+}
+
+/// Whether a file is a part by its name: `FILE.NUMBER.part`, where FILE is the record or a file that a record can name, and NUMBER
+/// is below 2^32, in decimal without leading zeros. Takes memory for the name once more.
+pub(crate) fn is_part_name(alloc: Global, name: &str) -> Result<bool, AllocError>
+    ensures { IfOk result (λ is_part. IsTrue is_part ↔ IsPartName name.now) }
+{
+    let Some((file, process)) = part_in(name) else {
+        return Ok(false);
     };
-    let Some((file, process)) = front.rsplit_once('.') else {
-        return false;
-    };
-    process.parse::<u32>().is_ok() && (file == RECORD_FILE || is_file_name(file))
+    if !has_parts(file) {
+        return Ok(false);
+    }
+    Ok(part_name(alloc, file, process)?.as_str() == name)
+}
+
+/// The file and the number of the process in the name of a part. The number may have a sign or leading zeros.
+fn part_in(name: &str) -> Option<(&str, u32)>
+    ensures { (file : List ℕ) (process : ℕ) → process < 2 ^ 32 → name.now ≡ part_name file process
+        → IsSomeAnd result (λ found. (found.0.now ≡ file) × (found.1 ≡ process)) }
+{
+    let front = name.strip_suffix(".part")?;
+    let dot = front.rfind('.')?;
+    let process = front[dot + 1..].parse().ok()?;
+    Some((&front[..dot], process))
+}
+
+/// Whether parts of the file are written: it is the record, or a record can name it.
+fn has_parts(file: &str) -> bool
+    ensures { IsTrue result ↔ HasParts file.now }
+{
+    file == RECORD_FILE || is_file_name(file)
 }

@@ -1,7 +1,8 @@
 //! A command comes into a folder: the lock, and what is left of a save that was cut short.
 
-ghost use Rattle.std.specs.Prelude.{◌≡◌};
+ghost use Rattle.std.specs.Prelude.{◌≡◌, IfOk, None, OnOk, Some, option_map};
 
+use super::locking::Lock;
 use super::{RealFolder, unless_missing};
 use crate::record::{RECORD_FILE, Record, is_part_name};
 use cq_folder::Access;
@@ -16,16 +17,18 @@ const MOST_RECORD_BYTES: usize = 1_048_576;
 impl<'a, R: Files<File = File> + AllocGlobal + Clone + Drop> RealFolder<'a, R> {
     /// Waits for the lock, and looks for a save that was cut short.
     pub(super) fn enter(&mut self, alloc: Global, access: Access) -> io::Result<()>
-        ensures { self.new.failures ≡ self.old.failures }
+        ensures failures { self.new.failures ≡ self.old.failures }
+        ensures inside { OnOk result (option_map (λ lock. lock.access) self.new.lock ≡ Some access) }
     {
         self.leave();
-        let (folder, is_locked) = self.opened(access)?;
-        self.lock = Some(folder);
+        let lock = self.locked(access)?;
+        let is_held = lock.is_held;
+        self.lock = Some(lock);
         self.record = self.standing(alloc)?;
         if access == Access::Alone {
             self.settle()?;
             // Without locks, a part may be that of a process at work.
-            if is_locked {
+            if is_held {
                 self.sweep(alloc)?;
             }
         }
@@ -34,28 +37,22 @@ impl<'a, R: Files<File = File> + AllocGlobal + Clone + Drop> RealFolder<'a, R> {
 
     /// Gives the lock back.
     pub(super) fn leave(&mut self)
-        ensures { self.new.failures ≡ self.old.failures }
+        ensures failures { self.new.failures ≡ self.old.failures }
+        ensures outside { self.new.lock ≡ None }
     {
         self.lock = None;
         self.record = None;
     }
 
-    /// The open folder, and whether it is locked: a system that has no locks is used without.
-    fn opened(&self, access: Access) -> io::Result<(File, bool)> {
+    /// The folder, opened and locked.
+    fn locked(&self, access: Access) -> io::Result<Lock>
+        ensures { IfOk result (λ lock. lock.access ≡ access) }
+    {
         // A FIFO would be waited for.
         if !fs::metadata(self.rt, self.path.as_str())?.is_dir() {
             return Err(io::Error::from(ErrorKind::NotADirectory));
         }
-        let folder = File::open(self.rt, self.path.as_str())?;
-        let locked = match access {
-            Access::Alone => folder.lock(),
-            Access::Shared => folder.lock_shared(),
-        };
-        match locked {
-            Ok(()) => Ok((folder, true)),
-            Err(error) if has_no_locks(&error) => Ok((folder, false)),
-            Err(error) => Err(error),
-        }
+        Lock::of(File::open(self.rt, self.path.as_str())?, access)
     }
 
     /// The record that stands.
@@ -73,7 +70,8 @@ impl<'a, R: Files<File = File> + AllocGlobal + Clone + Drop> RealFolder<'a, R> {
 
     /// Does what is left of the save whose record stands.
     pub(super) fn settle(&mut self) -> io::Result<()>
-        ensures { self.new.failures ≡ self.old.failures }
+        ensures failures { self.new.failures ≡ self.old.failures }
+        ensures locked { self.new.lock ≡ self.old.lock }
     {
         if let Some(record) = &self.record {
             self.finish(record)?;
@@ -96,16 +94,10 @@ impl<'a, R: Files<File = File> + AllocGlobal + Clone + Drop> RealFolder<'a, R> {
     /// Removes the parts of saves that were cut short before their record stood.
     fn sweep(&self, alloc: Global) -> io::Result<()> {
         for name in self.list(alloc)? {
-            if is_part_name(name.as_str()) {
+            if is_part_name(alloc, name.as_str())? {
                 let _ = fs::remove_file(self.rt, self.path_of(name.as_str())?.as_str());
             }
         }
         Ok(())
     }
-}
-
-/// Whether the error says that the system, or this file system, has no locks on folders: a bad descriptor, an invalid
-/// argument, no locks, no such call, not supported.
-fn has_no_locks(error: &io::Error) -> bool {
-    matches!(error.raw_os_error(), Some(9 | 22 | 37 | 38 | 95))
 }

@@ -1,6 +1,7 @@
 //! Files take new bytes: whole, and all of a save or none.
 
-ghost use Rattle.std.specs.Prelude.{◌≡◌};
+ghost use Rattle.std.specs.Prelude.{◌≡◌, All, IfOk, map, string_bytes};
+ghost use Rattle.cq_real_folder.specs.Record.{IsFileName};
 
 use super::{RealFolder, unless_missing};
 use crate::record::{RECORD_FILE, Record, is_file_name};
@@ -25,7 +26,8 @@ impl<'a, R: Files<File = File> + AllocGlobal + Clone + Drop> RealFolder<'a, R> {
 
     /// Writes files together. One file takes its place at once, and so needs no record.
     pub(super) fn replace_some(&mut self, changes: &[NewFile]) -> io::Result<()>
-        ensures { self.new.failures ≡ self.old.failures }
+        ensures failures { self.new.failures ≡ self.old.failures }
+        ensures locked { self.new.lock ≡ self.old.lock }
     {
         match changes {
             [] => Ok(()),
@@ -37,7 +39,8 @@ impl<'a, R: Files<File = File> + AllocGlobal + Clone + Drop> RealFolder<'a, R> {
     /// Writes files so that all of them hold their bytes or what they held. Where the record stands on the device, the
     /// files are saved, and a fault after that is none: whoever is next alone does what is left.
     fn replace_all(&mut self, changes: &[NewFile]) -> io::Result<()>
-        ensures { self.new.failures ≡ self.old.failures }
+        ensures failures { self.new.failures ≡ self.old.failures }
+        ensures locked { self.new.lock ≡ self.old.lock }
     {
         let record = self.record_of(changes)?;
         if let Err(error) = self.promise(&record, changes) {
@@ -51,8 +54,13 @@ impl<'a, R: Files<File = File> + AllocGlobal + Clone + Drop> RealFolder<'a, R> {
         Ok(())
     }
 
-    /// The record of a save. Answers an error where it cannot name a file.
-    fn record_of(&self, changes: &[NewFile]) -> io::Result<Record> {
+    /// The record of a save: this process, and the files in their order. Answers an error where it cannot name a file.
+    fn record_of(&self, changes: &[NewFile]) -> io::Result<Record>
+        ensures process { IfOk result (λ made. made.process ≡ self.now.process) }
+        ensures names { IfOk result (λ made. map string_bytes made.names.items
+            ≡ map (λ file. string_bytes file.name) changes.now) }
+        ensures files { IfOk result (λ made. All (λ name. IsFileName (string_bytes name)) made.names.items) }
+    {
         let alloc = self.rt.alloc();
         let mut names = Vec::new(alloc);
         for file in changes {

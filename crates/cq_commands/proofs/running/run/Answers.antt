@@ -10,7 +10,7 @@ use Rattle.cq_text.specs.declared.fault.ToolFault.TheVariants.{OutOfMemory, Writ
 use Rattle.cq_text.specs.CycleLine.{IsCycleLine}
 use Rattle.cq_text.specs.Output.{AppendsBeginning}
 use Rattle.cq_commands.specs.Messages.{IsReadOut}
-use Rattle.cq_commands.specs.Orders.{IsCutShort, IsDone, KeepsOrSaves, LeavesFiles, MayFail, Streams, TakesVersion}
+use Rattle.cq_commands.specs.Orders.{IsCutShort, IsDone, KeepsOrSaves, LeavesFiles, MayFail, Streams, TakesVersion, TellsSaved}
 use Rattle.cq_commands.specs.QueueFaults.{IsReadFault}
 use Rattle.cq_commands.specs.Taken.{IsTaken}
 use Rattle.cq_commands.proofs.running.run.Goals as goal
@@ -180,3 +180,47 @@ returns-in-Migrate-clause-version g c =
 pub returns-in-Cycle-clause-version : goal.returns-in-Cycle-clause-version
 returns-in-Cycle-clause-version g c =
     version_of (g.F.Folder.files c.args.folder.now) c.cycle.result c.args.order.now _ c.in-Cycle.is tt
+
+told_of : {T : Type 0} (before after : Option Files) (result : Result T ToolFault) (order known : Order) → order ≡ known
+    → TellsSaved known before after result → TellsSaved order before after result
+told_of before after result order known is told = subst (λ (o : Order). TellsSaved o before after result) (sym is) told
+
+pub returns-in-Init-clause-told : goal.returns-in-Init-clause-told
+returns-in-Init-clause-told g c =
+    told_of (g.F.Folder.files c.args.folder.now) (g.F.Folder.files c.init.new.folder) c.init.result c.args.order.now _ c.in-Init.is tt
+
+pub returns-in-Write-clause-told : goal.returns-in-Write-clause-told
+returns-in-Write-clause-told g c =
+    told_of (g.F.Folder.files c.args.folder.now) (g.F.Folder.files c.write.new.folder) c.write.result c.args.order.now _ c.in-Write.is c.write.ensures.told
+
+pub returns-in-Read-clause-told : goal.returns-in-Read-clause-told
+returns-in-Read-clause-told g c =
+    told_of (g.F.Folder.files c.args.folder.now) (g.F.Folder.files c.read.new.folder) c.read.result c.args.order.now _ c.in-Read.is tt
+
+pub returns-in-Take-clause-told : goal.returns-in-Take-clause-told
+returns-in-Take-clause-told g c =
+    told_of (g.F.Folder.files c.args.folder.now) (g.F.Folder.files c.take.new.folder) c.take.result c.args.order.now _ c.in-Take.is c.take.ensures.told
+
+pub returns-in-DropBefore-clause-told : goal.returns-in-DropBefore-clause-told
+returns-in-DropBefore-clause-told g c =
+    told_of (g.F.Folder.files c.args.folder.now) (g.F.Folder.files c.drop_before.new.folder) c.drop_before.result c.args.order.now _ c.in-DropBefore.is c.drop_before.ensures.told
+
+pub returns-in-Check-clause-told : goal.returns-in-Check-clause-told
+returns-in-Check-clause-told g c =
+    told_of (g.F.Folder.files c.args.folder.now) (g.F.Folder.files c.check.new.folder) c.check.result c.args.order.now _ c.in-Check.is tt
+
+pub returns-in-Dump-clause-told : goal.returns-in-Dump-clause-told
+returns-in-Dump-clause-told g c =
+    told_of (g.F.Folder.files c.args.folder.now) (g.F.Folder.files c.dump.new.folder) c.dump.result c.args.order.now _ c.in-Dump.is tt
+
+pub returns-in-Salvage-clause-told : goal.returns-in-Salvage-clause-told
+returns-in-Salvage-clause-told g c =
+    told_of (g.F.Folder.files c.args.folder.now) (g.F.Folder.files c.salvage.new.folder) c.salvage.result c.args.order.now _ c.in-Salvage.is tt
+
+pub returns-in-Migrate-clause-told : goal.returns-in-Migrate-clause-told
+returns-in-Migrate-clause-told g c =
+    told_of (g.F.Folder.files c.args.folder.now) (g.F.Folder.files c.migrate.new.folder) c.migrate.result c.args.order.now _ c.in-Migrate.is c.migrate.ensures.told
+
+pub returns-in-Cycle-clause-told : goal.returns-in-Cycle-clause-told
+returns-in-Cycle-clause-told g c =
+    told_of (g.F.Folder.files c.args.folder.now) (g.F.Folder.files c.args.folder.now) c.cycle.result c.args.order.now _ c.in-Cycle.is tt

@@ -23,4 +23,5 @@ loop-file-preserved c =
           (subst (WritesFiles old new) (sym (map-append named_file (take i files) (file ∷ [])))
           (one_file_more old middle new (map named_file (take i files)) (named_file file) c.loop-file.invariant.0 wrote))),
       c.put.ensures.failures ∙ c.loop-file.invariant.1,
+      c.put.ensures.inside ∙ c.loop-file.invariant.2,
     )

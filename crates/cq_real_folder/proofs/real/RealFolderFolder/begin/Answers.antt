@@ -5,6 +5,6 @@ use Rattle.cq_real_folder.proofs.real.RealFolderFolder.begin.Goals as goal
 
 pub returns-in-Err-clause-counted : goal.returns-in-Err-clause-counted
 returns-in-Err-clause-counted g c =
-    subst (λ (before : ℕ). IsCounted before c.fault_of.new.failures (Err c.fault_of.result)) (c.leave.ensures ∙ c.enter.ensures)
+    subst (λ (before : ℕ). IsCounted before c.fault_of.new.failures (Err c.fault_of.result)) (c.leave.ensures.failures ∙ c.enter.ensures.failures)
     (counted_fault c.leave.new.self.failures c.fault_of.new.failures c.fault_of.result c.fault_of.ensures.later
     c.fault_of.ensures.device c.fault_of.ensures.others)

@@ -1,11 +1,6 @@
-use Rattle.std.proofs.Common.{All, Global, List, String, string_bytes, subst, sym}
-use Rattle.std.proofs.lemmas.List.Elements.{All-push}
-use Rattle.cq_real_folder.specs.Record.{IsFileName}
+use Rattle.cq_real_folder.proofs.ReadLemmas.{record_is_text}
 use Rattle.cq_real_folder.proofs.record.Record.of_lines.Goals as goal
 
-pub loop-name-preserved : goal.loop-name-preserved
-loop-name-preserved c =
-    let P : String Global → Type 0 = λ name. IsFileName (string_bytes name) in
-    subst (All P) (sym {A = List (String Global)} c.in_ok-push.ensures.items)
-    (All-push P c.loop-name.names.items c.in_ok-from_str.field-0 c.loop-name.invariant
-    (subst IsFileName (sym c.in_ok-from_str.ensures.ok) (c.is_file_name.ensures.0 c.if-not-is_file_name.false)))
+pub returns-in_default-clause-only : goal.returns-in_default-clause-only
+returns-in_default-clause-only c process names lawful spelled =
+    c.in_default.ensures.cases.0 (record_is_text process names lawful.number c.args.text.now spelled)

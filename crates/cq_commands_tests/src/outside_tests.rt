@@ -1,0 +1,127 @@
+//! No command is in its folder while it reads its input, or writes its output.
+use crate::command_tests::order_of;
+use crate::steps::{Step, said_by};
+use crate::streams::said;
+use crate::watched::{WatchedFolder, WatchedInput, WatchedOutput};
+use cq_commands::{Order, run};
+use cq_fixtures::{expect_text, push_missed};
+use cq_folder::{Folder, FolderFault};
+use std::alloc::Global;
+use std::cell::Cell;
+use std::test::Fail;
+
+/// The words of a command, its input, and what it writes.
+type Row = (&'static str, &'static [u8], &'static str);
+
+/// What an order writes over a folder from an input, which both fail while a command is in the folder.
+fn said_outside(
+    alloc: Global,
+    folder: &mut WatchedFolder<'_>,
+    is_entered: &Cell<bool>,
+    order: &Order,
+    left: &[u8],
+) -> Result<String, FolderFault> {
+    let mut input = WatchedInput { left, is_entered };
+    let mut output = WatchedOutput {
+        text: Vec::new(alloc),
+        is_entered,
+    };
+    let done = match order {
+        Order::Race { messages: _ } => return Ok(String::from_str(alloc, "not for one caller")?),
+        _ => run(alloc, order, folder, &mut input, &mut output),
+    };
+    // As the program lets its folder go.
+    folder.end();
+    said(alloc, done, output.text.as_slice())
+}
+
+/// Adds what is said by commands in turn where it is something else than the table wants to a text, with the places.
+fn push_missed_rows(
+    alloc: Global,
+    folder: &mut WatchedFolder<'_>,
+    is_entered: &Cell<bool>,
+    table: &[Row],
+    text: &mut String,
+) -> Result<(), Fail> {
+    for (place, &(words, input, want)) in table.iter().enumerate() {
+        let order = order_of(alloc, words)?;
+        let said = said_outside(alloc, folder, is_entered, &order, input)?;
+        push_missed(alloc, text, place, said.as_str(), want)?;
+    }
+    Ok(())
+}
+
+/// Behind these steps, each command in turn writes what the table wants.
+fn expect_outside(
+    alloc: Global,
+    before: &'static [Step],
+    table: &'static [Row],
+) -> Result<(), Fail> {
+    let is_entered = Cell::new(false);
+    let mut folder = WatchedFolder::new(alloc, &is_entered);
+    said_by(alloc, &mut folder, before)?;
+    folder.end();
+    let mut missed = String::new(alloc);
+    push_missed_rows(alloc, &mut folder, &is_entered, table, &mut missed)?;
+    expect_text(missed, "")
+}
+
+/// Each command that uses a folder.
+static COMMANDS: [Row; 14] = [
+    ("cq|init|D|daily|0|64|8|1|4|reader", b"", ""),
+    ("cq|write|D|0", b"", ""),
+    (
+        "cq|write|D|0",
+        b"a\nb\n",
+        "0000000000000000\n0000000000000001\n",
+    ),
+    ("cq|write|D|86400000", b"c\n", "0000000100000000\n"),
+    (
+        "cq|read|D",
+        b"",
+        "0000000000000000 a\n0000000000000001 b\n0000000100000000 c\n",
+    ),
+    ("cq|take|D|reader", b"", "0000000000000000 a\n"),
+    ("cq|drop|D|1", b"", "1\n"),
+    ("cq|take|D|reader", b"", "0000000100000000 c\n"),
+    ("cq|take|D|reader", b"", "not yet\n"),
+    (
+        "cq|check|D",
+        b"",
+        "19700101.cqi: 2 messages, ended\n19700102.cqi: 1 messages, open\n",
+    ),
+    (
+        "cq|dump|D|19700102.cqi",
+        b"",
+        "00000000 40000024 store 2 1 8 1 64 0 86400000\n00000028 40000020 top 76 0 0 0 0 0 0 0\n\
+0000004c 40000020 table 0 112 0 0 0 0 0 0 0\n00000070 00000001 data 0 63\n",
+    ),
+    ("cq|salvage|D|19700102.cqi", b"", "0 c\nwhole\n"),
+    ("cq|migrate|D", b"", ""),
+    ("cq|init|D|daily|0|64|8|1|4", b"", "cq: queue there already"),
+];
+
+#[test]
+fn no_command_is_inside_while_it_waits(rt: HostRuntime) -> Result<(), Fail> {
+    expect_outside(rt.alloc(), &[], &COMMANDS)
+}
+
+/// A folder of version 1 with an image at fault.
+static OLD: [Step; 2] = [Step::OldQueue(4), Step::Put("19700101.cqi", b"x")];
+
+/// Commands that write, or refuse what they read, over that folder.
+static FAULTY: [Row; 4] = [
+    (
+        "cq|check|D",
+        b"",
+        "19700101.cqi: Cut at 0\ncq: images at fault",
+    ),
+    ("cq|salvage|D|19700101.cqi", b"", "Cut at 0\n"),
+    ("cq|write|D|0", b"a\n", "cq: OldVersion"),
+    ("cq|migrate|D", b"", "cq: 19700101.cqi: Cut at 0"),
+];
+
+#[test]
+fn no_command_is_inside_while_it_tells_of_faults(rt: HostRuntime) -> Result<(), Fail> {
+    expect_outside(rt.alloc(), &OLD, &FAULTY)
+}

@@ -1,0 +1,53 @@
+//! The lock of a folder.
+
+ghost use Rattle.std.specs.Prelude.{◌≡◌, IfOk};
+
+use cq_folder::Access;
+use std::fs::File;
+use std::io;
+
+/// An open folder that is locked, where the system has locks on folders. Once it is dropped, the folder is free.
+#[derive(Drop)]
+pub(super) struct Lock {
+    /// The open folder.
+    folder: File,
+    /// How it is locked.
+    access: Access,
+    /// Whether the system has locks on it.
+    pub is_held: bool,
+}
+
+impl Lock {
+    /// Waits for the lock of an open folder. Where the system, or the file system, has no locks on folders, it is used without.
+    pub fn of(folder: File, access: Access) -> io::Result<Lock>
+        ensures { IfOk result (λ lock. lock.access ≡ access) }
+    {
+        let locked = match access {
+            Access::Alone => folder.lock(),
+            Access::Shared => folder.lock_shared(),
+        };
+        let is_held = match locked {
+            Ok(()) => true,
+            Err(error) if has_no_locks(&error) => false,
+            Err(error) => return Err(error),
+        };
+        Ok(Lock {
+            folder,
+            access,
+            is_held,
+        })
+    }
+
+    /// How it is locked.
+    pub fn access(&self) -> Access
+        ensures { result ≡ self.now.access }
+    {
+        self.access
+    }
+}
+
+/// Whether the error says that the system, or this file system, has no locks on folders: a bad descriptor, an invalid
+/// argument, no locks, no such call, not supported.
+fn has_no_locks(error: &io::Error) -> bool {
+    matches!(error.raw_os_error(), Some(9 | 22 | 37 | 38 | 95))
+}
