@@ -100,6 +100,27 @@ static void messages_are_appended_and_read(void) {
     linnetshelf_destroy(queue);
 }
 
+/* A room that is too small for a message whose cycle was dropped: reads and takes go on, or answer that nothing is there. */
+static void a_small_room_passes_over_what_was_dropped(void) {
+    linnetshelf_handle queue = queue_of("reader\n", 0);
+    char room[1] = {'.'};
+    CHECK(linnetshelf_append(&queue, 0, "hello", 5).status == STATUS(DONE));
+    CHECK(linnetshelf_append(&queue, DAY, "c", 1).index == 1ull << 32);
+    CHECK(linnetshelf_next(&queue, room, 1).status == STATUS(NO_ROOM));
+    CHECK(linnetshelf_to_end(&queue).index == (1ull << 32) + 1);
+    CHECK(linnetshelf_drop_before(&queue, 1).index == 1);
+    CHECK(linnetshelf_to_start(&queue) == STATUS(DONE));
+    CHECK(linnetshelf_read_at(&queue, 0, room, 1).status == STATUS(GONE) && room[0] == '.');
+    CHECK(is_message(linnetshelf_next(&queue, room, 1), 1ull << 32, room, "c"));
+    room[0] = '.';
+    CHECK(is_message(linnetshelf_take(&queue, "reader", 6, room, 1), 1ull << 32, room, "c"));
+    CHECK(linnetshelf_direction(&queue, LINNETSHELF_BACKWARDS) == STATUS(DONE));
+    CHECK(linnetshelf_next(&queue, room, 0).length == 1);
+    CHECK(is_message(linnetshelf_next(&queue, room, 1), 1ull << 32, room, "c"));
+    CHECK(linnetshelf_next(&queue, room, 1).status == STATUS(BEFORE_START));
+    linnetshelf_destroy(queue);
+}
+
 static void a_cycle_gets_full(void) {
     linnetshelf_settings tiny = SMALL;
     tiny.cells = 64;
@@ -344,6 +365,7 @@ static void statuses_have_texts(void) {
 int main(void) {
     settings_are_tested();
     messages_are_appended_and_read();
+    a_small_room_passes_over_what_was_dropped();
     a_cycle_gets_full();
     messages_are_put_in_parts();
     names_take();

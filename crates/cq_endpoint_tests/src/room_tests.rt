@@ -13,7 +13,7 @@ struct Rooms {
     answers: &'static str,
 }
 
-static ROOMS: [Rooms; 4] = [
+static ROOMS: [Rooms; 6] = [
     // Rooms that are too small, of the very length, and longer, both ways. Where there was no room, it reads the same again.
     Rooms {
         steps: &[
@@ -71,6 +71,53 @@ NoRoom 4 [...]; 2 4 [four...]; NoRoom 2 [.]; (2, 3); 1 2 [ab]; 0 5 [hello....]; 
         ],
         answers: "0; 4294967296; 4294967297; 1; start; 4294967296 1 [cello..]; NotYet [.......]; turned; 4294967296 1 [c]; \
 BeforeStart [hello.]; ",
+    },
+    // A room that is too small for a message whose cycle was dropped: reads go on, or answer that nothing is there.
+    Rooms {
+        steps: &[
+            Step::Plain(Call::Append(0, "hello")),
+            Step::Plain(Call::Append(DAY, "c")),
+            Step::ReadAtInto(0, 1),
+            Step::NextInto(1),
+            Step::TakeInto("reader", 1),
+            Step::Plain(Call::ToEnd),
+            Step::Plain(Call::DropBefore(1)),
+            Step::Plain(Call::ToStart),
+            Step::NextInto(0),
+            Step::NextInto(1),
+            Step::TakeInto("reader", 0),
+            Step::Plain(Call::Position("reader")),
+            Step::TakeInto("reader", 1),
+            Step::Plain(Call::Position("reader")),
+            Step::ReadAtInto(0, 1),
+            Step::ReadAtInto(4294967296, 0),
+            Step::Plain(Call::Turn(Direction::Backwards)),
+            Step::NextInto(0),
+            Step::NextInto(1),
+            Step::NextInto(1),
+            Step::Plain(Call::Stands),
+        ],
+        answers: "0; 4294967296; NoRoom 5 [.]; NoRoom 5 [.]; NoRoom 5 [.]; 4294967297; 1; start; NoRoom 1 []; \
+4294967296 1 [c]; NoRoom 1 []; 0; 4294967296 1 [c]; 4294967297; Gone [.]; NoRoom 1 []; turned; NoRoom 1 []; \
+4294967296 1 [c]; BeforeStart [.]; (4294967296, 4294967297); ",
+    },
+    // Backwards into rooms after a read backwards that takes memory, on into a cycle over which no read has walked yet.
+    Rooms {
+        steps: &[
+            Step::Plain(Call::Append(0, "a")),
+            Step::Plain(Call::Append(0, "ab")),
+            Step::Plain(Call::Append(DAY, "c")),
+            Step::Plain(Call::Append(DAY, "cd")),
+            Step::Plain(Call::ToEnd),
+            Step::Plain(Call::Turn(Direction::Backwards)),
+            Step::Plain(Call::Next),
+            Step::NextInto(2),
+            Step::NextInto(2),
+            Step::NextInto(2),
+            Step::NextInto(2),
+        ],
+        answers: "0; 1; 4294967296; 4294967297; 4294967298; turned; 4294967297 cd; 4294967296 1 [c.]; 1 2 [ab]; 0 1 [a.]; \
+BeforeStart [..]; ",
     },
     // Where there is no room, the name stays.
     Rooms {

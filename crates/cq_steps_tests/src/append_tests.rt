@@ -1,6 +1,6 @@
 //! Appenders that are lost between any two steps of an append.
 use crate::queues::{
-    Call, Lost, Measures, Outcome, assert_none, push_missed_lost, layout_of, steps_to_stand,
+    Call, Lost, Measures, Outcome, assert_none, layout_of, push_missed_lost, steps_to_stand,
 };
 use cq_chain::message_length;
 use cq_layout::store_size;

@@ -7,7 +7,8 @@ ghost use Rattle.cq_words.specs.Values.{IsOf};
 use crate::looking::look;
 use crate::publishing::publish;
 use crate::queues::{
-    Call, Measures, append_first, assert_none, lose, new_queue, push_left, layout_of, steps_to_stand,
+    Call, Measures, append_first, assert_none, layout_of, lose, new_queue, push_left,
+    steps_to_stand,
 };
 use crate::reading::{load_first, tell};
 use crate::steps::Steps;

@@ -1,7 +1,5 @@
-use Rattle.std.proofs.Common.{◌≡◌, ap, subst, sym, ◌∙◌}
-use Rattle.cq_layout.specs.Layout.{CycleLayout, shape_of}
-use Rattle.cq_chain.specs.Walk.{Walk}
-use Rattle.cq_shown.specs.Plans.{settings_in}
+use Rattle.std.proofs.Common.{ap, subst, ◌∙◌}
+use Rattle.cq_layout.specs.Layout.{CycleLayout}
 use Rattle.cq_words.specs.Claims.{HasPlace}
 use Rattle.cq_words.specs.Words.{mark_of}
 use Rattle.cq_model.specs.Settings.{Settings}
