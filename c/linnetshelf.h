@@ -1,7 +1,8 @@
 /* Linnetshelf: the core of a message queue without a broker, for C and for whatever calls as C does.
  *
  * One append-only journal in memory, cut into cycles of time, is shared by as many endpoints as its callers want. An endpoint
- * appends and reads, and belongs to one thread at a time. No call waits for another endpoint, and none takes a lock.
+ * appends and reads, and belongs to one thread at a time. No call waits for another endpoint. The library has no locks; a call that
+ * allocates calls malloc, which may have one.
  *
  *     #include "linnetshelf.h"
  *     #include <stdio.h>
@@ -36,11 +37,21 @@
  *
  * TIME. A moment is in milliseconds of Unix time. The library asks nobody for the time: the caller says it.
  *
- * MEMORY. It comes from malloc, and goes back by free, when the last endpoint of a queue is destroyed. A call that got none
- * answers OUT_OF_MEMORY. Appends and reads take none.
+ * MEMORY. It comes from malloc, and goes back by free: that of a queue when its last endpoint is destroyed, that of an endpoint or
+ * of what was saved when its handle is. A call that got none answers OUT_OF_MEMORY. Appends and reads take none.
  *
- * ANSWERS. The words in capitals below are statuses, without the LINNETSHELF_ in front; DONE and WRONG_KIND come from every call
- * on a handle.
+ * BUSY. Another endpoint has begun a message and has not completed it or given it up. Its thread may have been suspended inside its
+ * append, and cannot go on while others use its processor. So do not spin: yield (sched_yield) or sleep before the next try. A
+ * reader that polls for messages does the same at NOT_YET. Nothing promises that a given try succeeds.
+ *
+ * WHAT AN ENDPOINT HAS SEEN. linnetshelf_drop_before and linnetshelf_seek go up to the end that their endpoint has seen, and answer
+ * NOT_SEEN above it. Reads, takes, moves and positions show the end as far as their answers go; linnetshelf_to_end shows all of it.
+ * A call that answers NO_ROOM shows nothing. What an endpoint appended counts once it read that, or met another endpoint. A new
+ * endpoint of linnetshelf_split has seen the end at which the queue was created or opened. What its parent appended, read or
+ * learned by linnetshelf_meet does not count for it.
+ *
+ * ANSWERS. The words in capitals below are statuses, without the LINNETSHELF_ in front. Each call that answers a status can answer
+ * DONE. Each one on a handle, other than as `out`, can also answer WRONG_KIND. linnetshelf_destroy answers nothing.
  */
 #ifndef LINNETSHELF_H
 #define LINNETSHELF_H
@@ -130,13 +141,14 @@ uint32_t linnetshelf_create(const linnetshelf_settings *settings, const void *na
                             linnetshelf_handle *out);
 
 /* Hands out another endpoint of the same queue, which may go to another thread. It has begun no message, and reads forwards from
- * the start. OUT_OF_MEMORY. */
+ * the start. It has seen the end at which the queue was created or opened, and nothing that its parent has seen since.
+ * OUT_OF_MEMORY. */
 uint32_t linnetshelf_split(linnetshelf_handle *endpoint, linnetshelf_handle *out);
 
 /* Lets two endpoints of one queue meet: afterwards each has seen what the other had, so that one may drop cycles or move names up
  * to the end that the other was told. Both read on where they are. A message that one has begun stays begun, and what that one saw
- * as it appended is not brought along then. Both have to be of one queue, as endpoints are of which one was split off the other, and nothing tells where they are not; and they are two
- * handles and not the same one. */
+ * as it appended is not brought along then. Both have to be of one queue, as endpoints are of which one was split off the other:
+ * nothing tells where they are not. They are two handles, and not the same one. */
 uint32_t linnetshelf_meet(linnetshelf_handle *endpoint, linnetshelf_handle *other);
 
 /* Ends what a handle holds. The last endpoint of a queue frees it. An endpoint that has begun a message is to complete it or give
@@ -147,7 +159,7 @@ void linnetshelf_destroy(linnetshelf_handle handle);
 
 /* Appends a message of 1 to 2^30 - 1 bytes in the cycle of `moment`, or in the current cycle where that is a later one, and tells
  * its index. A cycle that is to come begins first.
- * BUSY (another endpoint is writing: call again), WRITING, BAD_ROOM, BAD_MOMENT, CYCLE_FULL, NO_CYCLE_LEFT. */
+ * BUSY (another endpoint is writing: yield or sleep, then call again), WRITING, BAD_ROOM, BAD_MOMENT, CYCLE_FULL, NO_CYCLE_LEFT. */
 linnetshelf_answer linnetshelf_append(linnetshelf_handle *endpoint, uint64_t moment, const void *bytes, size_t length);
 
 /* Begins a message of at most `room` bytes, which is put in parts. Until it is completed or given up, others that want to write
@@ -170,11 +182,13 @@ linnetshelf_answer linnetshelf_advance(linnetshelf_handle *endpoint, uint64_t mo
 /* Reading. */
 
 /* Reads the next message in the endpoint's direction into `room`, tells its index and length, and goes behind it, or backwards
- * before it. NOT_YET (forwards), BEFORE_START (backwards), NO_ROOM: it stays where it is then. Where a call reads or takes nothing,
- * it may have written to `room` all the same. */
+ * before it. NOT_YET (forwards), BEFORE_START (backwards), NO_ROOM: it stays where it is then. At NO_ROOM the message was not read:
+ * nothing is recorded, the endpoint has not seen it, and the next call finds it again, unless its cycle is dropped. Where a call
+ * reads or takes nothing, it may have written to `room` all the same. */
 linnetshelf_answer linnetshelf_next(linnetshelf_handle *endpoint, void *room, size_t size);
 
-/* Reads the message with this index into `room`, tells its length, and stays where it is. NOT_YET, NEVER, GONE, NO_ROOM. */
+/* Reads the message with this index into `room`, tells its length, and stays where it is. NOT_YET, NEVER, GONE, NO_ROOM (it was not
+ * read, as above). */
 linnetshelf_answer linnetshelf_read_at(linnetshelf_handle *endpoint, uint64_t index, void *room, size_t size);
 
 /* Turns the endpoint: LINNETSHELF_FORWARDS or LINNETSHELF_BACKWARDS. BAD_DIRECTION. */
@@ -193,14 +207,14 @@ linnetshelf_answer linnetshelf_to_end(linnetshelf_handle *endpoint);
 linnetshelf_answer linnetshelf_cursor(linnetshelf_handle *endpoint);
 
 /* Drops the cycles before this one: reads and takes of everybody pass over them from now on. Tells the first cycle that they look
- * at. No memory is freed. NOT_SEEN: the cycle is behind the end that this endpoint has seen as it read or moved; linnetshelf_to_end
- * sees it. */
+ * at. No memory is freed. NOT_SEEN: the cycle is above that of the end which this endpoint has seen; linnetshelf_to_end sees it. */
 linnetshelf_answer linnetshelf_drop_before(linnetshelf_handle *endpoint, uint32_t cycle);
 
 /* Names. */
 
 /* Takes the next message of a name into `room`: of all that take by this name one alone gets it. Tells its index and length.
- * NO_SUCH_NAME, NOT_YET, NO_ROOM, MOVED (another endpoint was faster: `index` is where the name stands now). */
+ * NO_SUCH_NAME, NOT_YET, NO_ROOM (nothing was taken, and the name stays), MOVED (another endpoint was faster: `index` is where the
+ * name was found then). */
 linnetshelf_answer linnetshelf_take(linnetshelf_handle *endpoint, const void *name, size_t length, void *room, size_t size);
 
 /* Tells where a name stands: the message that is taken next has this index or a later one. NO_SUCH_NAME. */
@@ -214,7 +228,7 @@ linnetshelf_answer linnetshelf_seek(linnetshelf_handle *endpoint, const void *na
 
 /* Stops the queue of its last endpoint. The handle holds what is saved from then on: an image of each cycle, a position for each
  * name, and the floor. A message that is begun is given up. IN_USE: other endpoints live, and nothing changed. OUT_OF_MEMORY: the
- * queue is stopped; call again to read it. */
+ * queue is stopped; call again to read it. Until then any other call on the handle but linnetshelf_destroy is WRONG_KIND. */
 uint32_t linnetshelf_stop(linnetshelf_handle *handle);
 
 /* Tells how many cycles are saved, as `index`. */
@@ -240,7 +254,8 @@ linnetshelf_answer linnetshelf_saved_floor(linnetshelf_handle *saved);
 uint32_t linnetshelf_saved_new(const linnetshelf_settings *settings, const void *names, size_t length, linnetshelf_handle *out);
 
 /* Adds a cycle behind the others, from its image. Nothing changed where it is refused. BEHIND_OPEN; CUT to OVER_SHAPE: the bytes
- * are no image of this cycle and these settings, and `index` is where, in bytes; OUT_OF_MEMORY. */
+ * are no image of this cycle and these settings, and `index` is where, in bytes; OUT_OF_MEMORY. An image whose store record is of
+ * version 1 is WRONG_STORE at 0: `cq migrate` makes version 2 of the files of a folder. */
 linnetshelf_answer linnetshelf_saved_add(linnetshelf_handle *saved, uint32_t cycle, const void *bytes, size_t length);
 
 /* Places the `k`th name, from 0. NO_SUCH_PLACE. */
