@@ -1,4 +1,9 @@
 //! Settings and messages for the tests.
+ghost use Rattle.std.specs.Prelude.{◌≡◌, IfOk};
+ghost use Rattle.cq_layout.specs.Layout.{layout_in};
+ghost use Rattle.cq_layout.specs.Shape.{measures};
+ghost use Rattle.cq_layout.specs.declared.store_record.StoreVersion.TheVariants.{First};
+
 use cq_layout::{BadShape, Layout, Shape, StoreVersion};
 use cq_model::{Config, Items, Message};
 use std::alloc::{AllocError, Global};
@@ -28,8 +33,11 @@ pub fn push_message(message: &[u8], behind: &str, text: &mut String) -> Result<(
 }
 
 /// The layout of cycles of 64 cells, with 8 entries and spacing 1, and a store record of version 1.
-pub fn layout_64() -> Result<Layout, BadShape> {
-    Ok(Layout::new(Shape::new(64, 8, 1)?, StoreVersion::First))
+pub fn layout_64() -> Result<Layout, BadShape>
+    ensures { IfOk result (λ layout. layout ≡ layout_in First (measures 64 8 1)) }
+{
+    let shape = Shape::new(64, 8, 1)?;
+    Ok(Layout::new(shape, StoreVersion::First))
 }
 
 /// Settings as text: the roll and the epoch, the number of cycles and their layout, and the names.
