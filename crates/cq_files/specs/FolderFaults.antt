@@ -61,6 +61,10 @@ abbrev pub EndsWronglyAt : List CycleImage → ℕ → CycleImage → Type 0
 EndsWronglyAt images k image = ((image.ended ≡ false) × (k + 1 < length images))
     ⊎ ((image.ended ≡ true) × (k + 1 ≡ length images))
 
+-- there is a `queue.cqc` among the files
+abbrev pub HoldsConfig : Files → Type 0
+HoldsConfig files = IsSome (files (codes "queue.cqc"))
+
 -- the files' configuration has these settings
 pub record HasSettings (files : Files) (settings : Settings) : Type 0 where
   pub positions : List ℕ
@@ -117,14 +121,14 @@ pub record EndsWrongly (files : Files) (file : List ℕ) : Type 0 where
   pub lawful : AllByRecursion (IsLawfulImage queue.saved.config) queue.images.items
   pub first : EndsWronglyIn queue.images.items file
 
--- what the files have to do with a fault that they are said to have; of a fault of the device, and of want of memory,
--- they say nothing
+-- what the files have to do with a fault that they are reported to have; of a fault of the device that lists them, and of
+-- memory that is out, they say nothing; a file that the device does not read is one of a folder with a `queue.cqc`
 abbrev pub HasCause : Files → ToolFault → Type 0
 HasCause files OutOfMemory = ⊤
 HasCause files FolderFault = ⊤
-HasCause files (FileFault file) = ⊤
+HasCause files (FileFault file) = HoldsConfig files
 HasCause files (FileTooLarge file) = IsSomeAnd (files (string_bytes file)) (λ bytes. MOST_FILE_BYTES < length bytes)
-HasCause files NoQueueHere = ¬ IsSome (files (codes "queue.cqc"))
+HasCause files NoQueueHere = ¬ HoldsConfig files
 HasCause files (ConfigLine number) = RefusesConfig files (config.Line number)
 HasCause files BadShape = RefusesConfig files config.BadShape
 HasCause files BadConfig = RefusesConfig files config.BadConfig

@@ -5,7 +5,7 @@ ghost use Rattle.std.specs.List.{list_any};
 ghost use Rattle.std.specs.Str.{bytes_eq};
 ghost use Rattle.cq_model.specs.Settings.{texts};
 ghost use Rattle.cq_folder.specs.Folder.{KeepsFiles, KeepsOrWrites, ListsFiles, WritesFile, WritesFiles, named_file};
-ghost use Rattle.cq_files.specs.FolderFaults.{HasCause, IsFileFault, IsListFault, IsSaveFault, TellsFile};
+ghost use Rattle.cq_files.specs.FolderFaults.{HasCause, HoldsConfig, IsFileFault, IsListFault, IsSaveFault, TellsFile};
 ghost use Rattle.cq_files.specs.Saved.{first_file};
 ghost use Rattle.std.specs.Io.KnownBytes.{Appends};
 ghost use Rattle.cq_text.specs.Faults.{IsDeviceFault};
@@ -76,7 +76,7 @@ pub(crate) fn read_file<F: Folder>(
     ensures held { IfOk result (λ bytes. IfSome (F.files folder.old) (λ files. files name.now ≡ Some bytes.items)) }
     ensures small { IfOk result (λ bytes. length bytes.items ≤ MOST_FILE_BYTES) }
     ensures fault { IfErr result (IsFileFault name.now) }
-    ensures cause { IfErr result (λ fault. IfSome (F.files folder.old) (λ files. HasCause files fault)) }
+    ensures cause { IfErr result (λ fault. IfSome (F.files folder.old) (λ files. HoldsConfig files → HasCause files fault)) }
     ensures kept { KeepsFiles (F.files folder.old) (F.files folder.new) }
     ensures counted { CountsFaults (F.failed folder.old) (F.failed folder.new) result }
     ensures inside { F.entered folder.new ≡ F.entered folder.old }
