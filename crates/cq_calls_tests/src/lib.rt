@@ -4,6 +4,8 @@
 #![tactic(auto)]
 
 #[cfg(test)]
+mod allocating_tests;
+#[cfg(test)]
 mod backwards_tests;
 #[cfg(test)]
 mod cycle_tests;

@@ -1,0 +1,77 @@
+//! Reads into a buffer, after a read backwards that allocated memory for the places of messages. They allocate nothing:
+//! `docs/refused_memory.py rooms` counts the growths of memory of both tests, which have to be as many.
+
+ghost use Rattle.std.specs.Prelude.{◌≡◌, None};
+ghost use Rattle.cq_words.specs.Values.{IsOf};
+
+use cq_append::Appender;
+use cq_fixtures::config_of;
+use cq_layout::Shape;
+use cq_tail::{Direction, Found, FoundInto, Tailer};
+use cq_words::{Caller, Queue};
+use std::alloc::Global;
+use std::test::Fail;
+
+/// How many messages are appended.
+const MESSAGES: u32 = 1300;
+
+/// Appends the messages. Returns how many were appended before one was refused.
+fn append_all(queue: &Queue, appender: &mut Appender) -> u32
+    requires { IsOf queue.now appender.old }
+{
+    for number in 0..MESSAGES {
+        if appender.append(queue, 0, &number.to_be_bytes()).is_err() {
+            return number;
+        }
+    }
+    MESSAGES
+}
+
+/// Reads up to `most` messages into a buffer. Returns how many it read.
+fn read_into_a_room(queue: &Queue, tailer: &mut Tailer, most: u32) -> u32
+    requires { IsOf queue.now tailer.old.caller }
+{
+    let mut room = [0; 4];
+    for count in 0..most {
+        let FoundInto::Message(_index, _len) = tailer.next_into(queue, &mut room) else {
+            return count;
+        };
+    }
+    most
+}
+
+/// How many messages were appended, whether the last of them was read, and how many before it were read into a buffer.
+fn reads_text(alloc: Global, queue: &Queue, mut caller: Caller, most: u32) -> Result<String, Fail>
+    requires of { IsOf queue.now caller }
+    requires claim { caller.view.claim ≡ None }
+{
+    let mut appender = Appender::new(queue.split(&mut caller));
+    let mut tailer = Tailer::new(caller);
+    let appended = append_all(queue, &mut appender);
+    tailer.to_end(queue);
+    tailer.direction(Direction::Backwards);
+    let is_read = matches!(tailer.next(alloc, queue)?, Found::Message(_, _));
+    let read = read_into_a_room(queue, &mut tailer, most);
+    Ok(format!(in alloc; "{appended} {is_read} {read}")?)
+}
+
+/// The same of a new queue, whose index has an entry for one message in 256.
+fn new_queue_text(alloc: Global, most: u32) -> Result<String, Fail> {
+    let config = config_of(alloc, Shape::new(16384, 256, 256)?, 1)?;
+    let (queue, caller) = Queue::create(alloc, config, 0)?;
+    reads_text(alloc, &queue, caller, most)
+}
+
+#[test]
+fn a_message_is_read_into_a_room_after_a_read_backwards(rt: HostRuntime) -> Result<(), Fail> {
+    let text = new_queue_text(rt.alloc(), 1)?;
+    assert_eq!(rt; text.as_str(), "1300 true 1");
+    Ok(())
+}
+
+#[test]
+fn all_messages_are_read_into_a_room_after_a_read_backwards(rt: HostRuntime) -> Result<(), Fail> {
+    let text = new_queue_text(rt.alloc(), MESSAGES)?;
+    assert_eq!(rt; text.as_str(), "1300 true 1299");
+    Ok(())
+}
