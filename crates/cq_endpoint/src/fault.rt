@@ -4,7 +4,7 @@ use cq_layout::Refusal;
 /// Why nothing was appended or begun, and no cycle reached.
 #[derive(Clone, Copy, Debug, PartialEq, Eq, thiserror::Error)]
 pub enum AppendFault {
-    /// The endpoint has begun a message, which is to be completed or given up first.
+    /// The endpoint has begun a message, which has to be completed or rolled back first.
     #[error("Writing")]
     Writing,
     /// Its appender was refused.
@@ -18,7 +18,7 @@ pub enum PutFault {
     /// The endpoint has begun no message.
     #[error("NotWriting")]
     NotWriting,
-    /// The bytes would be more than the room of the message.
+    /// The bytes would be more than the size for which the message was begun.
     #[error("NoRoom")]
     NoRoom,
 }
@@ -39,15 +39,15 @@ pub enum CompleteFault {
 #[error("NotWriting")]
 pub struct NotWriting;
 
-/// A position or a cycle lies behind the end that the endpoint has seen.
+/// A position or a cycle is above the end that the endpoint has seen.
 #[derive(Clone, Copy, Debug, PartialEq, Eq, thiserror::Error)]
 #[error("NotSeen")]
 pub struct NotSeen;
 
-/// Why a name was not asked to move.
+/// Why no move of a name was tried.
 #[derive(Clone, Copy, Debug, PartialEq, Eq, thiserror::Error)]
 pub enum SeekFault {
-    /// The new position lies behind the end that the endpoint has seen.
+    /// The new position is above the end that the endpoint has seen.
     #[error("NotSeen")]
     NotSeen,
     /// The queue declares no tailer of this name.

@@ -1,9 +1,22 @@
-//! Endpoints of a queue: each shares its queue with the others, and has an appender and a tailer of it. So a call on an
-//! endpoint asks nothing of who calls, but that two that meet are of one queue, and the last endpoint that is dropped frees it.
+//! Endpoints of a queue. An `Endpoint` shares its queue with other endpoints, and has an appender and a tailer of it in
+//! one value. It may be moved to a thread; split off another one for each thread. Dropping the last endpoint frees the
+//! queue.
 //!
-//! An endpoint may be moved to a thread, and another one is split off for each thread. No call waits for another endpoint.
-//! `specs/Endpoints.antt` says what an endpoint is, `specs/Works.antt` what the calls that append answer, `specs/Faults.antt`
-//! which calls are refused, and `specs/Stops.antt` what is left of a queue. What reads answer is said in `cq_tail`.
+//! | item | what it is for |
+//! |---|---|
+//! | `Endpoint` | `create` or `open` makes the first one, `split` another one; it appends, reads, takes and stops |
+//! | `AppendFault`, `PutFault`, `CompleteFault`, `NotWriting` | why nothing was appended, put, completed or rolled back |
+//! | `Found`, `At`, `FoundInto`, `AtInto`, `Direction` | what reads return, and which way they go (`cq_tail`) |
+//! | `Take`, `TakeInto`, `TakeFault`, `Sought`, `NoSuchName`, `SeekFault` | what takes and moves of a name return |
+//! | `NotSeen` | why no cycle was dropped |
+//!
+//! No call waits for another endpoint. Calls have no preconditions, except that `meet` takes two endpoints of one queue.
+//! What a call says is said by the definitions of `cq_append` and `cq_tail`, and nothing else of the endpoint changes.
+//! Those crates also name the atomic steps.
+//!
+//! Contracts: `specs/Endpoints.antt` says what an endpoint is, `specs/Works.antt` what the calls that append return,
+//! `specs/Faults.antt` which calls are refused, `specs/Meetings.antt` what endpoints have seen that met, and
+//! `specs/Stops.antt` what is left of a queue.
 #![tactic(auto)]
 
 mod appending;

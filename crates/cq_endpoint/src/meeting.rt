@@ -1,4 +1,4 @@
-//! Endpoints of one queue meet.
+//! Endpoints of one queue share what they have seen.
 ghost use Rattle.std.specs.Prelude.{◌≡◌};
 ghost use Rattle.cq_endpoint.specs.Meetings.{EndpointsMet, Exchanges};
 ghost use Rattle.cq_words.specs.Values.{IsOf};
@@ -7,10 +7,15 @@ use crate::endpoint::Endpoint;
 use cq_words::Caller;
 
 impl Endpoint {
-    /// Afterwards the tailers of both endpoints, and those of the appenders that have begun no message, have seen one history that
-    /// begins with what each of these had seen, and an end that is at least what each had seen. An appender that has begun a
-    /// message takes no part: it stays as it was, and what it had seen is not brought along. It is no call, and never refused. Both
-    /// are of one queue, as one is that was split off the other.
+    /// Lets two endpoints share what they have seen. Afterwards both tailers, and those of the appenders that have begun
+    /// no message, have seen one history. It begins with what each of these had seen, and its end is at least the end
+    /// that each had seen. So one may drop cycles or move names up to the end that the other has seen.
+    ///
+    /// An appender that has begun a message takes no part: it stays as it was, and what it had seen is not shared. The
+    /// tailers stay where they are. No event is added, and it is never refused. What each knew of index entries and write
+    /// positions it still knows, so what it published stays published.
+    ///
+    /// Precondition: both are of one queue, as two endpoints are of which one was split off the other.
     pub fn meet(&mut self, other: &mut Endpoint)
         requires { other.old.queue ≡ self.old.queue }
         ensures { EndpointsMet self.old other.old self.new other.new }
@@ -22,7 +27,7 @@ impl Endpoint {
         other.exchange(&mut note);
     }
 
-    /// Its appender, where that has begun no message, and its tailer meet a note, one after the other.
+    /// Its appender, if that has begun no message, and its tailer meet a note, one after the other.
     fn exchange(&mut self, note: &mut Caller)
         requires { IsOf self.old.queue note.old }
         ensures of { IsOf self.old.queue note.new }

@@ -10,10 +10,11 @@ use cq_tail::{NoSuchName, Sought, Take, TakeFault};
 use std::alloc::Global;
 
 impl Endpoint {
-    /// The position of a name that the queue declares: the next message that is taken by this name has this index or a
+    /// Returns the position of a name that the queue declares: the next message taken by this name has this index or a
     /// later one.
     ///
-    /// Answers `NoSuchName` where the queue declares no such name; nothing changed then.
+    /// Errors:
+    /// - `NoSuchName`: the queue declares no such name. Nothing changed.
     pub fn position(&mut self, name: &str) -> Result<u64, NoSuchName>
         ensures ok { IfOk result (λ p. TellsPosition self.old.queue self.old.tailer self.new.tailer name.now p) }
         ensures err { OnErr result (NameFails self.old.queue self.old.tailer self.new.tailer name.now) }
@@ -22,11 +23,15 @@ impl Endpoint {
         self.tailer.position(&self.queue, name)
     }
 
-    /// Moves a name that the queue declares from position `from` to position `to`. Where the name stands elsewhere, it is not
-    /// moved, and its position is the answer.
+    /// Moves a name that the queue declares from position `from` to position `to`.
     ///
-    /// Answers `NotSeen` where `to` lies behind the end that its tailer has seen, else `NoSuchName` where the queue declares no
-    /// such name; nothing changed then.
+    /// - `Done`: the name was at `from`, and has moved.
+    /// - `Moved`: the name is at this other position, and was not moved.
+    ///
+    /// Errors, in the order in which they come; nothing changed after either:
+    /// - `NotSeen`: `to` is above the end that its tailer has seen. It comes exactly then. What its appender has seen
+    ///   counts only once the tailer has seen it, as by `to_end` or `meet`.
+    /// - `NoSuchName`: the queue declares no such name.
     pub fn seek(&mut self, name: &str, from: u64, to: u64) -> Result<Sought, SeekFault>
         ensures ok { IfOk result (λ sought.
             Seeks self.old.queue self.old.tailer self.new.tailer name.now from to sought) }
@@ -44,13 +49,16 @@ impl Endpoint {
         }
     }
 
-    /// Takes the message with the least index at or after the position of a name that the queue declares, in a cycle that is
-    /// not dropped: reads it, and moves the name behind it. Where no message has come there, it answers `NotYet`, and the name
-    /// stays. Where another caller has moved the name meanwhile, it takes nothing and answers `Moved`, with the position that
-    /// it found.
+    /// Takes a message by a name that the queue declares: reads the message with the least index at or after the position
+    /// of the name, in a cycle that is not dropped, and moves the name after it.
     ///
-    /// Answers `NoSuchName` where the queue declares no such name; nothing changed then. Answers `OutOfMemory` where
-    /// there was no memory for a copy of the message; it made no call then.
+    /// - `Taken`: the message and its index. The name is after it.
+    /// - `NotYet`: no message has come there. The name stays.
+    /// - `Moved`: another caller has moved the name since. Nothing was taken; this is the position at which it was found.
+    ///
+    /// Errors:
+    /// - `NoSuchName`: the queue declares no such name. Nothing changed.
+    /// - `OutOfMemory`: out of memory, for the copy of the message. No event was added.
     pub fn take(&mut self, alloc: Global, name: &str) -> Result<Take, TakeFault>
         ensures ok { IfOk result (λ take. Takes self.old.queue self.old.tailer self.new.tailer name.now take) }
         ensures err { IfErr result (λ fault.

@@ -7,10 +7,11 @@ use cq_shown::Stopped;
 use std::sync::Arc;
 
 impl Endpoint {
-    /// Stops the queue, and answers its words, from which `cq_shown::recover` makes its contents. A message that is begun is
-    /// given up.
+    /// Stops the queue, and returns its words, from which `cq_shown::recover` makes its contents. They show the state of
+    /// a legal history that begins with what the appender and the tailer of this endpoint had seen, after which a message
+    /// that is begun is given up.
     ///
-    /// Answers the endpoint as it was where others of the queue live.
+    /// If other endpoints of the queue are alive, the error is this endpoint, unchanged.
     pub fn stop(self) -> Result<Stopped, Endpoint>
         ensures { MatchResult result (λ stopped. StopsQueue self stopped) (λ e. e ≡ self) }
     {
