@@ -27,7 +27,8 @@ impl Endpoint {
         other.exchange(&mut note);
     }
 
-    /// Its appender, if that has begun no message, and its tailer meet a note, one after the other.
+    /// Its appender, if that has begun no message, and its tailer meet a note, one after the other. A note is a caller that
+    /// carries what was seen.
     fn exchange(&mut self, note: &mut Caller)
         requires { IsOf self.old.queue note.old }
         ensures of { IsOf self.old.queue note.new }
