@@ -67,7 +67,8 @@ fn append_again(queue: &Queue, appender: &mut Appender, bytes: &[u8]) -> Result<
     Err(BenchFault::Refused(Refusal::Busy))
 }
 
-/// Appends a message so many times.
+/// Appends a message `count` times: at least that many more of the caller's calls are answered with an
+/// index, or it fails.
 pub fn append_all(
     queue: &Queue,
     appender: &mut Appender,

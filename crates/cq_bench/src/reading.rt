@@ -188,7 +188,8 @@ fn read_all_into(
     Ok(())
 }
 
-/// Reads so many messages. Where the next one has not come it looks again, so many times for each.
+/// Reads so many messages. Where the next one has not come it looks again, so many times for each. At
+/// least `count` more of the caller's calls are answered with a message, or it fails.
 pub fn read_all(
     target: &mut Target,
     queue: &Queue,

@@ -1,4 +1,8 @@
 //! How the types of a shared queue are called: a caller of each, proved, and run by a test. `docs/CALLING.md` shows them.
+//!
+//! Their contracts say that a borrowed caller, and one that is given back, is one of the queue that
+//! was passed in. One that comes with a queue is one of that queue, and has begun no message. What
+//! they say of messages is in no contract.
 #![tactic(auto)]
 
 mod copying;

@@ -50,6 +50,10 @@ impl From<AllocError> for ParseFault {
 /// The order in the words of a command line, of which the first is the program's name.
 ///
 /// Answers `NotUnderstood` where the words are no order, and where they ask for help, and `OutOfMemory` where a growth was refused.
+///
+/// An order is the command that the words name, with the values that they give it, in `clap`'s own
+/// terms. The words of `echo` are that order, or memory is out. That other words are understood
+/// where they should be is in no contract.
 pub fn parse(alloc: Global, words: &[String]) -> Result<Order, ParseFault>
     // An order is the command that the words name.
     ensures named { IfOk result (λ order.

@@ -24,6 +24,7 @@ pub enum NameFault {
 /// The name of a cycle: the civil date and time in UTC of its start, `epoch + cycle * length`, cut to the day, the hour
 /// or the minute (Chronicle Queue's documentation; that it is UTC is this project's profile). `epoch` is in milliseconds of
 /// Unix time, and the cycle is one that `has_cycle` tells a queue may have.
+/// Which civil date a day number has is the definition of `jiff`'s calendar.
 ///
 /// Answers `AllocError` where no memory is left for the name.
 pub fn name_of(alloc: Global, roll: Roll, epoch: u64, cycle: u32) -> Result<String, AllocError>

@@ -20,6 +20,9 @@ use std::alloc::Global;
 /// The first of these faults is answered: `BadConfig` where the word names no roll, `FolderFault`, `QueueThereAlready`,
 /// `BadShape`, `BadConfig`, `FileFault`. `OutOfMemory` can come at any growth, and leaves every file as it was. After a
 /// `FileFault` the queue is made whole, or every file is as it was.
+///
+/// Where it is done, the folder had no queue, and no other file changed. Nothing changes where
+/// there is a queue.
 pub fn init<F: Folder>(
     alloc: Global,
     folder: &mut F,

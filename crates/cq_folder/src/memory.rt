@@ -5,6 +5,7 @@ use std::alloc::{AllocError, Global};
 use std::collections::BTreeMap;
 
 /// A folder in memory. It fails for want of memory, and where a file is read that it does not hold.
+/// Contracts see its files.
 #[derive(Drop)]
 pub struct MemoryFolder {
     alloc: Global,

@@ -39,6 +39,7 @@ impl<T: Drop> From<AllocFailed<T>> for FolderFault {
 
 /// The fault of a call on a folder that met this error of the system: `OutOfMemory` where a growth was refused, else
 /// `Device`. `failures` counts how often a call answered `Device`, this one too, up to 2^64 - 1, where the count stays.
+/// Nothing else is counted, and it is never `TooLarge`.
 pub fn fault_of(failures: &mut u64, error: &io::Error) -> FolderFault
     ensures fits { result ≢ FolderFault.TooLarge }
     ensures memory { (result ≡ FolderFault.OutOfMemory) ↔ (error_kind error.now ≡ ErrorKind.OutOfMemory) }
@@ -91,6 +92,7 @@ pub trait Folder {
 
     /// Begins a command: waits until it may come in, and stays in until `end`, or until the folder is dropped or begins
     /// again. A save that was cut short counts as done; whoever is alone does what is left of it.
+    /// After a fault no command is in the folder.
     fn begin(&mut self, alloc: Global, access: Access) -> Result<(), FolderFault>
         ensures inside { OnOk result (entered self.new ≡ Some access) }
         ensures outside { OnErr result (entered self.new ≡ None) }

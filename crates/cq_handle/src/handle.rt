@@ -8,6 +8,7 @@ use std::alloc::{AllocError, Global};
 use std::marker::Model;
 
 /// Something that the library holds, of which C sees no more than its address. One that is dropped keeps its memory.
+/// It owns what a box of the same owns: what it was made of is what it lends and gives back.
 #[repr(C)]
 #[derive(Drop)]
 pub struct Handle {

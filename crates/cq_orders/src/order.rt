@@ -86,7 +86,8 @@ pub enum Order {
 }
 
 impl Order {
-    /// The path of the folder that the order is for; `None` where it is for no folder.
+    /// The path of the folder that the order is for; `None` for `echo`, `cycle` and `race`, which
+    /// are for no folder.
     pub fn folder(&self) -> Option<&str>
         ensures { option_map (λ path. path.now) result ≡ folder_of self.now }
     {

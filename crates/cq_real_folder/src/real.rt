@@ -15,6 +15,9 @@ use std::rt::Files;
 
 /// A folder of the system. What its files hold is not known to any contract.
 ///
+/// A command is in it, shared or alone, exactly as long as it keeps open the folder that it entered
+/// with that access. Which lock the system was asked for, and what that does, is tested.
+///
 /// It is locked as a whole, where the system has locks: whoever is alone waits for all others, and the system frees the
 /// lock of a process that ends.
 ///
@@ -22,6 +25,11 @@ use std::rt::Files;
 /// the file, with a dot, the number of the process and `.part` behind it. Then it takes the file's place. Where several
 /// files are saved, the record `queue.save` stands while their parts take their places: from the moment that it stands
 /// they are saved.
+///
+/// A command that comes in alone under a lock removes the parts that are left. It takes a file for
+/// a part exactly where its name is `FILE.NUMBER.part`: FILE is `queue.save` or a file that a
+/// record can name, and NUMBER is below 2^32, in decimal without leading zeros. That it removes
+/// these and no others is tested.
 #[derive(Drop)]
 pub struct RealFolder<'a, R: Files<File = File> + AllocGlobal + Clone + Drop> {
     rt: &'a R,

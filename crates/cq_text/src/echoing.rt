@@ -29,6 +29,10 @@ const MOST_BYTES: usize = 129_000;
 ///
 /// `OutOfMemory` can come at any growth. Nothing is written before a fault other than `WriteFault`, and before that one
 /// a beginning of the text.
+///
+/// Which line or length is refused, and how, is a function of the input. `WriteFault` comes only
+/// for an input that is accepted. Contracts speak of bytes where the reader and the writer are in
+/// memory.
 pub fn echo<R: Read, W: Write>(
     alloc: Global,
     input: &mut R,

@@ -17,6 +17,9 @@ const BUFFER_BYTES: usize = 4096;
 /// The reader is read to its end also where it has more than that: then the answer is `InputTooLong`, and the bytes past
 /// the limit take no memory. `ReadFault` is answered at the first error but an interruption, and where the reader was
 /// read `MOST_READS` times without an end.
+///
+/// Contracts speak of bytes where the reader is in memory. It is at its end where its bytes are
+/// answered, and `InputTooLong` comes only where it had more than `most` bytes.
 pub fn read_input<R: Read>(alloc: Global, input: &mut R, most: usize) -> Result<Vec<u8>, ToolFault>
     ensures bytes { IfOk result (λ bytes. Consumes (R.remaining input.old) (R.remaining input.new) bytes.items) }
     ensures whole { IfOk result (λ _. IsAtEnd (R.remaining input.new)) }

@@ -24,6 +24,9 @@ pub const NOT_UNDERSTOOD: u8 = 2;
 
 /// Does what the words of a command line ask for, as the process with this number, over the folder that they name and the
 /// standard streams. Says in `errors` what is wrong, and gives the exit status.
+///
+/// That a fault of a command gives status 1 is proved, on a private function. How words, folder,
+/// streams and statuses come together is only tested.
 pub fn status<R, E>(rt: &R, errors: &E, words: io::Result<Vec<String>>, process: u32) -> u8
 where
     R: AllocGlobal + Files<File = File> + Input + Print + Threads + Sync + Clone + Drop,

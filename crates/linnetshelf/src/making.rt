@@ -14,7 +14,8 @@ use cq_shown::CreateError;
 use std::alloc::Global;
 
 /// Hands out the first endpoint of a new queue, whose first cycle is that of `moment`, in milliseconds of Unix time. The names
-/// are a text with a line for each.
+/// are a text with a line for each. `BadSettings` comes only where no such queue can be, or a name
+/// is no text.
 #[unsafe(no_mangle)]
 pub extern "C" fn linnetshelf_create(
     alloc: Global,

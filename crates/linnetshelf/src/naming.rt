@@ -1,4 +1,5 @@
-//! Names, their positions, and takes. A name is the bytes of a text; others are no name of a queue.
+//! Names, their positions, and takes. A name is the bytes of a text; others are no name of a queue,
+//! and nothing changes then.
 ghost use Rattle.std.specs.Prelude.{◌≡◌};
 ghost use Rattle.cq_endpoint.specs.Endpoints.{ChangesTailer};
 ghost use Rattle.linnetshelf.specs.Answers.{Tells, plain, position_answer, seek_answer};

@@ -58,6 +58,7 @@ fn recover(alloc: Global, stopped: Stopped) -> (Held, Status)
 }
 
 /// Hands out a queue of no cycle, with each name at 0 and the floor 0, to which what was saved is added.
+/// `BadSettings` comes only where no such queue can be, or a name is no text.
 #[unsafe(no_mangle)]
 pub extern "C" fn linnetshelf_saved_new(
     alloc: Global,
