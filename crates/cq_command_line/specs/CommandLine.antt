@@ -31,9 +31,11 @@ word_of (Race messages) = codes "race"
 abbrev pub word_rule : List ℕ → Rule
 word_rule name = record (new_rule name) { required = true; action = Some Set }
 
+-- a number below 2^64
 abbrev pub number_rule : List ℕ → Rule
 number_rule name = record (word_rule name) { parser = Some (Unsigned 0 (2 ^ 64 - 1)) }
 
+-- a number between two others
 abbrev pub between_rule : List ℕ → ℕ → ℕ → Rule
 between_rule name low high = record (word_rule name) { parser = Some (Unsigned low high) }
 
@@ -45,6 +47,7 @@ words_rule name = record (new_rule name) { action = Some Append }
 abbrev pub flag_rule : List ℕ → Rule
 flag_rule name = record (new_rule name) { long = Some name; action = Some SetTrue }
 
+-- an option with one word as its value
 abbrev pub option_rule : List ℕ → Rule
 option_rule name = record (new_rule name) { long = Some name; action = Some Set; value_names = 1 }
 
@@ -65,6 +68,7 @@ with_arguments app arguments = fold (λ before argument. with_rule before (rule_
 abbrev pub bare_command : Description → App
 bare_command description = new_app description.name.now
 
+-- the command with its arguments
 abbrev pub command_for : Description → App
 command_for description = with_arguments (bare_command description) description.arguments.now
 
@@ -77,44 +81,56 @@ with_commands app (first ∷ rest) = with_commands (with_subcommand app (command
 abbrev pub program : App
 program = let app = new_app (codes "cq") in record { top = record app.top { subcommand_required = true }; subs = app.subs }
 
+-- the command `echo`, without arguments
 abbrev pub echo_command : App
 echo_command = new_app (codes "echo")
 
+-- the command `cycle`
 abbrev pub cycle_command : App
 cycle_command =
     with_rule (with_rule (with_rule (new_app (codes "cycle")) (word_rule (codes "ROLL"))) (number_rule (codes "EPOCH"))) (number_rule (codes "MOMENT"))
 
+-- the command `race`: 1 to 1000 messages
 abbrev pub race_command : App
 race_command = with_rule (new_app (codes "race")) (between_rule (codes "MESSAGES") 1 1000)
 
+-- the command `init`
 abbrev pub init_command : App
 init_command =
     with_rule (with_rule (with_rule (with_rule (with_rule (with_rule (with_rule (with_rule (new_app (codes "init"))
     (word_rule (codes "DIR"))) (word_rule (codes "ROLL"))) (number_rule (codes "EPOCH"))) (number_rule (codes "CELLS"))) (number_rule (codes "COUNT")))
     (number_rule (codes "SPACING"))) (number_rule (codes "CYCLES"))) (words_rule (codes "NAMES"))
 
+-- the command `write`
 abbrev pub write_command : App
 write_command = with_rule (with_rule (new_app (codes "write")) (word_rule (codes "DIR"))) (number_rule (codes "MOMENT"))
 
+-- the command `read`
 abbrev pub read_command : App
 read_command =
     with_rule (with_rule (with_rule (new_app (codes "read")) (word_rule (codes "DIR"))) (flag_rule (codes "back"))) (option_rule (codes "from"))
 
+-- the command `take`
 abbrev pub take_command : App
 take_command = with_rule (with_rule (new_app (codes "take")) (word_rule (codes "DIR"))) (word_rule (codes "NAME"))
 
+-- the command `drop`
 abbrev pub drop_command : App
 drop_command = with_rule (with_rule (new_app (codes "drop")) (word_rule (codes "DIR"))) (number_rule (codes "CYCLE"))
 
+-- the command `check`
 abbrev pub check_command : App
 check_command = with_rule (new_app (codes "check")) (word_rule (codes "DIR"))
 
+-- the command `dump`
 abbrev pub dump_command : App
 dump_command = with_rule (with_rule (new_app (codes "dump")) (word_rule (codes "DIR"))) (word_rule (codes "FILE"))
 
+-- the command `salvage`
 abbrev pub salvage_command : App
 salvage_command = with_rule (with_rule (new_app (codes "salvage")) (word_rule (codes "DIR"))) (word_rule (codes "FILE"))
 
+-- the command `migrate`
 abbrev pub migrate_command : App
 migrate_command = with_rule (new_app (codes "migrate")) (word_rule (codes "DIR"))
 

@@ -109,18 +109,23 @@ is_name word = nat_lt 0 (length word) && list_all is_name_byte word
 abbrev pub Form : Type 0
 Form = List (List ℕ → Bool)
 
+-- the line of the version
 abbrev pub version_form : Form
 version_form = bytes_eq (codes "cq") ∷ is_version ∷ []
 
+-- the line of the roll
 abbrev pub roll_form : Form
 roll_form = bytes_eq (codes "roll") ∷ is_roll ∷ []
 
+-- the line of a setting that is a number
 abbrev pub setting_form : List ℕ → Form
 setting_form key = bytes_eq key ∷ is_number ∷ []
 
+-- the line of the floor, which is not 0
 abbrev pub floor_form : Form
 floor_form = bytes_eq (codes "floor") ∷ is_positive ∷ []
 
+-- the line of a name with its position
 abbrev pub name_form : Form
 name_form = bytes_eq (codes "name") ∷ is_name ∷ is_number ∷ []
 
