@@ -40,6 +40,10 @@ impl Record {
 
     /// The record whose text this is, which names a file at least; `None` where there is none. Takes memory for the names, and for the
     /// text once more. Answers `AllocError` where there is not so much.
+    ///
+    /// Each record of a save is read back from its text, whatever its process and however many files it
+    /// names, or memory is out. A record is read only where the text is its own, and it names only files
+    /// of a queue, in no other folder.
     pub fn read(alloc: Global, text: &[u8]) -> Result<Option<Record>, AllocError>
         ensures form { IfOk result (λ read. IfSome read (λ found. text.now ≡ record_text found.process found.names.items)) }
         ensures some { IfOk result (λ read. IfSome read (λ found. 0 < vec_len found.names)) }
