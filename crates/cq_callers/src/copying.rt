@@ -3,9 +3,8 @@ ghost use Rattle.std.specs.Prelude.{◌≡◌, IfOk, None};
 ghost use Rattle.cq_words.specs.Values.{IsOf};
 
 use cq_model::{Config, Contents, Items};
-use cq_shown::CreateError;
 use cq_tail::Tailer;
-use cq_words::{Caller, Queue};
+use cq_words::{Caller, CreateError, Queue};
 use std::alloc::Global;
 
 /// Opens a new queue with all messages that a queue holds at one moment, while others go on to append to that. Each name stands at

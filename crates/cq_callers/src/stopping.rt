@@ -3,8 +3,8 @@ ghost use Rattle.std.specs.Prelude.{◌≡◌, IfOk, None};
 ghost use Rattle.cq_words.specs.Values.{IsOf};
 
 use cq_model::Config;
-use cq_shown::{CreateError, recover};
-use cq_words::{Caller, Queue};
+use cq_shown::recover;
+use cq_words::{Caller, CreateError, Queue};
 use std::alloc::Global;
 
 /// Stops a queue, and opens a new one with all messages and positions that it held. The other callers have ended.

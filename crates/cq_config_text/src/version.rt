@@ -1,7 +1,6 @@
 //! The version of a folder, as the first line of `queue.cqc` tells it.
 
 ghost use Rattle.std.specs.Prelude.{◌≡◌, IfSome, Some};
-ghost use Rattle.cq_layout.specs.StoreRecord.{store_cells};
 ghost use Rattle.cq_config_text.specs.Version.{store_in, version_of, version_word};
 ghost use Rattle.cq_config_text.specs.declared.version.FolderVersion.{FolderVersion};
 
