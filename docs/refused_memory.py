@@ -1,5 +1,5 @@
 #!/usr/bin/env python3
-"""Refuses each growth of memory in turn: docs/refused_memory.py [tests CRATE..], of cq's commands, or of the tests of these crates.
+"""Refuses each growth of memory in turn: docs/refused_memory.py [tests CRATE.. | buffers], of cq's commands, or of tests.
 
 For each command below and each k, from 1 until nothing is refused any more, the command is run on a copy of its folder with the
 k-th growth refused. It has to answer `cq: want of memory` with status 1, print nothing and leave the folder as it was, or to
@@ -13,6 +13,10 @@ name that the refused call gives it, or to pass, within a minute. Where it compa
 wanted, the first other one has to say so: no answer before it changed, and none came in its place. A test of folders of the
 system says so too where a save that found no memory leaves renames to the next command, which does them. A test that says
 anything else, hangs or dies of another signal is wrong. Left out are the tests of THREADS below.
+
+With the word buffers, nothing is refused, and growths are counted: two tests of cq_calls_tests make the same calls, except that
+after a read backwards one reads a single message into a buffer, and the other 1,299 of them. Reads into a buffer allocate
+nothing, so both have to grow memory equally often.
 
 A library in front of the C library's malloc, calloc, realloc and aligned_alloc refuses; it is compiled by cc. CQ names the
 program; where it is not set, it is crates/cq/out/cq, which the launcher ./cq builds. The status is 0 where all is as said.
@@ -30,6 +34,7 @@ SHIM = r"""
 #define _GNU_SOURCE
 #include <errno.h>
 #include <fcntl.h>
+#include <stdio.h>
 #include <stdlib.h>
 #include <unistd.h>
 
@@ -42,11 +47,17 @@ static int refuse(void) {
         const char *word = getenv("REFUSED_GROWTH");
         refused = word ? atol(word) : 0;
     }
-    if (refused == 0 || __sync_add_and_fetch(&count, 1) != refused) return 0;
+    if (__sync_add_and_fetch(&count, 1) != refused) return 0;
     int file = open(getenv("REFUSED_MARK"), O_CREAT | O_WRONLY, 0600);
     if (file >= 0) close(file);
     errno = ENOMEM;
     return 1;
+}
+
+__attribute__((destructor)) static void report(void) {
+    const char *name = getenv("GROWTHS");
+    int file = name ? open(name, O_CREAT | O_WRONLY | O_TRUNC, 0600) : -1;
+    if (file >= 0) dprintf(file, "%ld", count);
 }
 
 void *malloc(size_t n) { return refuse() ? NULL : __libc_malloc(n); }
@@ -115,6 +126,12 @@ WANT = b"cq: want of memory\n"
 
 # Threads of these ask for memory as their schedule has it, and say of a call without memory that it gave no message.
 THREADS = ["filling_tests", "growing_tests", "many_tests", "parts_tests", "sharing_tests", "thread_tests"]
+
+# The tests that read one message into a buffer, and all of them.
+BUFFERS = [
+    "allocating_tests::a_message_is_read_into_a_room_after_a_read_backwards",
+    "allocating_tests::all_messages_are_read_into_a_room_after_a_read_backwards",
+]
 
 # How a test ends that failed, or whose comparison did, and how its text names want of memory.
 FAILED, STOPPED = 101, -6
@@ -254,6 +271,24 @@ def try_tests(crates, shim, room):
     return not failed
 
 
+def growths_of(program, shim, room, test):
+    """How often a test grows memory."""
+    counted = os.path.join(room, "growths")
+    end, said = run_test(program, test, room, {"LD_PRELOAD": shim, "GROWTHS": counted})
+    assert end == "passed", said
+    with open(counted, encoding="utf-8") as file:
+        return int(file.read())
+
+
+def try_buffers(shim, room):
+    """Whether reads into a buffer grow no memory."""
+    program = os.path.join(HERE, "crates/cq_calls_tests/out/cq_calls_tests_tests")
+    one, all_of_them = (growths_of(program, shim, room, test) for test in BUFFERS)
+    wrong = int(one != all_of_them or one == 0)
+    print(f"1 read into a buffer: {one} growths, 1299 reads: {all_of_them} growths, {wrong} wrong")
+    return wrong == 0
+
+
 def try_commands(shim, room):
     """Whether each growth of the commands may be refused."""
     program = os.environ.get("CQ", os.path.join(HERE, "crates/cq/out/cq"))
@@ -270,7 +305,7 @@ def try_commands(shim, room):
 
 
 def main(words):
-    if words and (words[0] != "tests" or len(words) == 1):
+    if words and words != ["buffers"] and (words[0] != "tests" or len(words) == 1):
         print(__doc__.split("\n", 1)[0], file=sys.stderr)
         return 2
     with tempfile.TemporaryDirectory() as room:
@@ -278,7 +313,10 @@ def main(words):
         with open(source, "w", encoding="utf-8") as file:
             file.write(SHIM)
         subprocess.run(["cc", "-O1", "-shared", "-fPIC", "-o", shim, source], check=True)
-        is_well = try_tests(words[1:], shim, room) if words else try_commands(shim, room)
+        if words == ["buffers"]:
+            is_well = try_buffers(shim, room)
+        else:
+            is_well = try_tests(words[1:], shim, room) if words else try_commands(shim, room)
     return 0 if is_well else 1
 
 
