@@ -1,4 +1,5 @@
-//! How the types of a shared queue are called: a caller of each, proved, and run by a test. `docs/CALLING.md` shows them.
+//! How the types of a shared queue are called: a caller of each, proved, and run by a test. The README, `docs/GUIDE.md` and
+//! `docs/CALLING.md` show them.
 //!
 //! Their contracts say that a borrowed caller, and one that is given back, is one of the queue that
 //! was passed in. One that comes with a queue is one of that queue, and has begun no message. What
@@ -11,8 +12,10 @@ mod endpoints;
 mod reading;
 mod rooms;
 mod sharing;
+mod starting;
 mod stopping;
 mod taking;
+mod threading;
 mod writing;
 
 pub use copying::copied;
@@ -21,6 +24,8 @@ pub use endpoints::sent;
 pub use reading::next_message;
 pub use rooms::read_in;
 pub use sharing::append_beside;
+pub use starting::start;
 pub use stopping::reopened;
 pub use taking::take_next;
+pub use threading::work_in_threads;
 pub use writing::{append_then_read, append_written};

@@ -1,4 +1,4 @@
-//! Runs each caller of `docs/CALLING.md` once.
+//! Runs each caller of `cq_callers` once.
 
 ghost use Rattle.std.specs.Prelude.{◌≡◌, None};
 ghost use Rattle.cq_words.specs.Values.{IsOf};
@@ -6,10 +6,10 @@ ghost use Rattle.cq_words.specs.Values.{IsOf};
 use cq_append::Appender;
 use cq_callers::{
     append_beside, append_then_read, append_written, copied, drop_old, next_message, read_in,
-    reopened, sent, take_next,
+    reopened, sent, start, take_next, work_in_threads,
 };
 use cq_cycle::Index;
-use cq_endpoint::Endpoint;
+use cq_endpoint::{Endpoint, Found};
 use cq_fixtures::{DAY, expect, expect_row, expect_text, message_text, small_config};
 use cq_model::Message;
 use cq_tail::Tailer;
@@ -25,6 +25,20 @@ fn answer_text(alloc: Global, answer: Option<(Index, Message)>) -> Result<String
         Some((index, message)) => message_text(alloc, index, &message),
         None => Ok(String::from_str(alloc, "none")?),
     }
+}
+
+/// What was read, as text.
+fn found_text(alloc: Global, found: Found) -> Result<String, Fail> {
+    match found {
+        Found::Message(index, message) => message_text(alloc, index, &message),
+        Found::NotYet | Found::BeforeStart => Ok(String::from_str(alloc, "none")?),
+    }
+}
+
+#[test]
+fn a_first_message_is_read(rt: HostRuntime) -> Result<(), Fail> {
+    let alloc = rt.alloc();
+    expect_text(found_text(alloc, start(alloc, 0)?)?, "0 hello")
 }
 
 #[test]
@@ -74,6 +88,19 @@ fn read_in_rooms(alloc: Global, sizes: &[usize]) -> Result<String, Fail> {
 #[test]
 fn a_message_is_read_into_a_room(rt: HostRuntime) -> Result<(), Fail> {
     expect_text(read_in_rooms(rt.alloc(), &[4, 8])?, "none hello")
+}
+
+/// Whether two threads append and read, with an endpoint of a new queue each.
+fn worked_in_threads<R: Threads + Sync>(rt: &R, alloc: Global) -> Result<(bool, bool), Fail> {
+    let mut one = Endpoint::create(alloc, small_config(alloc, 4)?, 0)?;
+    let two = one.split()?;
+    Ok(work_in_threads(rt, alloc, one, two, 0))
+}
+
+#[test]
+fn endpoints_work_in_threads(rt: HostRuntime) -> Result<(), Fail> {
+    let (one, two) = worked_in_threads(&rt, rt.alloc())?;
+    expect(one && two, "both threads append and read")
 }
 
 /// What two threads and a caller that puts bytes make of a queue: whether each thread appended, and the index that comes then.
