@@ -2,7 +2,7 @@
 """Runs the examples of the documents: docs/run_examples.py [PROGRAM].
 
 PROGRAM is the program cq: crates/cq/out/cq, which the launcher ./cq builds, where none is given. The documents are README.md,
-docs/CLI.md and docs/GUIDE.md. The word at the start of a fenced block says what is done with it:
+docs/CLI.md, docs/GUIDE.md and docs/CALLING.md. The word at the start of a fenced block says what is done with it:
 
 console  A line that begins with `$ ` is a command, and the lines up to the next one are what it prints, on standard output and
          standard error together. The blocks of a document are run in order in one new folder, where `./cq` is the program.
@@ -22,7 +22,7 @@ import sys
 import tempfile
 
 TOP = pathlib.Path(__file__).resolve().parent.parent
-DOCUMENTS = ["README.md", "docs/CLI.md", "docs/GUIDE.md"]
+DOCUMENTS = ["README.md", "docs/CLI.md", "docs/GUIDE.md", "docs/CALLING.md"]
 SOURCES = {"rust": "crates/cq_callers/src/*.rt", "c": "c/example.c"}
 
 
