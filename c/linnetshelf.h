@@ -83,7 +83,7 @@ typedef enum {
     LINNETSHELF_NO_ROOM = 6, /* the buffer is too small; the answer has the length that is needed */
     LINNETSHELF_MOVED = 7, /* the name is elsewhere and was not moved; the answer has its position */
     LINNETSHELF_BUSY = 8, /* another endpoint is writing */
-    LINNETSHELF_CYCLE_FULL = 9, /* a message of this length does not fit after those of the current cycle */
+    LINNETSHELF_CYCLE_FULL = 9, /* the message does not fit after those of the current cycle, or the index of that cycle is full */
     LINNETSHELF_NO_CYCLE_LEFT = 10, /* the moment lies in a later cycle, and the queue has as many cycles as it may have */
     LINNETSHELF_BAD_ROOM = 11, /* no message has this length, which is 0 or above 2^30 - 1 bytes */
     LINNETSHELF_BAD_MOMENT = 12, /* the moment lies in no cycle */
