@@ -46,9 +46,9 @@
  *
  * TIME. A moment is in milliseconds of Unix time. The library reads no clock: the caller passes the time.
  *
- * MEMORY. It comes from malloc and goes back by free. The memory of a queue goes back when its last endpoint is destroyed, that
- * of an endpoint or of what was saved when its handle is. A call that got none returns OUT_OF_MEMORY. Appends and reads
- * allocate nothing.
+ * MEMORY. It comes from malloc and goes back by free. The memory of a queue goes back when its last endpoint is destroyed or
+ * linnetshelf_stop returns DONE, that of an endpoint or of what was saved when its handle is destroyed. A call that got none
+ * returns OUT_OF_MEMORY. Appends and reads allocate nothing.
  *
  * BUSY. Another endpoint has begun a message, and has neither completed it nor given it up. Its thread may have been suspended
  * inside its append, and cannot go on while others use its processor. So do not spin: yield (sched_yield) or sleep before the
@@ -172,9 +172,9 @@ void linnetshelf_destroy(linnetshelf_handle handle);
  * NO_CYCLE_LEFT. */
 linnetshelf_answer linnetshelf_append(linnetshelf_handle *endpoint, uint64_t moment, const void *bytes, size_t length);
 
-/* Begins a message of at most `room` bytes, which is put in parts. Until it is completed or given up, others that want to write
+/* Begins a message of at most `most` bytes, which is put in parts. Until it is completed or given up, others that want to write
  * are BUSY. Refused as linnetshelf_append is. */
-uint32_t linnetshelf_begin(linnetshelf_handle *endpoint, uint64_t moment, uint32_t room);
+uint32_t linnetshelf_begin(linnetshelf_handle *endpoint, uint64_t moment, uint32_t most);
 
 /* Puts bytes after those that were put. NOT_WRITING, PAST_ROOM: nothing is put then. */
 uint32_t linnetshelf_put(linnetshelf_handle *endpoint, const void *bytes, size_t length);
