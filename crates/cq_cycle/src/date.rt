@@ -1,4 +1,4 @@
-//! Civil dates: their day numbers, and their texts in names.
+//! Civil dates: their day numbers, and how names write them.
 
 ghost use Rattle.std.specs.Prelude.{◌≡◌, ◌<◌, ◌≤◌, ◌++◌, ℕ, List, OnOk, IfSome, IsSomeAnd, Some, string_bytes};
 
@@ -23,7 +23,7 @@ pub(crate) struct WrittenDate {
 impl WrittenDate {
     ghost use Rattle.cq_cycle.specs.Name.{IsDateOf, date_text};
 
-    /// The date with this day number, counted from 1970-01-01.
+    /// Returns the date with this day number, counted from 1970-01-01.
     pub(crate) fn of_day(number: u64) -> WrittenDate
         requires { number ≤ LAST_DAY }
         ensures { IsDateOf number result.year result.month result.day }
@@ -36,7 +36,7 @@ impl WrittenDate {
         }
     }
 
-    /// The day number of the date, if the calendar has it and it is not before 1970.
+    /// Returns the day number of the date if the calendar has it and it is not before 1970.
     pub(crate) fn day_number(self) -> Option<u64>
         ensures bound { IfSome result (λ number. number ≤ LAST_DAY) }
         ensures found { IfSome result (λ number. IsDateOf number self.year self.month self.day) }
@@ -58,7 +58,7 @@ impl WrittenDate {
         push_two_digits(text, self.day)
     }
 
-    /// The date that the first eight digits of a text write, and the text behind them.
+    /// Reads the date in the first eight digits of a text. Returns it and the text after them.
     pub(crate) fn take_from(text: &[u8]) -> Option<(WrittenDate, &[u8])>
         ensures found { IfSome result (λ taken.
             text.now ≡ date_text taken.0.year taken.0.month taken.0.day ++ taken.1.now) }

@@ -23,7 +23,7 @@ pub(crate) fn push_four_digits(text: &mut String, number: u16) -> Result<(), All
     push_two_digits(text, (number % 100) as u8)
 }
 
-/// The number that the first two digits of a text write, and the text behind them.
+/// Reads the number in the first two digits of a text. Returns it and the text after them.
 pub(crate) fn take_two_digits(text: &[u8]) -> Option<(u8, &[u8])>
     ensures found { IfSome result (λ taken. (taken.0 < 100) × (text.now ≡ two_digits taken.0 ++ taken.1.now)) }
     ensures only { (number : ℕ) (rest : List ℕ) → number < 100 → text.now ≡ two_digits number ++ rest
@@ -38,7 +38,7 @@ pub(crate) fn take_two_digits(text: &[u8]) -> Option<(u8, &[u8])>
     Some(((tens - b'0') * 10 + (ones - b'0'), rest))
 }
 
-/// The number that the first four digits of a text write, and the text behind them.
+/// Reads the number in the first four digits of a text. Returns it and the text after them.
 pub(crate) fn take_four_digits(text: &[u8]) -> Option<(u16, &[u8])>
     ensures found { IfSome result (λ taken. (taken.0 < 10000) × (text.now ≡ four_digits taken.0 ++ taken.1.now)) }
     ensures only { (number : ℕ) (rest : List ℕ) → number < 10000 → text.now ≡ four_digits number ++ rest

@@ -21,12 +21,13 @@ pub enum NameFault {
     OutOfMemory,
 }
 
-/// The name of a cycle: the civil date and time in UTC of its start, `epoch + cycle * length`, cut to the day, the hour
-/// or the minute (Chronicle Queue's documentation; that it is UTC is this project's profile). `epoch` is in milliseconds of
-/// Unix time, and the cycle is one that `has_cycle` tells a queue may have.
-/// Which civil date a day number has is the definition of `jiff`'s calendar.
+/// Returns the name of a cycle: the civil date and time in UTC of its start, which is `epoch + cycle * length`. The name
+/// is cut to the day, the hour or the minute (Chronicle Queue's documentation; that it is UTC is ours). `jiff`'s
+/// calendar defines which civil date a day number has.
 ///
-/// Answers `AllocError` where no memory is left for the name.
+/// `epoch` is in milliseconds of Unix time, and the cycle is one that a queue may have by `has_cycle`.
+///
+/// Returns `AllocError` when out of memory for the name.
 pub fn name_of(alloc: Global, roll: Roll, epoch: u64, cycle: u32) -> Result<String, AllocError>
     requires { HasCycle roll epoch cycle }
     ensures { IfOk result (λ name. IsName roll epoch cycle (string_bytes name)) }
@@ -38,9 +39,9 @@ pub fn name_of(alloc: Global, roll: Roll, epoch: u64, cycle: u32) -> Result<Stri
     Ok(name)
 }
 
-/// The one cycle with this name. `epoch` is in milliseconds of Unix time.
+/// Returns the one cycle with this name. `epoch` is in milliseconds of Unix time.
 ///
-/// Answers `BadName` where no cycle that a queue may have has the name. It takes no memory, and so never answers
+/// Returns `BadName` if no cycle that a queue may have has the name. It allocates nothing, and so never returns
 /// `OutOfMemory`.
 pub fn cycle_named(roll: Roll, epoch: u64, name: &str) -> Result<u32, NameFault>
     ensures found { IfOk result (λ cycle. HasCycle roll epoch cycle × IsName roll epoch cycle name.now) }
@@ -50,10 +51,10 @@ pub fn cycle_named(roll: Roll, epoch: u64, name: &str) -> Result<u32, NameFault>
     find_cycle(roll, epoch, name.as_bytes()).ok_or(NameFault::BadName)
 }
 
-/// The cycle with this name, if there is one.
+/// Returns the cycle with this name, if there is one.
 ///
-/// A cycle is as long as the time that a name stands for, so at most one cycle begins in that time: the one in which
-/// its last millisecond lies.
+/// A cycle is as long as the time that a name covers. So at most one cycle begins in that time: the one in which its
+/// last millisecond lies.
 fn find_cycle(roll: Roll, epoch: u64, name: &[u8]) -> Option<u32>
     ensures found { IfSome result (λ cycle. HasCycle roll epoch cycle × IsName roll epoch cycle name.now) }
     ensures only { (cycle : ℕ) → HasCycle roll epoch cycle → IsName roll epoch cycle name.now → result ≡ Some cycle }

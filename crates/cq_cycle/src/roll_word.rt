@@ -7,7 +7,8 @@ ghost use Rattle.cq_cycle.specs.RollWord.{roll_word};
 use crate::Roll;
 use std::fmt;
 
-/// The roll that a word names: `daily`, `hourly` or `minutely` (this project's profile). `None` for any other word.
+/// Returns the roll that a word names: `daily`, `hourly` or `minutely` (ours; Chronicle Queue has no rule for it).
+/// Returns `None` for any other word.
 pub fn roll_named(word: &str) -> Option<Roll>
     ensures found { IfSome result (λ roll. word.now ≡ roll_word roll) }
     ensures only { (roll : Roll) → word.now ≡ roll_word roll → result ≡ Some roll }

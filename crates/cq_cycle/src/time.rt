@@ -1,4 +1,4 @@
-//! Times of day, in milliseconds, and their texts in names.
+//! Times of day, in milliseconds, and how names write them.
 
 ghost use Rattle.std.specs.Prelude.{◌≡◌, ◌<◌, ◌≤◌, ◌+◌, ◌*◌, ◌++◌, [], ℕ, List, OnOk, IfSome, IsSomeAnd, Some, string_bytes};
 ghost use Rattle.cq_cycle.specs.Cycle.{length_of};
@@ -33,7 +33,7 @@ fn push_hour(text: &mut String, hour: u8) -> Result<(), AllocError>
     push_two_digits(text, hour)
 }
 
-/// The first of the times of day that are written as this text: those of the day, of an hour or of a minute.
+/// Returns the first of the times of day that are written as this text: those of the day, of an hour or of a minute.
 pub(crate) fn first_time(roll: Roll, text: &[u8]) -> Option<u64>
     ensures fits { IfSome result (λ first. first + length_of roll ≤ MILLIS_PER_DAY) }
     ensures found { IfSome result (λ first. (time : ℕ) → first ≤ time → time < first + length_of roll
@@ -82,7 +82,7 @@ fn start_of_minute(text: &[u8]) -> Option<u64>
     }
 }
 
-/// The hour behind a dash, and the text behind it.
+/// Reads the hour after a dash. Returns it and the text after it.
 fn take_hour(text: &[u8]) -> Option<(u8, &[u8])>
     ensures found { IfSome result (λ taken. (taken.0 < 24) × (text.now ≡ hour_text taken.0 ++ taken.1.now)) }
     ensures only { (hour : ℕ) (rest : List ℕ) → hour < 24 → text.now ≡ hour_text hour ++ rest
