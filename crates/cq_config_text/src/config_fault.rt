@@ -2,21 +2,21 @@ ghost use Rattle.std.specs.Prelude.{◌≡◌};
 
 use std::alloc::{AllocError, AllocFailed};
 
-/// Why the text of `queue.cqc` gives no configuration (this project's profile). The syntax of the whole text comes
-/// before any limit.
+/// Why the text of `queue.cqc` gives no configuration (ours; Chronicle Queue has no rule for it). The syntax of the
+/// whole text is checked before any limit.
 #[derive(Clone, Copy, Debug, PartialEq, Eq, thiserror::Error)]
 pub enum ConfigFault {
-    /// A growth was refused.
+    /// Out of memory: a growth was refused.
     #[error("want of memory")]
     OutOfMemory,
-    /// The line with this number, counted from 1, is the first that is not one whole line of the format in its place.
-    /// Its line feed counts to it; a text that ends too early is reported by the line after its last line feed.
+    /// The line with this number, counted from 1, is the first that is not one whole line of the format in its place. A
+    /// line includes its line feed. A text that ends too early is reported by the line after its last line feed.
     #[error("line {0}")]
     Line(u64),
     /// The cells, the index count or the index spacing is outside the limits of a shape.
     #[error("BadShape")]
     BadShape,
-    /// Another setting or a name is outside the limits of a configuration.
+    /// Another setting, or a name, is outside the limits of a configuration.
     #[error("BadConfig")]
     BadConfig,
 }

@@ -1,4 +1,4 @@
-//! The text of the file `queue.cqc`.
+//! Reads the text of the file `queue.cqc`.
 
 ghost use Rattle.std.specs.Prelude.{◌≡◌, ◌⊎◌, ◌++◌, ◌+◌, ◌<◌, ◌≤◌, ℕ, List, [], IfErr, IfOk, MatchOption, None, OnOk, Ok, Err, Some, option_map};
 ghost use Rattle.cq_model.specs.Settings.{IsLawfulSettings, Settings, texts};
@@ -13,7 +13,7 @@ use cq_cycle::LAST_CYCLE;
 use cq_model::Config;
 use std::alloc::Global;
 
-/// The number of the first line behind those that each text has.
+/// The number of the first line after those that each text has.
 const LINE_BEHIND_HEAD: u64 = 8;
 
 /// What `queue.cqc` keeps: the settings of a queue, the position of each tailer in the order of the names, and the floor.
@@ -21,11 +21,11 @@ const LINE_BEHIND_HEAD: u64 = 8;
 pub struct SavedConfig {
     pub config: Config,
     pub positions: Vec<u64>,
-    /// The first cycle that reads look at.
+    /// The floor: the oldest cycle that reads return.
     pub floor: u32,
 }
 
-/// What a text tells, which may be outside the limits.
+/// What a text says, which may be outside the limits.
 #[derive(Drop)]
 struct ReadText {
     wanted: WantedConfig,
@@ -40,7 +40,7 @@ struct DeclaredNames {
     positions: Vec<u64>,
 }
 
-/// Takes the lines that each text has off one.
+/// Takes the lines that each text has off the front of one.
 fn take_head(text: &[u8]) -> Result<(WantedConfig, &[u8]), ConfigFault>
     ensures writable { IfOk result (λ taken. IsWritable (settings_in taken.0 []) [] 0) }
     ensures found { IfOk result (λ taken. text.now ≡ lines_text (head_lines (settings_in taken.0 [])) ++ taken.1.now) }
@@ -67,7 +67,7 @@ fn take_head(text: &[u8]) -> Result<(WantedConfig, &[u8]), ConfigFault>
     Ok((wanted, rest))
 }
 
-/// Reads the lines of names, the first of which has this number, to the end of a text.
+/// Reads the lines of names to the end of a text. `first` is the number of the first of them.
 fn read_names(alloc: Global, text: &[u8], first: u64) -> Result<DeclaredNames, ConfigFault>
     requires { first ≤ LINE_BEHIND_HEAD + 1 }
     ensures writable { IfOk result (λ read. AreWritableNames (texts read.names.items) read.positions.items) }
@@ -91,7 +91,7 @@ fn read_names(alloc: Global, text: &[u8], first: u64) -> Result<DeclaredNames, C
     Ok(DeclaredNames { names, positions })
 }
 
-/// Reads a whole text, and looks at no limit.
+/// Reads a whole text, and checks no limit.
 fn read_text(alloc: Global, text: &[u8]) -> Result<ReadText, ConfigFault>
     ensures found { IfOk result (λ read. IsTextOf (settings_in read.wanted (texts read.declared.names.items))
         read.declared.positions.items read.floor text.now) }
@@ -108,7 +108,7 @@ fn read_text(alloc: Global, text: &[u8]) -> Result<ReadText, ConfigFault>
     })
 }
 
-/// What was read, if it is within the limits.
+/// Returns what was read, if it is within the limits.
 fn within_limits(read: ReadText) -> Result<SavedConfig, ConfigFault>
     ensures accepted { IfOk result (λ saved. Saves saved (settings_in read.wanted (texts read.declared.names.items))
         read.declared.positions.items read.floor) }
@@ -132,7 +132,7 @@ fn within_limits(read: ReadText) -> Result<SavedConfig, ConfigFault>
     })
 }
 
-/// The floor, if a cycle may have this number.
+/// Returns the floor, if a cycle may have this number.
 fn floor_within(floor: u64) -> Option<u32>
     ensures { MatchOption result (LAST_CYCLE < floor) (λ within. (within ≡ floor) × (floor ≤ LAST_CYCLE)) }
 {
@@ -142,21 +142,30 @@ fn floor_within(floor: u64) -> Option<u32>
     Some(floor as u32)
 }
 
-/// Reads the text of `queue.cqc` (this project's profile). Its lines give, in this order and each ended by a line feed,
-/// the version, the roll, the epoch in milliseconds of Unix time, the cells, index count and index spacing of a
-/// cycle's shape, the number of cycles, the floor where that is not 0, and then each name with its position.
+/// Reads the text of `queue.cqc` (ours; Chronicle Queue has no rule for it). Each line ends with a line feed. The lines
+/// give, in this order:
 ///
-/// Answers `Line(n)` where line n, counted from 1, is the first that is not one whole line of the format in its place.
-/// Answers `BadShape` where the text is one of the format and its measures are outside the limits of a shape, and
-/// `BadConfig` where another setting or a name is outside the limits of a configuration, or the floor above
-/// `LAST_CYCLE`. `OutOfMemory` can come in place of each.
+/// - the version;
+/// - the roll;
+/// - the epoch, in milliseconds of Unix time;
+/// - the cells, the index count and the index spacing of a cycle's shape;
+/// - the number of cycles;
+/// - the floor, if it is not 0;
+/// - each name with its position.
+///
+/// Errors:
+/// - `Line(n)`: line n, counted from 1, is the first that is not one whole line of the format in its place.
+/// - `BadShape`: the text is of the format, and its measures are outside the limits of a shape.
+/// - `BadConfig`: the text is of the format, and another setting or a name is outside the limits of a configuration, or
+/// the floor is above `LAST_CYCLE`.
+/// - `OutOfMemory`: out of memory. It can come in place of each of the others.
 pub fn read_config(alloc: Global, text: &[u8]) -> Result<SavedConfig, ConfigFault>
     ensures found { IfOk result (λ saved. IsTextOf saved.config saved.positions.items saved.floor text.now
         × IsLawfulSettings saved.config) }
     ensures low { IfOk result (λ saved. saved.floor ≤ LAST_CYCLE) }
     ensures refused { IfErr result (λ fault. RefusesText fault text.now) }
 
-    // A text is that of one list of settings and positions and of one floor at most, and then has no faulty line.
+    // A text is that of at most one list of settings and positions and one floor, and then it has no faulty line.
     ensures only { (settings : Settings) (positions : List ℕ) (floor : ℕ) → IsTextOf settings positions floor text.now
         → Judges result settings positions floor }
     ensures faulty { (number : ℕ) → faulty_line text.now ≡ Some number

@@ -1,4 +1,4 @@
-//! Writing the text of the file `queue.cqc`.
+//! Writes the text of the file `queue.cqc`.
 
 ghost use Rattle.std.specs.Prelude.{◌≡◌, ◌≤◌, ◌++◌, ◌∷◌, [], codes, length, IfOk, OnOk, string_bytes};
 ghost use Rattle.std.specs.Fmt.{decimal};
@@ -12,10 +12,12 @@ use cq_model::Config;
 use std::alloc::{AllocError, Global};
 use std::fmt::Write;
 
-/// The text of `queue.cqc` (this project's profile) with these settings, with a position for each name, in the order of
-/// the names, and with this floor. What `read_config` reads of it is these settings, positions and floor again.
+/// Returns the text of `queue.cqc` with these settings, a position for each name in the order of the names, and this
+/// floor (ours; Chronicle Queue has no rule for it). `read_config` reads these settings, positions and floor from it
+/// again.
 ///
-/// Answers `AllocError` where no memory is left for the text.
+/// Errors:
+/// - `AllocError`: out of memory, for the text.
 pub fn write_config(
     alloc: Global,
     config: &Config,
@@ -34,7 +36,7 @@ pub fn write_config(
     Ok(text.into_bytes())
 }
 
-/// The lines that each text has.
+/// Returns the lines that each text has.
 fn head_text(alloc: Global, config: &Config) -> Result<String, AllocError>
     ensures { IfOk result (λ text. string_bytes text ≡ lines_text (head_lines config.now)) }
 {
@@ -55,7 +57,7 @@ fn head_text(alloc: Global, config: &Config) -> Result<String, AllocError>
     Ok(text)
 }
 
-/// The lines that tell the version, the roll and the epoch.
+/// Returns the lines of the version, the roll and the epoch.
 fn first_lines(
     alloc: Global,
     version: FolderVersion,
@@ -78,7 +80,7 @@ fn push_shape(text: &mut String, cells: u32, count: u32, spacing: u32) -> Result
     writeln!(text, "cells {cells}\ncount {count}\nspacing {spacing}")
 }
 
-/// Adds the line of the floor to the text, unless that is 0.
+/// Adds the line of the floor to the text, if the floor is not 0.
 fn push_floor(text: &mut String, floor: u32) -> Result<(), AllocError>
     ensures { OnOk result (string_bytes text.new ≡ string_bytes text.old ++ lines_text (floor_lines floor)) }
 {

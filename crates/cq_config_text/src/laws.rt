@@ -8,7 +8,7 @@ ghost use Rattle.cq_layout.specs.declared.store_record.StoreVersion.TheVariants.
 ghost use Rattle.cq_model.specs.Settings.{IsLawfulSettings, Settings, new_settings, settings_of};
 ghost use Rattle.cq_config_text.specs.ConfigText.{IsTextOf, config_text, faulty_line};
 
-/// The text of a new queue with one tailer, and that of version 1. Neither has a faulty line.
+/// The text of a new queue with one tailer, and the text of version 1. Neither has a faulty line.
 pub fn a_configuration_has_its_text()
     ensures new { config_text (new_settings (measures 64 8 1) 4 Daily 0 (codes "reader" ∷ [])) (0 ∷ []) 0
         ≡ codes "cq 2\nroll daily\nepoch 0\ncells 64\ncount 8\nspacing 1\ncycles 4\nname reader 0\n" }
@@ -20,7 +20,7 @@ pub fn a_configuration_has_its_text()
         (codes "cq 1\nroll daily\nepoch 0\ncells 64\ncount 8\nspacing 1\ncycles 4\nname reader 0\n") ≡ None }
 {}
 
-/// The text of that queue where reads look at the cycles from 20005 on.
+/// The text of that queue if its floor is 20005, the oldest cycle that reads return.
 pub fn a_floor_has_its_line()
     ensures text { config_text (settings_of (layout_in First (measures 64 8 1)) 4 Daily 0 (codes "reader" ∷ [])) (0 ∷ []) 20005
         ≡ codes "cq 1\nroll daily\nepoch 0\ncells 64\ncount 8\nspacing 1\ncycles 4\nfloor 20005\nname reader 0\n" }
@@ -49,7 +49,7 @@ pub fn the_first_faulty_line_is_told()
         (codes "cq 1\nroll daily\nepoch 0\ncells 64\ncount 8\nspacing 1\ncycles 4\nname a 0\nname b 7") ≡ Some 9 }
 {}
 
-/// A text is that of one list of settings and positions and of one floor at most.
+/// A text is that of at most one list of settings and positions and one floor.
 pub fn a_text_says_one_configuration()
     ensures { (one other : Settings) (places positions : List ℕ) (floor start : ℕ) (text : List ℕ)
         → IsTextOf one places floor text → IsTextOf other positions start text
@@ -62,7 +62,7 @@ pub fn a_text_of_settings_has_no_faulty_line()
         → IsTextOf settings positions floor text → faulty_line text ≡ None }
 {}
 
-/// Lawful settings have a text, with any positions, one for each name, and any floor.
+/// Lawful settings have a text, with any floor and any positions, one for each name.
 pub fn lawful_settings_have_a_text()
     ensures { (settings : Settings) (positions : List ℕ) (floor : ℕ) → IsLawfulSettings settings
         → length positions ≡ length settings.names → All (λ position. position < 2 ^ 64) positions → floor < 2 ^ 64

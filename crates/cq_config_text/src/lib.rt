@@ -1,5 +1,14 @@
-//! The text of the file `queue.cqc`, in which the settings of a queue, the positions of its tailers and its floor are kept: it
-//! is read, written, and refused by its first faulty line. No folder is known here.
+//! The text of the file `queue.cqc`. It keeps the settings of a queue, the positions of its tailers, and its floor: the
+//! oldest cycle that reads return. This crate reads and writes the text, and knows no folder.
+//!
+//! | item | what it is for |
+//! |---|---|
+//! | `write_config`, `read_config` | write the text, and read it again |
+//! | `SavedConfig` | what the text keeps |
+//! | `FolderVersion` | the version in its first line |
+//! | `WantedConfig` | settings before their limits are checked |
+//! | `ConfigFault` | why a text gives no configuration: its first faulty line, or a limit |
+//! | `laws` | laws and worked examples of the text |
 #![tactic(auto)]
 
 mod config_fault;

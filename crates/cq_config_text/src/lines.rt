@@ -19,18 +19,18 @@ pub(crate) struct Declared<'a> {
     pub(crate) position: u64,
 }
 
-/// The floor that a text tells at its front, and the text behind that.
+/// The floor at the front of a text, and the text after it.
 #[derive(Clone, Copy)]
 pub(crate) struct Floored<'a> {
-    /// The floor, which is 0 where no line tells it.
+    /// The floor, which is 0 if no line gives it.
     pub(crate) floor: u64,
-    /// What stands behind the line of the floor.
+    /// The text after the line of the floor.
     pub(crate) rest: &'a [u8],
-    /// The number of the first line there.
+    /// The number of the first line in `rest`.
     pub(crate) number: u64,
 }
 
-/// Takes the line with this number, which tells the version, off a text.
+/// Takes the line of the version, which has this number, off the front of a text.
 pub(crate) fn take_version(text: &[u8], number: u64) -> Result<(FolderVersion, &[u8]), ConfigFault>
     ensures found { IfOk result (λ taken. text.now
         ≡ line_of (codes "cq" ∷ version_word taken.0 ∷ []) ++ 10 ∷ taken.1.now) }
@@ -48,7 +48,7 @@ pub(crate) fn take_version(text: &[u8], number: u64) -> Result<(FolderVersion, &
     Ok((version, rest))
 }
 
-/// Takes the line with this number, which tells the roll, off a text.
+/// Takes the line of the roll, which has this number, off the front of a text.
 pub(crate) fn take_roll(text: &[u8], number: u64) -> Result<(Roll, &[u8]), ConfigFault>
     ensures found { IfOk result (λ taken. text.now
         ≡ line_of (codes "roll" ∷ roll_word taken.0 ∷ []) ++ 10 ∷ taken.1.now) }
@@ -66,7 +66,7 @@ pub(crate) fn take_roll(text: &[u8], number: u64) -> Result<(Roll, &[u8]), Confi
     Ok((roll, rest))
 }
 
-/// Takes the line with this number, which sets `key` to a number, off a text.
+/// Takes the line that sets `key` to a number, and has this number, off the front of a text.
 pub(crate) fn take_setting<'a>(
     text: &'a [u8],
     number: u64,
@@ -88,7 +88,7 @@ pub(crate) fn take_setting<'a>(
     Ok((value, rest))
 }
 
-/// Takes the line with this number off a text, if it tells the floor.
+/// Takes the line with this number off the front of a text, if it gives the floor.
 pub(crate) fn take_floor(text: &[u8], number: u64) -> Floored<'_>
     requires { number < 2 ^ 63 }
     ensures found { (result.floor < 2 ^ 64)
@@ -111,7 +111,7 @@ pub(crate) fn take_floor(text: &[u8], number: u64) -> Floored<'_>
     }
 }
 
-/// The floor that the first line of a text tells, and what stands behind that line.
+/// Returns the floor that the first line of a text gives, and the text after that line.
 fn floor_line(text: &[u8]) -> Option<(u64, &[u8])>
     ensures found { IfSome result (λ taken. (0 < taken.0) × (taken.0 < 2 ^ 64)
         × (text.now ≡ line_of (setting_words (codes "floor") taken.0) ++ 10 ∷ taken.1.now)) }
@@ -125,7 +125,7 @@ fn floor_line(text: &[u8]) -> Option<(u64, &[u8])>
     Some((floor, rest))
 }
 
-/// Takes the line with this number, which declares a name, off a text that is not empty.
+/// Takes the line that declares a name, and has this number, off the front of a text that is not empty.
 pub(crate) fn take_name(text: &[u8], number: u64) -> Result<(Declared<'_>, &[u8]), ConfigFault>
     requires { 0 < length text.now }
     ensures found { IfOk result (λ taken. (taken.0.position < 2 ^ 64) × IsNameWord taken.0.name.now
@@ -144,7 +144,7 @@ pub(crate) fn take_name(text: &[u8], number: u64) -> Result<(Declared<'_>, &[u8]
     Ok((declared, rest))
 }
 
-/// The version that a line tells.
+/// Returns the version that a line gives.
 fn version_in(line: &[u8]) -> Option<FolderVersion>
     ensures found { IfSome result (λ version. line.now ≡ line_of (codes "cq" ∷ version_word version ∷ [])) }
     ensures test { is_some result ≡ has_form version_form line.now }
@@ -152,7 +152,7 @@ fn version_in(line: &[u8]) -> Option<FolderVersion>
     version_named(behind_word(line, b"cq")?)
 }
 
-/// The roll that a line tells.
+/// Returns the roll that a line gives.
 fn roll_in(line: &[u8]) -> Option<Roll>
     ensures found { IfSome result (λ roll. line.now ≡ line_of (codes "roll" ∷ roll_word roll ∷ [])) }
     ensures test { is_some result ≡ has_form roll_form line.now }
@@ -160,7 +160,7 @@ fn roll_in(line: &[u8]) -> Option<Roll>
     roll_of(behind_word(line, b"roll")?)
 }
 
-/// The number to which a line sets `key`.
+/// Returns the number to which a line sets `key`.
 fn setting_in(line: &[u8], key: &[u8]) -> Option<u64>
     ensures found { IfSome result (λ value. (value < 2 ^ 64) × (line.now ≡ line_of (setting_words key.now value))) }
     ensures test { is_some result ≡ has_form (setting_form key.now) line.now }
@@ -168,7 +168,7 @@ fn setting_in(line: &[u8], key: &[u8]) -> Option<u64>
     number_of(behind_word(line, key)?)
 }
 
-/// The floor that a line tells.
+/// Returns the floor that a line gives.
 fn floor_in(line: &[u8]) -> Option<u64>
     ensures found { IfSome result (λ floor. (0 < floor) × (floor < 2 ^ 64)
         × (line.now ≡ line_of (setting_words (codes "floor") floor))) }
@@ -177,7 +177,7 @@ fn floor_in(line: &[u8]) -> Option<u64>
     positive_of(behind_word(line, b"floor")?)
 }
 
-/// The name and the position that a line declares.
+/// Returns the name and the position that a line declares.
 fn name_in(line: &[u8]) -> Option<Declared<'_>>
     ensures found { IfSome result (λ declared. (declared.position < 2 ^ 64) × IsNameWord declared.name.now
         × (line.now ≡ line_of (name_words (declared.name.now, declared.position)))) }
@@ -186,7 +186,7 @@ fn name_in(line: &[u8]) -> Option<Declared<'_>>
     declared_in(behind_word(line, b"name")?)
 }
 
-/// The name and the position in the words of a declaration.
+/// Returns the name and the position in the words of a declaration.
 fn declared_in(words: &[u8]) -> Option<Declared<'_>>
     ensures found { IfSome result (λ declared. (declared.position < 2 ^ 64) × IsNameWord declared.name.now
         × (words.now ≡ line_of (declared.name.now ∷ decimal declared.position ∷ []))) }
@@ -198,7 +198,7 @@ fn declared_in(words: &[u8]) -> Option<Declared<'_>>
     Some(Declared { name, position })
 }
 
-/// What stands behind the first word of a line, if that word is `key`.
+/// Returns what follows the first word of a line, if that word is `key`.
 fn behind_word<'a>(line: &'a [u8], key: &[u8]) -> Option<&'a [u8]>
     ensures found { IfSome result (λ rest. line.now ≡ key.now ++ 32 ∷ rest.now) }
     ensures form { IfSome result (λ rest. (tests : Form)

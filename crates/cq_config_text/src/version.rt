@@ -1,4 +1,4 @@
-//! The version of a folder, as the first line of `queue.cqc` tells it.
+//! The version of a folder, as the first line of `queue.cqc` gives it.
 
 ghost use Rattle.std.specs.Prelude.{◌≡◌, IfSome, Some};
 ghost use Rattle.cq_config_text.specs.Version.{store_in, version_of, version_word};
@@ -12,13 +12,14 @@ use std::fmt;
 /// The version of a folder, which is that of the store records of its images.
 #[derive(Clone, Copy, Debug, PartialEq, Eq)]
 pub enum FolderVersion {
-    /// The store records tell the cycle and its measures.
+    /// The store records hold the cycle and its measures.
     First,
-    /// They tell the epoch and the length of a cycle too.
+    /// They hold the epoch and the length of a cycle too.
     Second,
 }
 
-/// The version that a word names: `1` or `2` (this project's profile). `None` for any other word.
+/// Returns the version that a word names: `1` or `2` (ours; Chronicle Queue has no rule for it), and `None` for any
+/// other word.
 pub(crate) fn version_named(word: &[u8]) -> Option<FolderVersion>
     ensures found { IfSome result (λ version. word.now ≡ version_word version) }
     ensures only { (version : FolderVersion) → word.now ≡ version_word version → result ≡ Some version }
@@ -33,7 +34,7 @@ pub(crate) fn version_named(word: &[u8]) -> Option<FolderVersion>
 }
 
 impl FolderVersion {
-    /// The version of a folder whose images have such a store record.
+    /// Returns the version of a folder whose images have such a store record.
     pub fn of(store: StoreVersion) -> FolderVersion
         ensures { result ≡ version_of store }
     {
@@ -43,7 +44,7 @@ impl FolderVersion {
         }
     }
 
-    /// The store record of the images in a folder of this version, where cycles have this roll and this epoch.
+    /// Returns the store record of the images in a folder of this version, with this roll and this epoch.
     pub(crate) fn store(self, roll: Roll, epoch: u64) -> StoreVersion
         ensures { result ≡ store_in self roll epoch }
     {

@@ -1,4 +1,4 @@
-//! The settings of a queue before their limits were looked at.
+//! The settings of a queue before their limits are checked.
 
 ghost use Rattle.std.specs.Prelude.{◌≡◌, ◌≢◌, IfErr, IfOk, MatchOption};
 ghost use Rattle.cq_layout.specs.Layout.{IsLawfulLayout};
@@ -12,7 +12,7 @@ use cq_cycle::Roll;
 use cq_layout::{Layout, Shape};
 use cq_model::Config;
 
-/// The settings that a queue is to have but the names of its tailers. They may be outside the limits.
+/// The settings that a queue is to have, without the names of its tailers. They may be outside the limits.
 #[derive(Clone, Copy)]
 pub struct WantedConfig {
     /// The version of the folder.
@@ -23,17 +23,20 @@ pub struct WantedConfig {
     pub epoch: u64,
     /// The cells of a cycle, of four bytes each.
     pub cells: u64,
-    /// The entries of a table of the index.
+    /// The entries of an index table.
     pub index_count: u64,
-    /// Every how many messages one has an entry in the index.
+    /// One message in this many has an entry in the index.
     pub index_spacing: u64,
     /// How many cycles may begin.
     pub cycles: u64,
 }
 
 impl WantedConfig {
-    /// The configuration with these settings and names, if they are within the limits. Answers `BadShape` where the measures are
-    /// not, else `BadConfig`; the names are dropped then.
+    /// Returns the configuration with these settings and names, if they are within the limits.
+    ///
+    /// Errors:
+    /// - `BadShape`: the measures are outside the limits of a shape. The names are dropped.
+    /// - `BadConfig`: another setting or a name is outside the limits of a configuration. The names are dropped.
     pub fn config(self, names: Vec<String>) -> Result<Config, ConfigFault>
         ensures accepted { IfOk result (λ config. (config ≡ settings_in self (texts names.items))
             × IsLawfulSettings (settings_in self (texts names.items))) }
@@ -52,7 +55,7 @@ impl WantedConfig {
         }
     }
 
-    /// The layout with these measures, if they are within the limits of a shape.
+    /// Returns the layout with these measures, if they are within the limits of a shape.
     fn layout(self) -> Option<Layout>
         ensures { MatchOption result (¬ IsLawfulLayout (wanted_layout self))
             (λ lawful. (lawful ≡ wanted_layout self) × IsLawfulLayout (wanted_layout self)) }

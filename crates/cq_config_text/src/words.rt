@@ -12,7 +12,7 @@ use cq_cycle::{Roll, roll_named};
 use cq_model::is_name_byte;
 use std::str;
 
-/// What stands before the first mark in some bytes, and what stands behind it.
+/// Returns the bytes before the first mark, and those after it.
 pub(crate) fn cut(bytes: &[u8], mark: u8) -> Option<(&[u8], &[u8])>
     ensures found { IfSome result (λ parts. bytes.now ≡ parts.0.now ++ mark ∷ parts.1.now) }
     ensures parts { IfSome result (λ parts. slice_split (λ byte. byte == mark) bytes.now
@@ -23,7 +23,7 @@ pub(crate) fn cut(bytes: &[u8], mark: u8) -> Option<(&[u8], &[u8])>
     Some((&bytes[..at], &bytes[at + 1..]))
 }
 
-/// Where the first mark stands.
+/// Returns the place of the first mark.
 fn place_of(bytes: &[u8], mark: u8) -> Option<usize>
     ensures found { IfSome result (λ at. (at < length bytes.now) × (slice_index bytes.now at ≡ mark)
         × ((k : ℕ) → k < at → slice_index bytes.now k ≢ mark)) }
@@ -32,7 +32,7 @@ fn place_of(bytes: &[u8], mark: u8) -> Option<usize>
     bytes.iter().position(|byte| *byte == mark)
 }
 
-/// The number below 2^64 that a word spells in decimal, without leading zeros.
+/// Returns the number below 2^64 that a word spells in decimal, without leading zeros.
 pub(crate) fn number_of(word: &[u8]) -> Option<u64>
     ensures found { IfSome result (λ number. (number < 2 ^ 64) × (word.now ≡ decimal number)) }
     ensures only { (number : ℕ) → number < 2 ^ 64 → word.now ≡ decimal number → result ≡ Some number }
@@ -43,7 +43,7 @@ pub(crate) fn number_of(word: &[u8]) -> Option<u64>
     text_of(word)?.parse().ok()
 }
 
-/// The number of at least 1 that a word spells so.
+/// Returns the number of at least 1 that a word spells so.
 pub(crate) fn positive_of(word: &[u8]) -> Option<u64>
     ensures found { IfSome result (λ number. (0 < number) × (number < 2 ^ 64) × (word.now ≡ decimal number)) }
     ensures only { (number : ℕ) → 0 < number → number < 2 ^ 64 → word.now ≡ decimal number
@@ -56,7 +56,7 @@ pub(crate) fn positive_of(word: &[u8]) -> Option<u64>
     Some(number)
 }
 
-/// Whether the word begins as a number does: `parse` would take a plus sign and leading zeros too.
+/// Returns whether the word begins as a number does. `parse` would take a plus sign and leading zeros too.
 fn begins_as_number(word: &[u8]) -> bool
     ensures digit { IsTrue result → 48 ≤ slice_index word.now 0 }
     ensures alone { IsTrue result → slice_index word.now 0 ≡ 48 → length word.now ≡ 1 }
@@ -71,7 +71,7 @@ fn begins_as_number(word: &[u8]) -> bool
     word[0].is_ascii_digit()
 }
 
-/// The roll that a word names.
+/// Returns the roll that a word names.
 pub(crate) fn roll_of(word: &[u8]) -> Option<Roll>
     ensures found { IfSome result (λ roll. word.now ≡ roll_word roll) }
     ensures only { (roll : Roll) → word.now ≡ roll_word roll → result ≡ Some roll }
@@ -79,7 +79,7 @@ pub(crate) fn roll_of(word: &[u8]) -> Option<Roll>
     roll_named(text_of(word)?)
 }
 
-/// The name that a word is: one or more letters, digits, `_`, `-` and `.`.
+/// Returns the name that a word is: one or more letters, digits, `_`, `-` and `.`.
 pub(crate) fn name_of(word: &[u8]) -> Option<&str>
     ensures found { IfSome result (λ name. (name.now ≡ word.now) × IsNameWord word.now) }
     ensures only { IsNameWord word.now → IsSome result }
@@ -93,7 +93,7 @@ pub(crate) fn name_of(word: &[u8]) -> Option<&str>
     text_of(word)
 }
 
-/// Some bytes as a text, if they are one.
+/// Returns the bytes as a text, if they are one.
 fn text_of(bytes: &[u8]) -> Option<&str>
     ensures found { IfSome result (λ text. text.now ≡ bytes.now) }
     ensures only { IsUtf8 bytes.now → IsSome result }
