@@ -157,7 +157,7 @@ fn floor_within(floor: u64) -> Option<u32>
 /// - `Line(n)`: line n, counted from 1, is the first that is not one whole line of the format in its place.
 /// - `BadShape`: the text is of the format, and its measures are outside the limits of a shape.
 /// - `BadConfig`: the text is of the format, and another setting or a name is outside the limits of a configuration, or
-/// the floor is above `LAST_CYCLE`.
+///   the floor is above `LAST_CYCLE`.
 /// - `OutOfMemory`: out of memory. It can come in place of each of the others.
 pub fn read_config(alloc: Global, text: &[u8]) -> Result<SavedConfig, ConfigFault>
     ensures found { IfOk result (λ saved. IsTextOf saved.config saved.positions.items saved.floor text.now

@@ -4,12 +4,14 @@ ghost use Rattle.cq_folder.specs.Folder.{IsCounted, KeepsFiles};
 use crate::storage::{Access, Folder, FolderFault, NewFile};
 use std::alloc::Global;
 
-/// A folder of which one call answers `Device`, for tests of what stands on a folder. The calls of `begin`, `names`,
-/// `read`, `write` and `save` are counted together, from 1; all others are those of the folder within. After a `begin` that fails
-/// no command is in the folder. A `write` or a `save` may be done all the same.
+/// A folder of which one call fails with `Device`, for tests of code that uses a folder.
+///
+/// The calls of `begin`, `names`, `read`, `write` and `save` are counted together, from 1. All others are those of the
+/// inner folder. After a `begin` that fails no command is in the folder. A `write` or a `save` that fails may have been
+/// done.
 #[derive(Drop)]
 pub struct FailingFolder<F: Folder> {
-    /// The folder within.
+    /// The inner folder.
     pub folder: F,
     /// The call that fails.
     pub failing: FailingCall,
@@ -18,16 +20,16 @@ pub struct FailingFolder<F: Folder> {
 /// Which call fails, and how often one did.
 #[derive(Clone, Copy, Debug, PartialEq, Eq)]
 pub struct FailingCall {
-    /// After how many calls the next failing one has been made; 0 where no further call fails.
+    /// The number of calls up to the next failing one, this one included; 0 if no further call fails.
     pub calls_left: u64,
-    /// Whether what the failing call writes is written.
+    /// Whether the failing call writes its bytes.
     pub writes: bool,
-    /// How many calls failed.
+    /// The number of calls that failed.
     pub failures: u64,
 }
 
 impl<F: Folder> FailingFolder<F> {
-    /// The folder whose call with this number fails and does nothing; with number 0 none fails.
+    /// Makes a folder whose call with this number fails and does nothing. With number 0 none fails.
     pub fn new(folder: F, number: u64) -> Self
         ensures folder { result.folder ≡ folder }
         ensures call { result.failing.calls_left ≡ number }
@@ -40,7 +42,7 @@ impl<F: Folder> FailingFolder<F> {
         }
     }
 
-    /// The folder whose call with this number fails, and writes what it is to write.
+    /// Makes a folder whose call with this number fails, and writes what it is to write.
     pub fn written(folder: F, number: u64) -> Self
         ensures folder { result.folder ≡ folder }
         ensures call { result.failing.calls_left ≡ number }
@@ -53,7 +55,7 @@ impl<F: Folder> FailingFolder<F> {
         }
     }
 
-    /// The folder within.
+    /// Gives back the inner folder.
     pub fn into_inner(self) -> F
         ensures { result ≡ self.folder }
     {
@@ -63,7 +65,7 @@ impl<F: Folder> FailingFolder<F> {
 }
 
 impl FailingCall {
-    /// The call with this number, before any call was made.
+    /// Makes the state for the call with this number, before any call.
     fn new(number: u64, writes: bool) -> Self
         ensures { result ≡ record { calls_left = number; writes = writes; failures = 0 } }
     {
@@ -74,7 +76,7 @@ impl FailingCall {
         }
     }
 
-    /// Counts a call, and tells whether it fails.
+    /// Counts a call, and returns whether it fails.
     fn is_next(&mut self) -> bool
         ensures due { IsTrue result ↔ (self.old.calls_left ≡ 1) }
         ensures counted { self.new.calls_left ≡ self.old.calls_left - 1 }

@@ -1,5 +1,14 @@
-//! The folder of a queue: its files, as calls that any folder answers, with a folder in memory and one whose calls fail. A
-//! folder of the system stands in `cq_real_folder`.
+//! The folder of a queue, as the calls that any folder has: a command enters it, lists, reads and writes its files, and
+//! leaves it. A folder of the system is in `cq_real_folder`.
+//!
+//! | item | what it is for |
+//! |---|---|
+//! | `Folder` | the calls of a folder |
+//! | `Access` | how a command enters: `Shared` or `Alone` |
+//! | `NewFile` | a file that is to be saved |
+//! | `FolderFault`, `fault_of` | why a call failed, and the fault for an error of the system |
+//! | `MemoryFolder` | a folder in memory, whose files contracts see |
+//! | `FailingFolder` | a folder of which one call fails, for tests |
 #![tactic(auto)]
 
 mod failing;

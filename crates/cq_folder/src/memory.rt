@@ -4,15 +4,15 @@ use crate::storage::{Access, Folder, FolderFault, NewFile};
 use std::alloc::{AllocError, Global};
 use std::collections::BTreeMap;
 
-/// A folder in memory. It fails for want of memory, and where a file is read that it does not hold.
-/// Contracts see its files.
+/// A folder in memory. Contracts see its files. A call fails when out of memory, if a file is read that the folder does
+/// not hold, and if a file is read that has more bytes than the limit.
 #[derive(Drop)]
 pub struct MemoryFolder {
     alloc: Global,
     files: BTreeMap<String, Vec<u8>>,
-    /// How often a call answered `Device`, up to 2^64 - 1.
+    /// The number of calls that returned `Device`, up to 2^64 - 1.
     failures: u64,
-    /// How a command is in it; `None` where no command is.
+    /// The access of the command that is in it; `None` if no command is.
     entered: Option<Access>,
 }
 
@@ -34,7 +34,7 @@ impl MemoryFolder {
         }
     }
 
-    /// The same folder once more.
+    /// Returns a copy of the folder.
     fn copied(&self) -> Result<MemoryFolder, AllocError>
         ensures files { IfOk result (λ copy. (name : List ℕ) → files_in copy name ≡ files_in self.now name) }
         ensures failures { IfOk result (λ copy. copy.failures ≡ self.now.failures) }
@@ -104,7 +104,7 @@ impl Folder for MemoryFolder {
         Ok(self.put(name, bytes)?)
     }
 
-    // All is written to a copy, which then takes the place of what was held.
+    // All is written to a copy, which then replaces what was held.
     fn save(&mut self, changes: &[NewFile]) -> Result<(), FolderFault> {
         let mut copy = self.copied()?;
         for file in changes {

@@ -6,14 +6,15 @@ ghost use Rattle.std.specs.IoError.{error_kind};
 use std::alloc::{AllocError, AllocFailed, Global};
 use std::io::{self, ErrorKind};
 
-/// Why a call on a folder is not done (this project's profile).
+/// Why a call on a folder failed (ours; Chronicle Queue has no rule for it).
 #[derive(Clone, Copy, Debug, PartialEq, Eq)]
 pub enum FolderFault {
-    /// The folder could not be entered or listed, or a file not read or written. One that is not there is not read.
+    /// The folder could not be entered or listed, or a file could not be read or written. Reading a file that is not
+    /// there fails so too.
     Device,
-    /// The file has more bytes than were asked for.
+    /// The file has more bytes than the limit of the read.
     TooLarge,
-    /// A growth was refused.
+    /// Out of memory: a growth was refused.
     OutOfMemory,
 }
 
@@ -37,9 +38,11 @@ impl<T: Drop> From<AllocFailed<T>> for FolderFault {
     }
 }
 
-/// The fault of a call on a folder that met this error of the system: `OutOfMemory` where a growth was refused, else
-/// `Device`. `failures` counts how often a call answered `Device`, this one too, up to 2^64 - 1, where the count stays.
-/// Nothing else is counted, and it is never `TooLarge`.
+/// Returns the fault for this error of the system: `OutOfMemory` if a growth was refused, else `Device`. It is never
+/// `TooLarge`.
+///
+/// `failures` counts the calls that returned `Device`, this one included, up to 2^64 - 1, where the count stays.
+/// Nothing else is counted.
 pub fn fault_of(failures: &mut u64, error: &io::Error) -> FolderFault
     ensures fits { result ≢ FolderFault.TooLarge }
     ensures memory { (result ≡ FolderFault.OutOfMemory) ↔ (error_kind error.now ≡ ErrorKind.OutOfMemory) }
@@ -55,10 +58,10 @@ pub fn fault_of(failures: &mut u64, error: &io::Error) -> FolderFault
     FolderFault::Device
 }
 
-/// How a command comes to a folder.
+/// How a command enters a folder.
 #[derive(Clone, Copy, Debug, PartialEq, Eq)]
 pub enum Access {
-    /// It only reads, beside others that do.
+    /// It only reads, concurrently with others that do.
     Shared,
     /// It may write, and is alone.
     Alone,
@@ -73,12 +76,16 @@ pub struct NewFile {
     pub bytes: Vec<u8>,
 }
 
-/// A folder of files (this project's profile). No call makes the folder itself.
+/// A folder of files (ours; Chronicle Queue has no rule for it). No call makes the folder itself.
 ///
-/// A command begins, lists and reads, writes or saves at most once, and ends. Only a command that has begun lists and reads, and
-/// only one that is alone writes and saves. What the files hold is known to contracts of a folder in memory, and not of a real
-/// one. Any call but `end` may answer `Device`, which `failures` counts, or `OutOfMemory`;
-/// `read` alone answers `TooLarge`.
+/// A command begins, lists and reads, writes or saves at most once, and ends. Only a command that has begun lists and
+/// reads, and only one that is alone writes and saves. Contracts see what the files of a folder in memory hold, but not
+/// those of a real one.
+///
+/// Errors of every call but `end`, `access` and `failures`:
+/// - `Device`: the folder could not do it. `failures` counts these.
+/// - `TooLarge`: only of `read`.
+/// - `OutOfMemory`: out of memory.
 pub trait Folder {
     ghost use Rattle.std.specs.Prelude.{◌≡◌, ◌≢◌, ◌∷◌, ℕ, ◌<◌, ◌≤◌, Option, Some, [], Err, IfOk, OnErr, OnOk, IfSome, IsSome, IsSomeAnd, None, length, map};
     ghost use Rattle.cq_model.specs.Settings.{texts};
@@ -90,9 +97,11 @@ pub trait Folder {
 
     ghost entered: { Self → Entered };
 
-    /// Begins a command: waits until it may come in, and stays in until `end`, or until the folder is dropped or begins
-    /// again. A save that was cut short counts as done; whoever is alone does what is left of it.
-    /// After a fault no command is in the folder.
+    /// Begins a command with this access: waits until it may enter. It is in the folder until `end`, or until the
+    /// folder is dropped or begins again. A save that was cut short counts as done; a command that is alone does what
+    /// is left of it.
+    ///
+    /// After an error no command is in the folder.
     fn begin(&mut self, alloc: Global, access: Access) -> Result<(), FolderFault>
         ensures inside { OnOk result (entered self.new ≡ Some access) }
         ensures outside { OnErr result (entered self.new ≡ None) }
@@ -100,13 +109,13 @@ pub trait Folder {
         ensures fits { result ≢ Err FolderFault.TooLarge }
         ensures counted { IsCounted (failed self.old) (failed self.new) result };
 
-    /// Ends a command: others may come in.
+    /// Ends a command. Others may enter.
     fn end(&mut self)
         ensures outside { entered self.new ≡ None }
         ensures kept { files self.new ≡ files self.old }
         ensures counted { failed self.new ≡ failed self.old };
 
-    /// The names of the files, each once and in no order that is promised.
+    /// Returns the names of the files, each once and in no promised order.
     fn names(&mut self, alloc: Global) -> Result<Vec<String>, FolderFault>
         requires { IsSome (entered self.old) }
         ensures inside { entered self.new ≡ entered self.old }
@@ -115,8 +124,12 @@ pub trait Folder {
         ensures fits { result ≢ Err FolderFault.TooLarge }
         ensures counted { IsCounted (failed self.old) (failed self.new) result };
 
-    /// The bytes of a file. Answers `TooLarge` where it has more than `limit` bytes, and `Device` where there is no file of
-    /// that name.
+    /// Returns the bytes of a file.
+    ///
+    /// Errors:
+    /// - `TooLarge`: the file has more than `limit` bytes.
+    /// - `Device`: there is no file of that name, or it could not be read.
+    /// - `OutOfMemory`: out of memory.
     fn read(&mut self, alloc: Global, name: &str, limit: usize) -> Result<Vec<u8>, FolderFault>
         requires { IsSome (entered self.old) }
         ensures inside { entered self.new ≡ entered self.old }
@@ -127,8 +140,9 @@ pub trait Folder {
         ensures kept { KeepsFiles (files self.old) (files self.new) }
         ensures counted { IsCounted (failed self.old) (failed self.new) result };
 
-    /// Makes these bytes the whole file of that name, whether there is one or not. After a fault that is so, or no file has
-    /// changed; after want of memory none has.
+    /// Writes a whole file: its bytes are then these, whether it was there before or not.
+    ///
+    /// After an error that is so, or no file has changed. After `OutOfMemory` none has.
     fn write(&mut self, name: &str, bytes: &[u8]) -> Result<(), FolderFault>
         requires { entered self.old ≡ Some Access.Alone }
         ensures inside { entered self.new ≡ entered self.old }
@@ -138,7 +152,8 @@ pub trait Folder {
         ensures fits { result ≢ Err FolderFault.TooLarge }
         ensures counted { IsCounted (failed self.old) (failed self.new) result };
 
-    /// The same of several files at once: after a fault all of them are written, or none; after want of memory none is.
+    /// Writes several whole files at once. After an error all of them are written, or none. After `OutOfMemory` none
+    /// is.
     fn save(&mut self, changes: &[NewFile]) -> Result<(), FolderFault>
         requires { entered self.old ≡ Some Access.Alone }
         ensures inside { entered self.new ≡ entered self.old }
@@ -148,11 +163,11 @@ pub trait Folder {
         ensures fits { result ≢ Err FolderFault.TooLarge }
         ensures counted { IsCounted (failed self.old) (failed self.new) result };
 
-    /// How a command is in the folder; `None` where no command is.
+    /// Returns the access of the command that is in the folder; `None` if no command is.
     fn access(&self) -> Option<Access>
         ensures { result ≡ entered self.now };
 
-    /// How often a call answered `Device`, up to 2^64 - 1, where the count stays.
+    /// Returns the number of calls that returned `Device`, up to 2^64 - 1, where the count stays.
     fn failures(&self) -> u64
         ensures { result ≡ failed self.now };
 }

@@ -13,39 +13,38 @@ use std::fs::{File, OpenFile};
 use std::io::{self, ErrorKind};
 use std::rt::Files;
 
-/// A folder of the system. What its files hold is not known to any contract.
+/// A folder of the system. No contract knows what its files hold.
 ///
-/// A command is in it, shared or alone, exactly as long as it keeps open the folder that it entered
-/// with that access. Which lock the system was asked for, and what that does, is tested.
+/// A command is in it, shared or alone, exactly as long as it keeps open the folder that it entered with that access.
+/// Which lock the system was asked for, and what that does, is tested.
 ///
-/// It is locked as a whole, where the system has locks: whoever is alone waits for all others, and the system frees the
-/// lock of a process that ends.
+/// It is locked as a whole, if the system has locks on folders. A command that is alone waits for all others. The
+/// system frees the lock of a process that ends.
 ///
-/// The new bytes of a file are written and synced beside its place, to a part that is made anew: its name is that of
-/// the file, with a dot, the number of the process and `.part` behind it. Then it takes the file's place. Where several
-/// files are saved, the record `queue.save` stands while their parts take their places: from the moment that it stands
-/// they are saved.
+/// The new bytes of a file are written and synced to a new file next to it, its part. The name of the part is that of
+/// the file, then a dot, the number of the process and `.part`. Then the part is renamed to the file. If several files
+/// are saved, the record `queue.save` is there while their parts are renamed. From the moment that the record is there,
+/// the files are saved.
 ///
-/// A command that comes in alone under a lock removes the parts that are left. It takes a file for
-/// a part exactly where its name is `FILE.NUMBER.part`: FILE is `queue.save` or a file that a
-/// record can name, and NUMBER is below 2^32, in decimal without leading zeros. That it removes
-/// these and no others is tested.
+/// A command that enters alone under a lock removes the parts that are left. It takes a file for a part exactly if its
+/// name is `FILE.NUMBER.part`. FILE is `queue.save` or a file that a record can name. NUMBER is below 2^32, in decimal
+/// without leading zeros. That it removes these and no others is tested.
 #[derive(Drop)]
 pub struct RealFolder<'a, R: Files<File = File> + AllocGlobal + Clone + Drop> {
     rt: &'a R,
     path: String,
     /// The number of this process.
     process: u32,
-    /// The lock of the folder; `None` where no command is in it.
+    /// The lock of the folder; `None` if no command is in it.
     lock: Option<Lock>,
-    /// The record that stands, which is read through.
+    /// The record that is there, through which files are listed and read.
     record: Option<Record>,
-    /// How often a call answered `Device`, up to 2^64 - 1.
+    /// The number of calls that returned `Device`, up to 2^64 - 1.
     pub failures: u64,
 }
 
 impl<'a, R: Files<File = File> + AllocGlobal + Clone + Drop> RealFolder<'a, R> {
-    /// The folder at this path, for the process with this number. It is not looked at yet.
+    /// Makes a folder of this path, for the process with this number. It does not look at the path yet.
     pub fn new(rt: &'a R, path: String, process: u32) -> Self
         ensures path { result.path ≡ path }
         ensures process { result.process ≡ process }
@@ -71,13 +70,13 @@ impl<'a, R: Files<File = File> + AllocGlobal + Clone + Drop> RealFolder<'a, R> {
         self.path_of(part.as_str())
     }
 
-    /// Brings what the folder lists to the device.
+    /// Syncs what the folder lists to the device.
     fn sync(&self) -> io::Result<()> {
         File::open(self.rt, self.path.as_str())?.sync_all()
     }
 }
 
-/// Passes over the error that there is no such file.
+/// Ignores the error that there is no such file.
 fn unless_missing(done: io::Result<()>) -> io::Result<()> {
     match done {
         Err(error) if error.kind() == ErrorKind::NotFound => Ok(()),

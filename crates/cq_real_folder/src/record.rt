@@ -5,10 +5,10 @@ ghost use Rattle.cq_real_folder.specs.Record.{HasParts, IsFileName, IsPartName, 
 
 use std::alloc::{AllocError, Global};
 
-/// The file in which the renames of a save stand until they are done.
+/// The file that holds the renames of a save until they are done.
 pub(crate) const RECORD_FILE: &str = "queue.save";
 
-/// The renames of a save: each file's part, which a process wrote beside it, takes the file's place.
+/// The renames of a save: the part of each file, which a process wrote next to it, replaces the file.
 #[derive(Drop)]
 pub(crate) struct Record {
     /// The number of the process that wrote the parts.
@@ -18,14 +18,14 @@ pub(crate) struct Record {
 }
 
 impl Record {
-    /// Whether the file is one of those.
+    /// Returns whether the record names the file.
     pub fn has(&self, name: &str) -> bool
         ensures { result ≡ list_any (λ named. bytes_eq (string_bytes named) name.now) self.now.names.items }
     {
         self.names.iter().any(|named| named.as_str() == name)
     }
 
-    /// The text of the record: `cq save 1`, the process, the names and `end`, each on a line.
+    /// Returns the text of the record: `cq save 1`, the process, the names and `end`, each on a line.
     pub fn text(&self, alloc: Global) -> Result<String, AllocError>
         ensures { IfOk result (λ text. string_bytes text ≡ record_text self.now.process self.now.names.items) }
     {
@@ -38,12 +38,13 @@ impl Record {
         Ok(text)
     }
 
-    /// The record whose text this is, which names a file at least; `None` where there is none. Takes memory for the names, and for the
-    /// text once more. Answers `AllocError` where there is not so much.
+    /// Returns the record with this text, which names at least one file; `None` if there is none.
     ///
-    /// Each record of a save is read back from its text, whatever its process and however many files it
-    /// names, or memory is out. A record is read only where the text is its own, and it names only files
-    /// of a queue, in no other folder.
+    /// Each record of a save is read back from its text, for any process and any number of files, unless out of memory.
+    /// A record is read only if the text is its own. It names only files of a queue, in no other folder.
+    ///
+    /// Errors:
+    /// - `AllocError`: out of memory. It allocates the names, and the text once more.
     pub fn read(alloc: Global, text: &[u8]) -> Result<Option<Record>, AllocError>
         ensures form { IfOk result (λ read. IfSome read (λ found. text.now ≡ record_text found.process found.names.items)) }
         ensures some { IfOk result (λ read. IfSome read (λ found. 0 < vec_len found.names)) }
@@ -62,7 +63,7 @@ impl Record {
         Ok(Some(record))
     }
 
-    /// The process and the names on the lines of a text, whose form is not looked at closely.
+    /// Returns the process and the names on the lines of a text, whose form is not checked in full.
     fn of_lines(alloc: Global, text: &[u8]) -> Result<Option<Record>, AllocError>
         ensures names { IfOk result (λ read. IfSome read (λ found.
             All (λ name. IsFileName (string_bytes name)) found.names.items)) }
@@ -83,7 +84,8 @@ impl Record {
     }
 }
 
-/// The number of the process and the lines of the names in the text of a record. The number may have a sign or leading zeros.
+/// Returns the number of the process and the lines of the names in the text of a record. The number may have a sign or
+/// leading zeros.
 fn parts_of(text: &str) -> Option<(u32, &str)>
     ensures { (process : ℕ) (names : List (String Global)) → process < 2 ^ 32 → text.now ≡ record_text process names
         → IsSomeAnd result (λ found. (found.0 ≡ process) × (found.1.now ≡ name_text names)) }
@@ -95,7 +97,7 @@ fn parts_of(text: &str) -> Option<(u32, &str)>
     Some((process, names))
 }
 
-/// The names on the lines of a text; `None` where a record cannot have a line as a name.
+/// Returns the names on the lines of a text; `None` if a record cannot have a line as a name.
 fn names_on(alloc: Global, text: &str) -> Result<Option<Vec<String>>, AllocError>
     ensures names { IfOk result (λ read. IfSome read (λ found. All (λ name. IsFileName (string_bytes name)) found.items)) }
     ensures only { (names : List (String Global)) → All (λ name. IsFileName (string_bytes name)) names → text.now ≡ name_text names
@@ -111,7 +113,7 @@ fn names_on(alloc: Global, text: &str) -> Result<Option<Vec<String>>, AllocError
     Ok(Some(names))
 }
 
-/// Whether a record can name the file: it is an image's or `queue.cqc` by its name, and in no other folder.
+/// Returns whether a record can name the file: by its name it is an image or `queue.cqc`, and in no other folder.
 pub(crate) fn is_file_name(name: &str) -> bool
     ensures { IsTrue result ↔ IsFileName name.now }
 {
@@ -122,15 +124,15 @@ pub(crate) fn is_file_name(name: &str) -> bool
     name == "queue.cqc" || bytes.ends_with(b".cqi")
 }
 
-/// The name of the part of a file that the process with this number writes.
+/// Returns the name of the part of a file that the process with this number writes.
 pub(crate) fn part_name(alloc: Global, file: &str, process: u32) -> Result<String, AllocError>
     ensures { IfOk result (λ name. string_bytes name ≡ part_name file.now process) }
 {
     format!(in alloc; "{file}.{process}.part")
 }
 
-/// Whether a file is a part by its name: `FILE.NUMBER.part`, where FILE is the record or a file that a record can name, and NUMBER
-/// is below 2^32, in decimal without leading zeros. Takes memory for the name once more.
+/// Returns whether a file is a part by its name, `FILE.NUMBER.part`. FILE is the record or a file that a record can
+/// name, and NUMBER is below 2^32, in decimal without leading zeros. It allocates the name once more.
 pub(crate) fn is_part_name(alloc: Global, name: &str) -> Result<bool, AllocError>
     ensures { IfOk result (λ is_part. IsTrue is_part ↔ IsPartName name.now) }
 {
@@ -143,7 +145,7 @@ pub(crate) fn is_part_name(alloc: Global, name: &str) -> Result<bool, AllocError
     Ok(part_name(alloc, file, process)?.as_str() == name)
 }
 
-/// The file and the number of the process in the name of a part. The number may have a sign or leading zeros.
+/// Returns the file and the number of the process in the name of a part. The number may have a sign or leading zeros.
 fn part_in(name: &str) -> Option<(&str, u32)>
     ensures { (file : List ℕ) (process : ℕ) → process < 2 ^ 32 → name.now ≡ part_name file process
         → IsSomeAnd result (λ found. (found.0.now ≡ file) × (found.1 ≡ process)) }
@@ -154,7 +156,7 @@ fn part_in(name: &str) -> Option<(&str, u32)>
     Some((&front[..dot], process))
 }
 
-/// Whether parts of the file are written: it is the record, or a record can name it.
+/// Returns whether parts of the file are written: it is the record, or a record can name it.
 fn has_parts(file: &str) -> bool
     ensures { IsTrue result ↔ HasParts file.now }
 {

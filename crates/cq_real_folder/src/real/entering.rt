@@ -1,4 +1,4 @@
-//! A command comes into a folder: the lock, and what is left of a save that was cut short.
+//! Enters a folder: takes the lock, and finishes a save that was cut short.
 
 ghost use Rattle.std.specs.Prelude.{◌≡◌, IfOk, None, OnOk, Some, option_map};
 
@@ -27,7 +27,7 @@ impl<'a, R: Files<File = File> + AllocGlobal + Clone + Drop> RealFolder<'a, R> {
         self.record = self.standing(alloc)?;
         if access == Access::Alone {
             self.settle()?;
-            // Without locks, a part may be that of a process at work.
+            // Without locks, a part may be that of a process that is running.
             if is_held {
                 self.sweep(alloc)?;
             }
@@ -35,7 +35,7 @@ impl<'a, R: Files<File = File> + AllocGlobal + Clone + Drop> RealFolder<'a, R> {
         Ok(())
     }
 
-    /// Gives the lock back.
+    /// Releases the lock.
     pub(super) fn leave(&mut self)
         ensures failures { self.new.failures ≡ self.old.failures }
         ensures outside { self.new.lock ≡ None }
@@ -44,18 +44,18 @@ impl<'a, R: Files<File = File> + AllocGlobal + Clone + Drop> RealFolder<'a, R> {
         self.record = None;
     }
 
-    /// The folder, opened and locked.
+    /// Returns the folder, opened and locked.
     fn locked(&self, access: Access) -> io::Result<Lock>
         ensures { IfOk result (λ lock. lock.access ≡ access) }
     {
-        // A FIFO would be waited for.
+        // Opening a FIFO would wait.
         if !fs::metadata(self.rt, self.path.as_str())?.is_dir() {
             return Err(io::Error::from(ErrorKind::NotADirectory));
         }
         Lock::of(File::open(self.rt, self.path.as_str())?, access)
     }
 
-    /// The record that stands.
+    /// Returns the record that is there.
     fn standing(&self, alloc: Global) -> io::Result<Option<Record>> {
         let path = self.path_of(RECORD_FILE)?;
         match self.read_plain(alloc, path.as_str(), MOST_RECORD_BYTES) {
@@ -68,7 +68,7 @@ impl<'a, R: Files<File = File> + AllocGlobal + Clone + Drop> RealFolder<'a, R> {
         }
     }
 
-    /// Does what is left of the save whose record stands.
+    /// Does what is left of the save whose record is there.
     pub(super) fn settle(&mut self) -> io::Result<()>
         ensures failures { self.new.failures ≡ self.old.failures }
         ensures locked { self.new.lock ≡ self.old.lock }
@@ -80,18 +80,18 @@ impl<'a, R: Files<File = File> + AllocGlobal + Clone + Drop> RealFolder<'a, R> {
         Ok(())
     }
 
-    /// Renames the parts that are left, and removes the record. A part that is gone has taken its place.
+    /// Renames the parts that are left, and removes the record. A part that is gone has been renamed.
     fn finish(&self, record: &Record) -> io::Result<()> {
         for name in &record.names {
             unless_missing(self.place(name.as_str(), record.process))?;
         }
         self.sync()?;
         fs::remove_file(self.rt, self.path_of(RECORD_FILE)?.as_str())?;
-        // Else the record could come back after the machine stops, when a later save fills parts of the same names.
+        // Else the record could come back after the machine stops, when a later save writes parts of the same names.
         self.sync()
     }
 
-    /// Removes the parts of saves that were cut short before their record stood.
+    /// Removes the parts of saves that were cut short before their record was there.
     fn sweep(&self, alloc: Global) -> io::Result<()> {
         for name in self.list(alloc)? {
             if is_part_name(alloc, name.as_str())? {

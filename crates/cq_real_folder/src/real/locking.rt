@@ -6,7 +6,7 @@ use cq_folder::Access;
 use std::fs::File;
 use std::io;
 
-/// An open folder that is locked, where the system has locks on folders. Once it is dropped, the folder is free.
+/// An open folder that is locked, if the system has locks on folders. Dropping it releases the lock.
 #[derive(Drop)]
 pub(super) struct Lock {
     /// The open folder.
@@ -18,7 +18,8 @@ pub(super) struct Lock {
 }
 
 impl Lock {
-    /// Waits for the lock of an open folder. Where the system, or the file system, has no locks on folders, it is used without.
+    /// Waits for the lock of an open folder. If the system, or the file system, has no locks on folders, it is used
+    /// without.
     pub fn of(folder: File, access: Access) -> io::Result<Lock>
         ensures { IfOk result (λ lock. lock.access ≡ access) }
     {
@@ -38,7 +39,7 @@ impl Lock {
         })
     }
 
-    /// How it is locked.
+    /// Returns how it is locked.
     pub fn access(&self) -> Access
         ensures { result ≡ self.now.access }
     {
@@ -46,8 +47,8 @@ impl Lock {
     }
 }
 
-/// Whether the error says that the system, or this file system, has no locks on folders: a bad descriptor, an invalid
-/// argument, no locks, no such call, not supported.
+/// Returns whether the error means that the system, or this file system, has no locks on folders: a bad descriptor, an
+/// invalid argument, no locks, no such call, not supported.
 fn has_no_locks(error: &io::Error) -> bool {
     matches!(error.raw_os_error(), Some(9 | 22 | 37 | 38 | 95))
 }

@@ -1,4 +1,4 @@
-//! What a folder lists, and what its files hold, through the record of a save that was cut short.
+//! Lists a folder and reads its files, through the record of a save that was cut short.
 
 use super::RealFolder;
 use std::alloc::{AllocError, Global};
@@ -7,7 +7,7 @@ use std::io::{self, BufRead, BufReader, ErrorKind, Read};
 use std::rt::Files;
 
 impl<'a, R: Files<File = File> + AllocGlobal + Clone + Drop> RealFolder<'a, R> {
-    /// The names in the folder, with those of the record that stands.
+    /// Returns the names in the folder, with those of the record that is there.
     pub(super) fn list_through(&self, alloc: Global) -> io::Result<Vec<String>> {
         let mut names = self.list(alloc)?;
         if let Some(record) = &self.record {
@@ -20,7 +20,8 @@ impl<'a, R: Files<File = File> + AllocGlobal + Clone + Drop> RealFolder<'a, R> {
         Ok(names)
     }
 
-    /// The names in the folder. In one that is not UTF-8, U+FFFD stands for what is no text: no file can be read by it.
+    /// Returns the names in the folder. In a name that is not UTF-8, U+FFFD replaces what is no text; no file can be
+    /// read by that name.
     pub(super) fn list(&self, alloc: Global) -> io::Result<Vec<String>> {
         let mut names = Vec::new(alloc);
         let folder = self.rt.open_dir(self.path_of("")?.as_str())?;
@@ -31,8 +32,8 @@ impl<'a, R: Files<File = File> + AllocGlobal + Clone + Drop> RealFolder<'a, R> {
         Ok(names)
     }
 
-    /// The bytes of a file, of which no more than `limit + 1` are read. Where the record that stands names it, they are
-    /// those of its part, unless that has taken its place.
+    /// Reads the bytes of a file, at most `limit + 1` of them. If the record that is there names the file, they are
+    /// those of its part, unless the part has been renamed.
     pub(super) fn read_through(
         &self,
         alloc: Global,
@@ -51,7 +52,7 @@ impl<'a, R: Files<File = File> + AllocGlobal + Clone + Drop> RealFolder<'a, R> {
         self.read_plain(alloc, self.path_of(name)?.as_str(), limit)
     }
 
-    /// The same of the file at a path. A link is not followed, and nothing but a plain file is opened.
+    /// Reads the file at a path, in the same way. A link is not followed, and only a plain file is opened.
     pub(super) fn read_plain(
         &self,
         alloc: Global,
@@ -69,7 +70,7 @@ impl<'a, R: Files<File = File> + AllocGlobal + Clone + Drop> RealFolder<'a, R> {
     }
 }
 
-/// Adds a name that a folder lists, unless it is that of the folder itself or of the one above.
+/// Adds a name that a folder lists, unless it is that of the folder itself or of its parent.
 fn push_name(alloc: Global, names: &mut Vec<String>, name: &[u8]) -> Result<(), AllocError> {
     if matches!(name, b"." | b"..") {
         return Ok(());

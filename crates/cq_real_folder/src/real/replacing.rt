@@ -1,4 +1,4 @@
-//! Files take new bytes: whole, and all of a save or none.
+//! Replaces files: each as a whole, and all of a save or none.
 
 ghost use Rattle.std.specs.Prelude.{◌≡◌, All, IfOk, map, string_bytes};
 ghost use Rattle.cq_real_folder.specs.Record.{IsFileName};
@@ -11,7 +11,7 @@ use std::io::{self, ErrorKind, Write};
 use std::rt::Files;
 
 impl<'a, R: Files<File = File> + AllocGlobal + Clone + Drop> RealFolder<'a, R> {
-    /// Writes a file so that it holds all of the bytes or what it held, also where the system stops in between.
+    /// Writes a file. It then holds all of the bytes or what it held, also if the system stops in between.
     pub(super) fn replace(&self, name: &str, bytes: &[u8]) -> io::Result<()> {
         let placed = match self.prepare(name, bytes) {
             Ok(()) => self.place(name, self.process),
@@ -24,7 +24,7 @@ impl<'a, R: Files<File = File> + AllocGlobal + Clone + Drop> RealFolder<'a, R> {
         self.confirm()
     }
 
-    /// Writes files together. One file takes its place at once, and so needs no record.
+    /// Writes files together. A single file is replaced by one rename, and so needs no record.
     pub(super) fn replace_some(&mut self, changes: &[NewFile]) -> io::Result<()>
         ensures failures { self.new.failures ≡ self.old.failures }
         ensures locked { self.new.lock ≡ self.old.lock }
@@ -36,8 +36,9 @@ impl<'a, R: Files<File = File> + AllocGlobal + Clone + Drop> RealFolder<'a, R> {
         }
     }
 
-    /// Writes files so that all of them hold their bytes or what they held. Where the record stands on the device, the
-    /// files are saved, and a fault after that is none: whoever is next alone does what is left.
+    /// Writes files together. All of them then hold their bytes, or all hold what they held. Once the record is on the
+    /// device the files are saved. An error after that is not returned: the next command that is alone does what is
+    /// left.
     fn replace_all(&mut self, changes: &[NewFile]) -> io::Result<()>
         ensures failures { self.new.failures ≡ self.old.failures }
         ensures locked { self.new.lock ≡ self.old.lock }
@@ -54,7 +55,8 @@ impl<'a, R: Files<File = File> + AllocGlobal + Clone + Drop> RealFolder<'a, R> {
         Ok(())
     }
 
-    /// The record of a save: this process, and the files in their order. Answers an error where it cannot name a file.
+    /// Returns the record of a save: this process, and the files in their order. It returns an error if the record
+    /// cannot name a file.
     fn record_of(&self, changes: &[NewFile]) -> io::Result<Record>
         ensures process { IfOk result (λ made. made.process ≡ self.now.process) }
         ensures names { IfOk result (λ made. map string_bytes made.names.items
@@ -75,7 +77,7 @@ impl<'a, R: Files<File = File> + AllocGlobal + Clone + Drop> RealFolder<'a, R> {
         })
     }
 
-    /// Writes the parts of files and then their record.
+    /// Writes the parts of files, and then their record.
     fn promise(&self, record: &Record, changes: &[NewFile]) -> io::Result<()> {
         for file in changes {
             self.prepare(file.name.as_str(), file.bytes.as_slice())?;
@@ -85,8 +87,8 @@ impl<'a, R: Files<File = File> + AllocGlobal + Clone + Drop> RealFolder<'a, R> {
         self.place(RECORD_FILE, self.process)
     }
 
-    /// Removes what a save wrote whose record does not stand. A rename may answer an error and be done all the same, so the
-    /// record goes first, and where it does not go the parts stay.
+    /// Removes what a save wrote whose record is not there. A rename may return an error and be done nevertheless, so
+    /// the record is removed first; if it cannot be removed, the parts stay.
     fn give_up(&self, changes: &[NewFile]) {
         if self.remove(RECORD_FILE).is_err() {
             return;
@@ -115,14 +117,14 @@ impl<'a, R: Files<File = File> + AllocGlobal + Clone + Drop> RealFolder<'a, R> {
         fill(self.new_part(name)?, permissions, bytes)
     }
 
-    /// The part of a file, which is made anew: what has its name, a link or a FIFO too, goes first.
+    /// Makes the part of a file anew. Anything that has its name is removed first, a link or a FIFO too.
     fn new_part(&self, name: &str) -> io::Result<File> {
         let part = self.part_of(name, self.process)?;
         unless_missing(fs::remove_file(self.rt, part.as_str()))?;
         File::create_new(self.rt, part.as_str())
     }
 
-    /// Who may do what with the file, where it stands already. Answers an error where it is no plain file.
+    /// Returns the permissions of the file, if it is there already. It returns an error if that is no plain file.
     fn permissions(&self, name: &str) -> io::Result<Option<Permissions>> {
         match fs::symlink_metadata(self.rt, self.path_of(name)?.as_str()) {
             Ok(data) if data.is_file() => Ok(Some(data.permissions())),
@@ -132,8 +134,8 @@ impl<'a, R: Files<File = File> + AllocGlobal + Clone + Drop> RealFolder<'a, R> {
         }
     }
 
-    /// Brings what the folder lists to the device behind a rename from which on the new bytes are seen. So an error is never
-    /// that of want of memory, after which no file has changed.
+    /// Syncs what the folder lists to the device, after a rename from which on the new bytes are seen. So its error
+    /// never says out of memory, after which no file has changed.
     fn confirm(&self) -> io::Result<()> {
         match self.sync() {
             Err(error) if error.kind() == ErrorKind::OutOfMemory => {
@@ -143,7 +145,7 @@ impl<'a, R: Files<File = File> + AllocGlobal + Clone + Drop> RealFolder<'a, R> {
         }
     }
 
-    /// Lets the part of a file that the process with this number wrote take its place.
+    /// Renames the part of a file that the process with this number wrote to the file.
     pub(super) fn place(&self, name: &str, process: u32) -> io::Result<()> {
         let part = self.part_of(name, process)?;
         fs::rename(self.rt, part.as_str(), self.path_of(name)?.as_str())
