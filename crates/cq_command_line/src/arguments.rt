@@ -6,16 +6,16 @@ use clap::builder::ValueParser;
 use clap::{Arg, ArgAction, value_parser};
 use std::alloc::Global;
 
-/// An argument of a command: its name first, its help last.
+/// An argument of a command, with its name first and its help last.
 #[derive(Clone, Copy)]
 pub(crate) enum Argument {
-    /// One that is to be given.
+    /// One that must be given.
     Word(&'static str, &'static str),
-    /// A number below 2^64 that is to be given.
+    /// A number below 2^64 that must be given.
     Number(&'static str, &'static str),
-    /// A number between these two that is to be given.
+    /// A number between these two that must be given.
     Between(&'static str, u64, u64, &'static str),
-    /// Any number of words, none too, behind all others.
+    /// Any number of words, which may be none, after all others.
     Words(&'static str, &'static str),
     /// A flag, which may be left out.
     Flag(&'static str, &'static str),
@@ -23,7 +23,7 @@ pub(crate) enum Argument {
     Option(&'static str, &'static str, &'static str),
 }
 
-/// The argument in the words of `clap`.
+/// Returns the argument as a value of `clap`.
 pub(crate) fn arg<'a>(alloc: Global, argument: Argument) -> Arg<'a>
     ensures { Follows result (rule_for argument) }
 {
@@ -37,7 +37,7 @@ pub(crate) fn arg<'a>(alloc: Global, argument: Argument) -> Arg<'a>
     }
 }
 
-/// An argument that is to be given.
+/// Returns an argument that must be given.
 fn word<'a>(alloc: Global, name: &'a str, help: &'a str) -> Arg<'a>
     ensures { Follows result (word_rule name.entry.now) }
 {
@@ -47,28 +47,28 @@ fn word<'a>(alloc: Global, name: &'a str, help: &'a str) -> Arg<'a>
         .action(ArgAction::Set)
 }
 
-/// A number below 2^64 that is to be given.
+/// Returns a number below 2^64 that must be given.
 fn number<'a>(alloc: Global, name: &'a str, help: &'a str) -> Arg<'a>
     ensures { Follows result (number_rule name.entry.now) }
 {
     word(alloc, name, help).value_parser(value_parser!(u64))
 }
 
-/// A number between these two that is to be given.
+/// Returns a number between these two that must be given.
 fn between<'a>(alloc: Global, name: &'a str, low: u64, high: u64, help: &'a str) -> Arg<'a>
     ensures { Follows result (between_rule name.entry.now low high) }
 {
     word(alloc, name, help).value_parser(ValueParser::unsigned(low, high))
 }
 
-/// Any number of arguments, none too, behind all others.
+/// Returns an argument for any number of words, which may be none, after all others.
 fn words<'a>(alloc: Global, name: &'a str, help: &'a str) -> Arg<'a>
     ensures { Follows result (words_rule name.entry.now) }
 {
     Arg::new(alloc, name).help(help).action(ArgAction::Append)
 }
 
-/// A flag, which may be left out.
+/// Returns a flag, which may be left out.
 fn flag<'a>(alloc: Global, name: &'a str, help: &'a str) -> Arg<'a>
     ensures { Follows result (flag_rule name.entry.now) }
 {
@@ -78,7 +78,7 @@ fn flag<'a>(alloc: Global, name: &'a str, help: &'a str) -> Arg<'a>
         .action(ArgAction::SetTrue)
 }
 
-/// An option with one word as its value, which may be left out.
+/// Returns an option with one word as its value, which may be left out.
 fn option<'a>(alloc: Global, name: &'a str, value_name: &'a str, help: &'a str) -> Arg<'a>
     ensures { Follows result (option_rule name.entry.now) }
 {

@@ -1,4 +1,4 @@
-//! The program's commands and their arguments, in the words of `clap`.
+//! The program's commands and their arguments, as `clap` is given them.
 ghost use Rattle.std.specs.Prelude.{IfOk};
 ghost use Rattle.cq_command_line.specs.CommandLine.{Makes, command_line};
 
@@ -7,7 +7,7 @@ use crate::commands::{Description, commands};
 use clap::Command;
 use std::alloc::{AllocError, Global};
 
-/// The program and its commands.
+/// Returns the program and its commands.
 pub(crate) fn command_line<'a>(alloc: Global) -> Result<Command<'a>, AllocError>
     ensures { IfOk result (λ command. Makes command command_line) }
 {

@@ -16,7 +16,7 @@ pub(crate) struct Description {
     pub arguments: &'static [Argument],
 }
 
-/// The commands with these descriptions.
+/// Returns the commands with these descriptions.
 pub(crate) fn commands<'a>(
     alloc: Global,
     descriptions: &[Description],
@@ -30,7 +30,7 @@ pub(crate) fn commands<'a>(
     Ok(commands)
 }
 
-/// The command with this description.
+/// Returns the command with this description.
 fn command<'a>(alloc: Global, description: &Description) -> Result<Command<'a>, AllocError>
     ensures { IfOk result (λ command. Makes command (command_for description.now)) }
 {
@@ -41,7 +41,7 @@ fn command<'a>(alloc: Global, description: &Description) -> Result<Command<'a>, 
     )
 }
 
-/// The same without its arguments.
+/// Returns the command without its arguments.
 fn bare_command<'a>(alloc: Global, description: &Description) -> Command<'a>
     ensures { Makes result (bare_command description.now) }
 {
@@ -50,7 +50,7 @@ fn bare_command<'a>(alloc: Global, description: &Description) -> Command<'a>
         .after_help(description.after_help)
 }
 
-/// The command with these arguments behind those that it has.
+/// Returns the command with these arguments after those that it has.
 fn with_arguments<'a>(
     alloc: Global,
     mut command: Command<'a>,

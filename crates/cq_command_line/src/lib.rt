@@ -1,7 +1,7 @@
-//! The command line of the program `cq`: the order in its words.
+//! The command line of the program `cq`. `parse` makes an `Order` from its words, and `ParseFault` says why there is
+//! none.
 //!
-//! Nothing is carried out here. What can be wrong with the words is found here, what can be wrong with an order in
-//! `cq_commands`.
+//! Nothing is run here. This crate finds what is wrong with the words; `cq_commands` finds what is wrong with an order.
 #![tactic(auto)]
 
 mod arguments;

@@ -1,4 +1,4 @@
-//! From what `clap` found in the words to an order.
+//! Makes an order from what `clap` found in the words.
 ghost use Rattle.std.specs.Prelude.{◌≡◌, [], ◌∷◌, List, map, option_map, codes, string_bytes, IfOk, IfSome, Ok, Some};
 ghost use Rattle.clap.specs.Words.{found_of, rows_of, subcommand_rows_of};
 ghost use Rattle.cq_command_line.specs.CommandLine.{word_of};
@@ -11,7 +11,7 @@ use std::alloc::{AllocError, Global};
 /// Why what was found is no order.
 #[derive(Debug, Drop)]
 pub(crate) enum OrderFault {
-    /// A growth was refused.
+    /// Out of memory: a growth was refused.
     OutOfMemory,
     /// No command was found, or a value that its order needs is missing.
     NoOrder,
@@ -23,7 +23,7 @@ impl From<AllocError> for OrderFault {
     }
 }
 
-/// The order of the command that the words named.
+/// Returns the order of the command that the words name.
 pub(crate) fn order_met(alloc: Global, matches: &ArgMatches<'_>) -> Result<Order, OrderFault>
     ensures named { IfOk result (λ order.
         option_map (λ met. met.0) (subcommand_rows_of matches.now) ≡ Some (word_of order)) }
@@ -37,7 +37,7 @@ pub(crate) fn order_met(alloc: Global, matches: &ArgMatches<'_>) -> Result<Order
     }
 }
 
-/// The order of the command with this name and these values.
+/// Returns the order of the command with this name and these values.
 fn order_named(alloc: Global, name: &str, values: &ArgMatches<'_>) -> Result<Order, OrderFault>
     ensures named { IfOk result (λ order. name.now ≡ word_of order) }
     ensures values { IfOk result (λ order. TakesValues (rows_of (found_of values.now)) order) }
@@ -81,7 +81,7 @@ fn init_order(alloc: Global, values: &ArgMatches<'_>) -> Result<Order, OrderFaul
     })
 }
 
-/// The settings of a new queue, which are not judged here.
+/// Returns the settings of a new queue, which are not checked here.
 fn init_settings(alloc: Global, values: &ArgMatches<'_>) -> Result<InitSettings, OrderFault>
     ensures { IfOk result (λ settings. AreSettings (rows_of (found_of values.now)) settings) }
 {
@@ -185,7 +185,7 @@ fn race_order(values: &ArgMatches<'_>) -> Result<Order, OrderFault>
     }
 }
 
-/// The word that was given under this name.
+/// Returns the word that was given under this name.
 fn word(alloc: Global, values: &ArgMatches<'_>, name: &str) -> Result<String, OrderFault>
     ensures { IfOk result (λ text. IsWord (rows_of (found_of values.now)) name.now text) }
 {
@@ -195,7 +195,7 @@ fn word(alloc: Global, values: &ArgMatches<'_>, name: &str) -> Result<String, Or
     }
 }
 
-/// The number that was given under this name.
+/// Returns the number that was given under this name.
 fn number(values: &ArgMatches<'_>, name: &str) -> Result<u64, OrderFault>
     ensures { IfOk result (λ given. IsNumber (rows_of (found_of values.now)) name.now given) }
 {
@@ -205,7 +205,7 @@ fn number(values: &ArgMatches<'_>, name: &str) -> Result<u64, OrderFault>
     }
 }
 
-/// All words that were given under this name.
+/// Returns all words that were given under this name.
 fn words(alloc: Global, values: &ArgMatches<'_>, name: &str) -> Result<Vec<String>, OrderFault>
     ensures { IfOk result (λ texts. AreWords (rows_of (found_of values.now)) name.now texts.items) }
 {
@@ -215,7 +215,7 @@ fn words(alloc: Global, values: &ArgMatches<'_>, name: &str) -> Result<Vec<Strin
     }
 }
 
-/// Texts of their own.
+/// Returns owned copies of borrowed texts.
 fn texts(alloc: Global, given: &[&str]) -> Result<Vec<String>, AllocError>
     ensures { IfOk result (λ texts. map string_bytes texts.items ≡ map (λ text. text.now) given.now) }
 {
@@ -226,7 +226,7 @@ fn texts(alloc: Global, given: &[&str]) -> Result<Vec<String>, AllocError>
     Ok(texts)
 }
 
-/// The word that was given under this name, where one was.
+/// Returns the word that was given under this name, if one was.
 fn option(alloc: Global, values: &ArgMatches<'_>, name: &str) -> Result<Option<String>, OrderFault>
     ensures { IfOk result (λ text. IsOption (rows_of (found_of values.now)) name.now text) }
 {
@@ -236,7 +236,7 @@ fn option(alloc: Global, values: &ArgMatches<'_>, name: &str) -> Result<Option<S
     }
 }
 
-/// Whether the flag of this name was given.
+/// Returns whether the flag of this name was given.
 fn flag(values: &ArgMatches<'_>, name: &str) -> bool
     ensures { IsFlag (rows_of (found_of values.now)) name.now result }
 {

@@ -1,4 +1,4 @@
-//! From the words of a command line to an order.
+//! Makes an order from the words of a command line.
 ghost use Rattle.std.specs.Prelude.{◌≡◌, List, ℕ, [], ◌∷◌, map, option_map, string_bytes, codes};
 ghost use Rattle.std.specs.Prelude.{IfOk, IfSome, MatchResult, Some};
 ghost use Rattle.clap.specs.Words.{subcommand_of};
@@ -15,7 +15,7 @@ use std::alloc::{AllocError, Global};
 /// Why the words of a command line are no order.
 #[derive(Debug, Drop)]
 pub enum ParseFault {
-    /// A growth was refused.
+    /// Out of memory: a growth was refused.
     OutOfMemory,
     /// The words are not understood, or ask for help. The error prints the whole text for the user.
     NotUnderstood(Error),
@@ -47,13 +47,14 @@ impl From<AllocError> for ParseFault {
     }
 }
 
-/// The order in the words of a command line, of which the first is the program's name.
+/// Returns the order in the words of a command line. The first word is the program's name.
 ///
-/// Answers `NotUnderstood` where the words are no order, and where they ask for help, and `OutOfMemory` where a growth was refused.
+/// An order is the command that the words name, with the values that they give it, as `clap` reads them. The words of
+/// `echo` give that order, unless out of memory. No contract says that other words are understood where they should be.
 ///
-/// An order is the command that the words name, with the values that they give it, in `clap`'s own
-/// terms. The words of `echo` are that order, or memory is out. That other words are understood
-/// where they should be is in no contract.
+/// Errors:
+/// - `NotUnderstood`: the words are no order, or ask for help.
+/// - `OutOfMemory`: out of memory.
 pub fn parse(alloc: Global, words: &[String]) -> Result<Order, ParseFault>
     // An order is the command that the words name.
     ensures named { IfOk result (λ order.
@@ -68,7 +69,7 @@ pub fn parse(alloc: Global, words: &[String]) -> Result<Order, ParseFault>
     order_in(alloc, &mut command, words)
 }
 
-/// The same over the command line as `clap` knows it.
+/// Returns the order in the words, over the command line as `clap` has it.
 fn order_in<'a>(
     alloc: Global,
     command: &mut Command<'a>,

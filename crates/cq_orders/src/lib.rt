@@ -1,6 +1,7 @@
-//! What the program `cq` can be asked to do, as plain values: nothing is judged here.
+//! The commands of the program `cq` as plain values. Nothing is checked here.
 //!
-//! The words of a command line become an `Order` in `cq_command_line`; `cq_commands` carries it out.
+//! `Order` is a command with its values; that of `init` has its settings in `InitSettings`. `cq_command_line` makes an
+//! `Order` from the words of a command line, and `cq_commands` runs it.
 #![tactic(auto)]
 
 mod order;

@@ -19,9 +19,9 @@ pub enum Order {
     },
     /// Make a queue in a folder.
     Init {
-        /// The folder, which is there.
+        /// The folder, which is there already.
         folder: String,
-        /// What the queue is to be.
+        /// The settings of the queue.
         settings: InitSettings,
     },
     /// Append each line of the input.
@@ -35,9 +35,9 @@ pub enum Order {
     Read {
         /// The folder.
         folder: String,
-        /// From the end on, towards the first message.
+        /// Whether to read from the end towards the first message.
         back: bool,
-        /// The index to begin at, as it was given.
+        /// The index at which to begin, as it was given.
         from: Option<String>,
     },
     /// Take the next message under a name.
@@ -47,14 +47,14 @@ pub enum Order {
         /// The name.
         name: String,
     },
-    /// Let reads pass over the cycles before one.
+    /// Make reads and takes skip the cycles before one.
     DropBefore {
         /// The folder.
         folder: String,
         /// The cycle.
         cycle: u64,
     },
-    /// Say of each image what it holds, or what is wrong with it.
+    /// Print of each image what it holds, or its fault.
     Check {
         /// The folder.
         folder: String,
@@ -66,28 +66,28 @@ pub enum Order {
         /// The name of the image's file.
         file: String,
     },
-    /// Print the messages in front of what is wrong with an image, and what that is.
+    /// Print the messages before the fault of an image, and the fault.
     Salvage {
         /// The folder.
         folder: String,
         /// The name of the image's file.
         file: String,
     },
-    /// Make a folder of version 1 one of version 2.
+    /// Make a folder of version 1 into one of version 2.
     Migrate {
         /// The folder.
         folder: String,
     },
     /// Let two appenders and two tailers share a new queue, each in a thread of its own.
     Race {
-        /// How many messages each of the two appends.
+        /// The number of messages that each of the two appends.
         messages: u32,
     },
 }
 
 impl Order {
-    /// The path of the folder that the order is for; `None` for `echo`, `cycle` and `race`, which
-    /// are for no folder.
+    /// Returns the path of the folder that the order is for; `None` for `echo`, `cycle` and `race`, which are for no
+    /// folder.
     pub fn folder(&self) -> Option<&str>
         ensures { option_map (λ path. path.now) result ≡ folder_of self.now }
     {

@@ -7,9 +7,9 @@ pub struct InitSettings {
     pub epoch: u64,
     /// The cells of a cycle, of four bytes each.
     pub cells: u64,
-    /// The entries of a table of the index.
+    /// The entries of an index table.
     pub index_count: u64,
-    /// One message in so many has an entry in the index.
+    /// One message in this many has an entry in the index.
     pub index_spacing: u64,
     /// How many cycles may begin.
     pub cycles: u64,

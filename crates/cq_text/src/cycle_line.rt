@@ -12,12 +12,15 @@ use cq_cycle::{Index, Roll, cycle_of, name_of, roll_named};
 use std::alloc::{AllocError, Global};
 use std::io::Write;
 
-/// The command `cycle`: writes `CYCLE NAME INDEX`, the number of the cycle in which a moment lies, its name and the index
-/// of its first message. `epoch` and `moment` are in milliseconds of Unix time.
+/// The command `cycle`: writes `CYCLE NAME INDEX`, the number of the cycle in which a moment lies, its name and the
+/// index of its first message. `epoch` and `moment` are in milliseconds of Unix time.
 ///
-/// The first of these faults is answered: `BadConfig` where the word names no roll, `BadMoment` where the moment lies in no
-/// cycle, `WriteFault` where the writer fails. `OutOfMemory` can come at any growth. Nothing is written before a fault other
-/// than `WriteFault`, and before that one a beginning of the line.
+/// Errors, in this order:
+/// - `BadConfig`: the word names no roll.
+/// - `BadMoment`: the moment lies in no cycle.
+/// - `WriteFault`: the writer failed. A beginning of the line was written.
+///
+/// `OutOfMemory` can come at any growth. Nothing is written before an error other than `WriteFault`.
 pub fn cycle<W: Write>(
     alloc: Global,
     roll: &str,
@@ -38,7 +41,7 @@ pub fn cycle<W: Write>(
     print(output, line.as_bytes())
 }
 
-/// The line of the cycle in which a moment lies.
+/// Returns the line of the cycle in which a moment lies.
 fn line_of(alloc: Global, roll: Roll, epoch: u64, moment: u64) -> Result<String, ToolFault>
     ensures line { IfOk result (λ line. IsMoment roll epoch moment × IsLineOf roll epoch moment (string_bytes line)) }
     ensures fault { IfErr result (λ fault. (fault ≢ ToolFault.OutOfMemory)
@@ -51,7 +54,7 @@ fn line_of(alloc: Global, roll: Roll, epoch: u64, moment: u64) -> Result<String,
     Ok(spelled(alloc, cycle, name.as_str(), Index::new(cycle, 0))?)
 }
 
-/// A number, a name and an index, with a space between, and a line feed.
+/// Returns a number, a name and an index, with a space between, and a line feed.
 fn spelled(alloc: Global, cycle: u32, name: &str, index: Index) -> Result<String, AllocError>
     ensures { IfOk result (λ text. string_bytes text
         ≡ decimal cycle ++ (codes " " ++ (name.now ++ (codes " " ++ (index_text index ++ codes "\n"))))) }

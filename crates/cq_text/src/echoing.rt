@@ -16,23 +16,20 @@ use std::io::{Read, Write};
 const MOST_BYTES: usize = 129_000;
 
 /// The command `echo`: stores each line of the input as a data record, writes `NUMBER TEXT` for each record, numbered
-/// from 0, and gives how many there are.
+/// from 0, and returns how many there are. A line ends with a line feed, and a last line without one counts. The whole
+/// input is read first.
 ///
-/// Lines end with a line feed, and a last line without it counts. The whole input is read first; the first of these
-/// faults is answered:
+/// Errors, in this order:
+/// - `ReadFault`: the reader failed, or was read 16,777,216 times without an end.
+/// - `InputTooLong`: the input has more than 129,000 bytes.
+/// - for the lines in order, counted from 1: `TooMany` from the 1,001st on, `Refused` as `BadRoom` if a line is empty,
+///   `TooLong` above 128 bytes.
+/// - `WriteFault`: the writer failed. A beginning of the text was written.
 ///
-/// - `ReadFault` where the reader fails, or was read 16,777,216 times without an end;
-/// - `InputTooLong` above 129,000 bytes;
-/// - for the lines in order, counted from 1: `TooMany` from the 1,001st on, `Refused` as `BadRoom` where a line is
-///   empty, `TooLong` above 128 bytes;
-/// - `WriteFault` where the writer fails.
+/// `OutOfMemory` can come at any growth. Nothing is written before an error other than `WriteFault`.
 ///
-/// `OutOfMemory` can come at any growth. Nothing is written before a fault other than `WriteFault`, and before that one
-/// a beginning of the text.
-///
-/// Which line or length is refused, and how, is a function of the input. `WriteFault` comes only
-/// for an input that is accepted. Contracts speak of bytes where the reader and the writer are in
-/// memory.
+/// Which line or length is refused, and how, is a function of the input. `WriteFault` comes only for an input that is
+/// accepted. Contracts speak of bytes if the reader and the writer are in memory.
 pub fn echo<R: Read, W: Write>(
     alloc: Global,
     input: &mut R,
@@ -45,7 +42,7 @@ pub fn echo<R: Read, W: Write>(
     ensures written { OnOk result (IfSome (R.remaining input.old) (λ bytes.
         Appends (W.contents output.old) (W.contents output.new) (echo_text (input_lines bytes)))) }
 
-    // A fault of the input is the one that the input has, and the output is tried for an accepted input alone.
+    // A fault of the input is the one that the input has, and only for an accepted input is anything written.
     ensures fault { IfErr result (λ fault. IfSome (R.remaining input.old) (λ bytes. IsEchoFault bytes fault)) }
     ensures silent { IfErr result (λ fault. fault ≢ ToolFault.WriteFault
         → Keeps (W.contents output.old) (W.contents output.new)) }

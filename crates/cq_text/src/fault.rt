@@ -6,10 +6,10 @@ use cq_image::ImageFault;
 use cq_model::Refusal;
 use std::alloc::{AllocError, AllocFailed};
 
-/// Why a command is not done. It prints the text that stands behind `cq: ` on standard error. Lines are counted from 1.
+/// Why a command failed. It prints the text that follows `cq: ` on standard error. Lines are counted from 1.
 #[derive(Debug, Drop, thiserror::Error)]
 pub enum ToolFault {
-    /// A growth was refused.
+    /// Out of memory: a growth was refused.
     #[error("want of memory")]
     OutOfMemory,
     /// Standard input could not be read, or did not end.
@@ -18,7 +18,7 @@ pub enum ToolFault {
     /// The input has more bytes than the command takes.
     #[error("input too long")]
     InputTooLong,
-    /// The line comes after the last one that the command takes.
+    /// The line is past the last one that the command takes.
     #[error("line {0}: too many")]
     TooMany(u64),
     /// The message of the line was refused.
@@ -42,7 +42,7 @@ pub enum ToolFault {
     /// The folder has a `queue.cqc` already.
     #[error("queue there already")]
     QueueThereAlready,
-    /// This line of `queue.cqc` is none of its format.
+    /// This line of `queue.cqc` is not of its format.
     #[error("queue.cqc: line {0}")]
     ConfigLine(u64),
     /// The file's name ends with `.cqi` and names no cycle.
@@ -54,7 +54,7 @@ pub enum ToolFault {
     /// The file is not the image of its cycle.
     #[error("{0}: {1}")]
     FaultyImage(String, ImageFault),
-    /// The image is open and not the last, or ended and the last.
+    /// The image is open but not the last, or ended but the last.
     #[error("{0}: wrong end")]
     WrongEnd(String),
     /// An index is not 16 lower-case hexadecimal digits.
@@ -63,25 +63,25 @@ pub enum ToolFault {
     /// A measure is outside the limits of a shape.
     #[error("BadShape")]
     BadShape,
-    /// No queue of these settings holds what the images and the positions of the names say.
+    /// No queue with these settings holds what the images and the positions of the names say.
     #[error("BadContents")]
     BadContents,
     /// The queue declares no such name.
     #[error("NoSuchName")]
     NoSuchName,
-    /// One of the images that were looked at is faulty.
+    /// One of the images that were checked is faulty.
     #[error("images at fault")]
     ImagesAtFault,
-    /// The settings are outside the limits, or name no roll.
+    /// The settings are outside the limits, or the word names no roll.
     #[error("BadConfig")]
     BadConfig,
-    /// The folder is of version 1, and no command changes such a one but that which makes version 2 of it.
+    /// The folder is of version 1, which no command changes except the one that makes it version 2.
     #[error("OldVersion")]
     OldVersion,
     /// The moment lies in no cycle.
     #[error("BadMoment")]
     BadMoment,
-    /// A worker of a race gave up, as where the gate did not let it in.
+    /// A worker of a race gave up, for example because the gate refused it.
     #[error("gave up")]
     GaveUp,
     /// Standard output could not be written.

@@ -6,20 +6,23 @@ use crate::fault::ToolFault;
 use std::alloc::Global;
 use std::io::{ErrorKind, Read};
 
-/// How often a reader is read before it counts as one that does not end.
+/// The number of reads after which a reader counts as one that does not end.
 const MOST_READS: u32 = 16_777_216;
 
-/// The bytes that are read at once.
+/// The size of one read, in bytes.
 const BUFFER_BYTES: usize = 4096;
 
-/// All that the reader has left, up to `most` bytes.
+/// Returns all that the reader has left, at most `most` bytes. The reader is read to its end also if it has more; the
+/// bytes past the limit are not stored.
 ///
-/// The reader is read to its end also where it has more than that: then the answer is `InputTooLong`, and the bytes past
-/// the limit take no memory. `ReadFault` is answered at the first error but an interruption, and where the reader was
-/// read `MOST_READS` times without an end.
+/// Errors:
+/// - `ReadFault`: a read failed, other than by an interruption, or the reader was read `MOST_READS` times without an
+///   end.
+/// - `InputTooLong`: the reader had more than `most` bytes.
+/// - `OutOfMemory`: out of memory.
 ///
-/// Contracts speak of bytes where the reader is in memory. It is at its end where its bytes are
-/// answered, and `InputTooLong` comes only where it had more than `most` bytes.
+/// Contracts speak of bytes if the reader is in memory. It is at its end if its bytes are returned, and `InputTooLong`
+/// comes only if it had more than `most` bytes.
 pub fn read_input<R: Read>(alloc: Global, input: &mut R, most: usize) -> Result<Vec<u8>, ToolFault>
     ensures bytes { IfOk result (λ bytes. Consumes (R.remaining input.old) (R.remaining input.new) bytes.items) }
     ensures whole { IfOk result (λ _. IsAtEnd (R.remaining input.new)) }

@@ -3,7 +3,7 @@
 ghost use Rattle.std.specs.Prelude.{◌≡◌, ◌<◌, ℕ, List, [], ◌∷◌, ◌++◌, All, length};
 ghost use Rattle.cq_text.specs.Lines.{IsLine, input_lines, text_of};
 
-/// A text that was made of lines has these lines again, and what stands behind the last line feed is one line more.
+/// A text that was made of lines has these lines again. What follows the last line feed is one line more.
 pub fn lines_are_read_back()
     ensures ended { (lines : List (List ℕ)) → All IsLine lines → input_lines (text_of lines) ≡ lines }
     ensures unended { (lines : List (List ℕ)) (last : List ℕ) → All IsLine lines → IsLine last → 0 < length last

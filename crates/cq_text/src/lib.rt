@@ -1,7 +1,15 @@
-//! What the program `cq` reads and prints that needs neither a folder nor a queue, and the faults of its commands.
+//! The parts of the program `cq` that need neither a folder nor a queue: reading input, printing, and the commands on
+//! texts alone. It also has the errors of all commands.
 //!
-//! An input is read whole and cut into lines; `echo` and `cycle` are commands on texts alone; `dump_text` spells the records
-//! of an image, and `salvage_text` what is saved of one.
+//! | item | what it is for |
+//! |---|---|
+//! | `read_input`, `InputLines` | read an input whole, and cut it into lines |
+//! | `print` | writes a text |
+//! | `echo`, `cycle` | commands on texts alone |
+//! | `dump_text`, `dump_text_by_layout` | the records of an image as text |
+//! | `salvage_text` | what can be read of a damaged image, as text |
+//! | `ToolFault` | why a command failed |
+//! | `laws` | laws of the texts |
 #![tactic(auto)]
 
 mod cycle_line;

@@ -1,16 +1,16 @@
 ghost use Rattle.std.specs.Prelude.{◌≡◌, ◌≢◌, ℕ, ◌<◌, ◌∷◌, length, slice_index, IfSome, IfNone};
 ghost use Rattle.cq_text.specs.Lines.{input_lines};
 
-/// The lines of an input, in order. Each ends with a line feed, a last one without it counts, and all other bytes are
+/// The lines of an input, in order. Each ends with a line feed, and a last line without one counts. All other bytes are
 /// kept: a carriage return too, which std's `lines` would drop.
 #[derive(Drop)]
 pub struct InputLines<'a> {
-    /// What is still to come.
+    /// The bytes of the lines still to come.
     pub rest: &'a [u8],
 }
 
 impl<'a> InputLines<'a> {
-    /// The lines of these bytes.
+    /// Makes the iterator over the lines of these bytes.
     pub fn of(bytes: &'a [u8]) -> InputLines<'a>
         ensures { result.rest ≡ bytes.entry }
     {
@@ -38,7 +38,7 @@ impl<'a> Iterator for InputLines<'a> {
     }
 }
 
-/// The first line of some bytes, and what follows it.
+/// Returns the first line of some bytes, and what follows it.
 fn split_line(bytes: &[u8]) -> (&[u8], &[u8])
     requires { 0 < length bytes.now }
     ensures { input_lines bytes.now ≡ result.0.now ∷ input_lines result.1.now }
@@ -49,7 +49,7 @@ fn split_line(bytes: &[u8]) -> (&[u8], &[u8])
     }
 }
 
-/// Where the first line feed stands.
+/// Returns the place of the first line feed.
 fn line_feed_in(bytes: &[u8]) -> Option<usize>
     ensures found { IfSome result (λ at. (at < length bytes.now) × (slice_index bytes.now at ≡ 10)
         × ((k : ℕ) → k < at → slice_index bytes.now k ≢ 10)) }

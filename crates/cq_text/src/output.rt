@@ -5,11 +5,10 @@ ghost use Rattle.cq_text.specs.Output.{AppendsBeginning};
 use crate::fault::ToolFault;
 use std::io::{ErrorKind, Write};
 
-/// How often a write may be interrupted before the writer counts as one that does not write.
+/// The number of interruptions of a write after which the writer counts as one that does not write.
 const MOST_INTERRUPTIONS: usize = 16_777_216;
 
-/// Writes a text, and all that the writer still keeps back. After a fault a beginning of the text was written, and nothing
-/// else.
+/// Writes a text, and flushes the writer. After an error a beginning of the text was written, and nothing else.
 pub fn print<W: Write>(output: &mut W, text: &[u8]) -> Result<(), ToolFault>
     ensures written { OnOk result (Appends (W.contents output.old) (W.contents output.new) text.now) }
     ensures fault { IfErr result (λ fault. fault ≡ ToolFault.WriteFault) }
@@ -19,7 +18,7 @@ pub fn print<W: Write>(output: &mut W, text: &[u8]) -> Result<(), ToolFault>
     output.flush().map_err(|_| ToolFault::WriteFault)
 }
 
-/// Writes a text. It is a loop of its own since `write_all` of `std` does not say what was written before its error.
+/// Writes a text. It has its own loop since `write_all` of `std` does not say what was written before its error.
 fn write_whole<W: Write>(output: &mut W, text: &[u8]) -> Result<(), ToolFault>
     ensures written { OnOk result (Appends (W.contents output.old) (W.contents output.new) text.now) }
     ensures fault { IfErr result (λ fault. fault ≡ ToolFault.WriteFault) }
