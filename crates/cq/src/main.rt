@@ -1,7 +1,7 @@
-//! The program `cq`: hands its words and streams to `cq_tools`, and ends as that says.
+//! The program `cq`: passes its command line and streams to `cq_tools`, and ends with the status that it returns.
 //!
-//! It ends with status 0 where the command was done, 1 after a fault and 2 where the words are not understood. What is
-//! wrong goes to standard error.
+//! The status is 0 if the command was done, 1 after an error, and 2 if the command line is not understood. Errors go to
+//! standard error.
 #![tactic(auto)]
 
 use std::process::ExitCode;
@@ -13,7 +13,7 @@ fn main(rt: HostRuntime) -> ExitCode {
     ExitCode::from(cq_tools::status(&rt, &rt, words(&rt), process))
 }
 
-/// The words of the command line, of which the first names the program.
+/// Returns the words of the command line. The first is the program's name.
 fn words<R: AllocGlobal + Env>(rt: &R) -> io::Result<Vec<String>> {
     Ok(env::args(rt)?.collect(rt.alloc())?)
 }

@@ -1,14 +1,14 @@
-/// Stands before and behind each call of the workers of a race. Workers 0 and 1 append, 2 and 3 read, and each numbers its
-/// calls from 0.
+/// Is called before and after each call of the workers of a race. Workers 0 and 1 append, 2 and 3 read. Each numbers
+/// its calls from 0.
 pub trait Gate {
-    /// Whether a worker may make its next call, which has this number. Where it may not, the race is given up.
+    /// Returns whether a worker may make its next call, which has this number. If not, the race is given up.
     fn enter(&self, worker: usize, call: u64) -> bool;
 
-    /// Is told that the call has been answered.
+    /// Is called when the call has returned.
     fn answered(&self, worker: usize, call: u64);
 }
 
-/// A gate that lets everybody in.
+/// A gate that lets every call pass.
 #[derive(Drop)]
 pub struct OpenGate;
 

@@ -1,6 +1,7 @@
-//! A race over one queue: two appenders and two tailers, each in a thread of its own, and what came of it.
+//! The command `race`: two appenders and two tailers share one queue, each in a thread of its own.
 //!
-//! A `Gate` stands before each call of a worker: a test makes them wait for one another there.
+//! `race` runs it and prints what each worker did. A `Gate` is called before each call of a worker, so a test can make
+//! workers wait for one another. `OpenGate` lets every call pass.
 #![tactic(auto)]
 
 mod gate;

@@ -1,11 +1,11 @@
-//! What is appended in a race, and what is counted of what was read.
+//! The messages that are appended in a race, and the counts of what was read.
 ghost use Rattle.std.specs.Prelude.{◌≡◌, ◌↔◌, ◌<◌, ◌++◌, ◌∷◌, List, ℕ, IfOk, IsTrue, length, slice_index_or, string_bytes, []};
 ghost use Rattle.cq_race.specs.Races.{IsInOrder, IsInOrderForBoth, IsTally, message_of, messages_of, tally_text};
 
 use cq_model::{Items, Message};
 use std::alloc::{AllocError, Global};
 
-/// The first messages of a writer.
+/// Returns the first messages of a writer.
 fn messages_of(alloc: Global, writer: usize, count: u32) -> Result<Vec<Message>, AllocError>
     ensures { IfOk result (λ messages. messages.items ≡ messages_of writer count) }
 {
@@ -17,7 +17,7 @@ fn messages_of(alloc: Global, writer: usize, count: u32) -> Result<Vec<Message>,
     Ok(messages)
 }
 
-/// Message `number` of a writer.
+/// Returns message `number` of a writer.
 pub(crate) fn message_of(alloc: Global, writer: usize, number: u32) -> Result<Message, AllocError>
     ensures { IfOk result (λ message. message ≡ message_of writer number) }
 {
@@ -25,7 +25,7 @@ pub(crate) fn message_of(alloc: Global, writer: usize, number: u32) -> Result<Me
     Ok(Items::new(text.into_bytes()))
 }
 
-/// The lines that tell what two readers read, where each writer was to append so many messages.
+/// Returns the lines that say what two readers read, if each writer was to append `count` messages.
 pub(crate) fn tally_text(
     alloc: Global,
     count: u32,
@@ -39,7 +39,7 @@ pub(crate) fn tally_text(
     spelled(alloc, by_zero, by_one, first.len(), second.len())
 }
 
-/// The lines of how many messages of each writer were read in order, and of how many each reader read.
+/// Returns the lines of how many messages of each writer were read in order, and of how many each reader read.
 fn spelled(
     alloc: Global,
     by_zero: usize,
@@ -54,14 +54,14 @@ fn spelled(
     )
 }
 
-/// How many of a writer's messages, from the first on, both readers read in this order.
+/// Counts the messages of a writer, from the first on, that both readers read in this order.
 fn in_order_for_both(messages: &[Message], first: &[Message], second: &[Message]) -> usize
     ensures { IsInOrderForBoth messages.now first.now second.now result }
 {
     in_order(messages, first).min(in_order(messages, second))
 }
 
-/// How many of a writer's messages, from the first on, were read in this order.
+/// Counts the messages of a writer, from the first on, that were read in this order.
 fn in_order(messages: &[Message], read: &[Message]) -> usize
     ensures { IsInOrder messages.now read.now result }
 {
@@ -72,7 +72,7 @@ fn in_order(messages: &[Message], read: &[Message]) -> usize
     count
 }
 
-/// The same where this was read behind what was counted.
+/// Returns the count once these bytes too were read, after those that were counted.
 fn counted(messages: &[Message], count: usize, bytes: &[u8]) -> usize
     ensures { (read : List (List ℕ)) → IsInOrder messages.now read count
         → IsInOrder messages.now (read ++ bytes.now ∷ []) result }
@@ -84,7 +84,7 @@ fn counted(messages: &[Message], count: usize, bytes: &[u8]) -> usize
     }
 }
 
-/// Whether these bytes are the message at this place.
+/// Returns whether these bytes are the message at this place.
 fn is_message(messages: &[Message], place: usize, bytes: &[u8]) -> bool
     ensures { IsTrue result ↔ (place < length messages.now) × (slice_index_or messages.now place [] ≡ bytes.now) }
 {

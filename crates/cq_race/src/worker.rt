@@ -12,15 +12,15 @@ use std::alloc::{AllocError, AllocFailed, Global};
 use std::sync::atomic::{AtomicBool, Ordering};
 use std::thread::yield_now;
 
-/// The moment of each append, in milliseconds of Unix time: all messages stand in one cycle.
+/// The moment of each append, in milliseconds of Unix time: all messages are in one cycle.
 pub(crate) const MOMENT: u64 = 0;
 
 /// Why a worker ended early.
 #[derive(Clone, Copy, Debug, PartialEq, Eq)]
 pub(crate) enum Ending {
-    /// It was not let in, another worker had ended early, its calls were used up, or a message was refused.
+    /// The gate did not let it pass, another worker had ended early, its calls were used up, or a message was refused.
     GaveUp,
-    /// It found no memory.
+    /// It was out of memory.
     OutOfMemory,
 }
 
@@ -56,7 +56,7 @@ pub(crate) struct Worker<'a, G> {
 }
 
 impl<'a, G: Gate> Worker<'a, G> {
-    /// A worker that has made no call.
+    /// Makes a worker that has made no call.
     pub(crate) fn new(number: usize, gate: &'a G, ended: &'a AtomicBool) -> Worker<'a, G>
         ensures number { result.number ≡ number }
         ensures next { result.next ≡ 0 }
@@ -69,8 +69,10 @@ impl<'a, G: Gate> Worker<'a, G> {
         }
     }
 
-    /// Asks the gate whether the next call may be made. Answers `GaveUp` where it may not, where another worker has ended
-    /// early, and where no number is left behind that of the call.
+    /// Asks the gate whether the next call may be made.
+    ///
+    /// Errors:
+    /// - `GaveUp`: the gate refuses, another worker has ended early, or no number is left after that of the call.
     fn enter(&self) -> Result<(), Ending>
         ensures left { OnOk result (self.now.next + 1 < 2 ^ 64) }
         ensures err { IfErr result (λ ending. ending ≡ Ending.GaveUp) }
@@ -84,7 +86,7 @@ impl<'a, G: Gate> Worker<'a, G> {
         Ok(())
     }
 
-    /// Tells the gate that the call was answered, and goes on to the next one.
+    /// Calls the gate after a call has returned, and goes on to the next one.
     fn answered(&mut self)
         requires { self.old.next + 1 < 2 ^ 64 }
         ensures number { self.new.number ≡ self.old.number }
@@ -94,7 +96,7 @@ impl<'a, G: Gate> Worker<'a, G> {
         self.next += 1;
     }
 
-    /// Appends a message, and tries again where another caller writes.
+    /// Appends a message, and tries again while another caller writes.
     fn append_one(
         &mut self,
         queue: &Queue,
@@ -118,7 +120,7 @@ impl<'a, G: Gate> Worker<'a, G> {
         Err(Ending::GaveUp)
     }
 
-    /// Reads the next message, and looks again where none has come.
+    /// Reads the next message, and reads again while none has come.
     fn read_one(
         &mut self,
         alloc: Global,
@@ -141,7 +143,7 @@ impl<'a, G: Gate> Worker<'a, G> {
         Err(Ending::GaveUp)
     }
 
-    /// Appends so many messages of its own.
+    /// Appends `count` messages of its own.
     pub(crate) fn append_all(
         &mut self,
         alloc: Global,
@@ -158,7 +160,7 @@ impl<'a, G: Gate> Worker<'a, G> {
         Ok(())
     }
 
-    /// Reads so many messages.
+    /// Reads `count` messages.
     pub(crate) fn read_all(
         &mut self,
         alloc: Global,
@@ -177,7 +179,7 @@ impl<'a, G: Gate> Worker<'a, G> {
     }
 }
 
-/// Ends the other workers where this one ended early.
+/// Ends the other workers if this one ended early.
 pub(crate) fn end_others<T>(outcome: Result<T, Ending>, ended: &AtomicBool) -> Result<T, Ending>
     ensures { result ≡ outcome }
 {

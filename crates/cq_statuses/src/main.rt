@@ -1,5 +1,5 @@
-//! Starts of the program `cq` one after another, over a folder of the system with a queue: what each prints, what it says is
-//! wrong, and the status that it ends with, all on standard output.
+//! Starts the program `cq` several times, over a folder of the system with a queue. All that each start prints, its
+//! errors and its status go to standard output.
 #![tactic(auto)]
 
 use std::alloc::AllocError;
@@ -10,7 +10,7 @@ use std::process::{self, ExitCode};
 use std::rt::Files;
 use std::thread::Threads;
 
-/// The words of each start, behind the program's name.
+/// The words of each start, after the program's name.
 const STARTS: [&[&str]; 21] = [
     &["read", "."],
     &["take", ".", "reader"],
@@ -35,7 +35,7 @@ const STARTS: [&[&str]; 21] = [
     &["race", "1001"],
 ];
 
-/// Standard output, which takes what is wrong.
+/// Standard output, to which errors go.
 #[derive(Drop)]
 struct OnOutput {
     output: Stdout,
@@ -63,7 +63,7 @@ fn main(rt: HostRuntime) -> ExitCode {
     ExitCode::from(status)
 }
 
-/// Starts the program with these words, and tells them and its status.
+/// Starts the program with these words, and prints them and its status.
 fn start<R>(rt: &R, errors: &OnOutput, words: &[&str], process: u32) -> u8
 where
     R: AllocGlobal + Files<File = File> + Input + Print + Threads + Sync + Clone + Drop,
@@ -79,7 +79,7 @@ where
     status
 }
 
-/// The words of a command line: the program's name, and these.
+/// Returns the words of a command line: the program's name, and these.
 fn command_line<R: AllocGlobal>(rt: &R, words: &[&str]) -> Result<Vec<String>, AllocError> {
     let alloc = rt.alloc();
     let mut line = Vec::new(alloc);

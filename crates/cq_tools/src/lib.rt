@@ -1,7 +1,16 @@
-//! The program `cq` as a library: what its words ask for, the commands that do it, and the folders that they work on, with the
-//! text of a queue's configuration.
+//! The program `cq` as a library. The program itself only passes in its command line and its streams.
 //!
-//! The program itself only hands in its words and streams.
+//! | item | what it is for |
+//! |---|---|
+//! | `status`, `DONE`, `FAULT`, `NOT_UNDERSTOOD` | run a whole start of the program, and its exit statuses |
+//! | `parse`, `ParseFault` | make an `Order` from the words of a command line |
+//! | `Order`, `InitSettings` | a command with its values |
+//! | `run`, `echo`, `race` | run commands |
+//! | `ToolFault` | why a command failed |
+//! | `Folder`, `RealFolder`, `MemoryFolder`, `FolderFault` | the folders that commands work on |
+//! | `read_config`, `write_config`, `SavedConfig`, `ConfigFault` | the text of a queue's configuration |
+//! | `dump_text` | the records of an image as text |
+//! | `Gate`, `OpenGate` | what `race` calls before and after each call of a worker |
 #![tactic(auto)]
 
 mod starting;

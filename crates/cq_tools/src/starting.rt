@@ -1,4 +1,4 @@
-//! A start of the program: from its words to its exit status.
+//! A start of the program: from its command line to its exit status.
 
 ghost use Rattle.std.specs.Prelude.{◌≡◌};
 ghost use Rattle.cq_orders.specs.OrderFolder.{IsRace};
@@ -16,17 +16,17 @@ use std::thread::Threads;
 /// The command was done.
 pub const DONE: u8 = 0;
 
-/// The command met a fault.
+/// The command failed.
 pub const FAULT: u8 = 1;
 
-/// The words are not understood.
+/// The command line is not understood.
 pub const NOT_UNDERSTOOD: u8 = 2;
 
-/// Does what the words of a command line ask for, as the process with this number, over the folder that they name and the
-/// standard streams. Says in `errors` what is wrong, and gives the exit status.
+/// Runs the command in the words of a command line, as the process with this number, over the folder that they name and
+/// the standard streams. It prints errors to `errors`, and returns the exit status.
 ///
-/// That a fault of a command gives status 1 is proved, on a private function. How words, folder,
-/// streams and statuses come together is only tested.
+/// It is proved, on a private function, that a command's error gives status 1. How words, folder, streams and statuses
+/// come together is only tested.
 pub fn status<R, E>(rt: &R, errors: &E, words: io::Result<Vec<String>>, process: u32) -> u8
 where
     R: AllocGlobal + Files<File = File> + Input + Print + Threads + Sync + Clone + Drop,
@@ -54,7 +54,7 @@ where
     }
 }
 
-/// Says what is wrong, and gives the exit status.
+/// Prints the error, and returns the exit status.
 fn fault<E: Eprint>(errors: &E, fault: ToolFault) -> u8
     ensures { result ≡ FAULT }
 {
@@ -62,7 +62,7 @@ fn fault<E: Eprint>(errors: &E, fault: ToolFault) -> u8
     FAULT
 }
 
-/// Does what is asked for, over the folder that is named and the standard streams.
+/// Runs an order, over the folder that it names and the standard streams.
 fn run<R: AllocGlobal + Files<File = File> + Input + Print + Threads + Sync + Clone + Drop>(
     rt: &R,
     process: u32,
@@ -74,7 +74,7 @@ fn run<R: AllocGlobal + Files<File = File> + Input + Print + Threads + Sync + Cl
     }
 }
 
-/// The same of an order for one caller.
+/// Runs an order for one caller.
 fn run_alone<R: AllocGlobal + Files<File = File> + Input + Print + Clone + Drop>(
     rt: &R,
     process: u32,
