@@ -17,16 +17,16 @@ use cq_text::{ToolFault, print};
 use std::alloc::{AllocError, Global};
 use std::io::Write;
 
-/// The file in which a queue's settings and positions are kept.
+/// The file that keeps a queue's settings and positions.
 pub const CONFIG_FILE: &str = "queue.cqc";
 
-/// How the names of images end.
+/// The ending of the names of images.
 pub(crate) const IMAGE_ENDING: &str = ".cqi";
 
 /// The most bytes of a file that a command reads, and of the input that `write` takes.
 pub const MOST_FILE_BYTES: usize = 8_388_608;
 
-/// Begins a command, and gives the names of the folder's files.
+/// Begins a command, and returns the names of the folder's files.
 pub(crate) fn listed<F: Folder>(
     alloc: Global,
     folder: &mut F,
@@ -48,7 +48,7 @@ pub(crate) fn listed<F: Folder>(
     }
 }
 
-/// The fault of a folder that is not listed.
+/// Returns the error for a folder that could not be listed.
 fn list_fault(fault: FolderFault) -> ToolFault
     ensures fault { IsListFault result }
     ensures device { IsDeviceFault result → fault ≢ FolderFault.OutOfMemory }
@@ -59,14 +59,14 @@ fn list_fault(fault: FolderFault) -> ToolFault
     }
 }
 
-/// Whether a file has this name.
+/// Returns whether a file has this name.
 pub fn has_name(names: &[String], name: &str) -> bool
     ensures { result ≡ list_any (λ listed. bytes_eq (string_bytes listed) name.now) names.now }
 {
     names.iter().any(|listed| listed.as_str() == name)
 }
 
-/// The bytes of a file that was listed. One that is gone since is a file fault.
+/// Returns the bytes of a file that was listed. If it is gone since, the error is `FileFault`.
 pub(crate) fn read_file<F: Folder>(
     alloc: Global,
     folder: &mut F,
@@ -91,10 +91,11 @@ pub(crate) fn read_file<F: Folder>(
     }
 }
 
-/// Makes these bytes the whole file of that name.
+/// Writes a whole file: its bytes are then these. No other file changes.
 ///
-/// Answers `FileFault` with that name where the folder does not write it, and then the file has all of these bytes or is as it
-/// was; and `OutOfMemory`, after which it is as it was. No other file changes.
+/// Errors:
+/// - `FileFault` with that name: the folder could not write it. The file has all of these bytes, or is as it was.
+/// - `OutOfMemory`: out of memory. The file is as it was.
 pub fn write_file<F: Folder>(
     alloc: Global,
     folder: &mut F,
@@ -111,7 +112,7 @@ pub fn write_file<F: Folder>(
     ensures counted { CountsFaults (F.failed folder.old) (F.failed folder.new) result }
     ensures inside { F.entered folder.new ≡ F.entered folder.old }
 {
-    // Made before the file is written: want of memory then leaves it as it was.
+    // Copied before the file is written, so that after `OutOfMemory` it is as it was.
     let file = String::from_str(alloc, name)?;
     match folder.write(name, bytes) {
         Ok(()) => Ok(()),
@@ -119,7 +120,7 @@ pub fn write_file<F: Folder>(
     }
 }
 
-/// Makes the bytes of each of these the whole file of its name, together. A fault is told with the name of the first.
+/// Writes these whole files together. An error names the first of them.
 pub(crate) fn save_files<F: Folder>(
     alloc: Global,
     folder: &mut F,
@@ -143,7 +144,8 @@ pub(crate) fn save_files<F: Folder>(
     }
 }
 
-/// Writes a text as `print` does, for a command that is out of the folder: no other command waits while the text is read.
+/// Writes a text as `print` does, for a command that has left the folder. So no other command waits while the text is
+/// read.
 pub fn print_outside<F: Folder, W: Write>(
     _folder: &F,
     output: &mut W,
@@ -157,7 +159,7 @@ pub fn print_outside<F: Folder, W: Write>(
     print(output, text)
 }
 
-/// The name of the first of these files.
+/// Returns the name of the first of these files.
 fn first_name(alloc: Global, changes: &[NewFile]) -> Result<String, AllocError>
     ensures { IfOk result (λ name. string_bytes name ≡ first_file [] (map named_file changes.now)) }
 {
@@ -167,7 +169,7 @@ fn first_name(alloc: Global, changes: &[NewFile]) -> Result<String, AllocError>
     }
 }
 
-/// The fault of a file that is not written.
+/// Returns the error for a file that could not be written.
 fn save_fault(fault: FolderFault, file: String) -> ToolFault
     ensures fault { IsFileFault (string_bytes file) result }
     ensures save { IsSaveFault result }

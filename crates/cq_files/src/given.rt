@@ -1,4 +1,4 @@
-//! The image that a command is given by the name of its file.
+//! Finds the image that a command is given by the name of its file.
 
 ghost use Rattle.std.specs.Prelude.{◌≡◌, ◌≢◌, IfErr, IfOk, IfSome, OnOk, Some};
 ghost use Rattle.cq_folder.specs.Folder.{KeepsFiles};
@@ -24,8 +24,12 @@ pub(crate) struct GivenImage {
 
 /// Opens a folder, and finds the image whose file has this name.
 ///
-/// The first of these faults is answered: those of opening the folder, `NoSuchFile` where it has no file of that name that
-/// ends with `.cqi`, `BadCycleName`. `OutOfMemory` can come at any growth.
+/// Errors, in this order:
+/// - those of opening the folder;
+/// - `NoSuchFile`: the folder has no file of that name that ends with `.cqi`;
+/// - `BadCycleName`.
+///
+/// `OutOfMemory` can come at any growth.
 pub(crate) fn open_image<F: Folder>(
     alloc: Global,
     folder: &mut F,

@@ -14,15 +14,20 @@ use cq_orders::InitSettings;
 use cq_text::ToolFault;
 use std::alloc::Global;
 
-/// The command `init`: makes a queue in a folder that is there, by writing its `queue.cqc`, of version 2 and with each name
-/// at 0. Its first cycle begins with the first `write`.
+/// The command `init`: makes a queue in a folder that is there already. It writes `queue.cqc`, of version 2 and with
+/// each name at 0. The queue's first cycle begins with the first `write`.
 ///
-/// The first of these faults is answered: `BadConfig` where the word names no roll, `FolderFault`, `QueueThereAlready`,
-/// `BadShape`, `BadConfig`, `FileFault`. `OutOfMemory` can come at any growth, and leaves every file as it was. After a
-/// `FileFault` the queue is made whole, or every file is as it was.
+/// Errors, in this order:
+/// - `BadConfig`: the word names no roll;
+/// - `FolderFault`;
+/// - `QueueThereAlready`;
+/// - `BadShape`;
+/// - `BadConfig`;
+/// - `FileFault`: the queue is made as a whole, or every file is as it was.
 ///
-/// Where it is done, the folder had no queue, and no other file changed. Nothing changes where
-/// there is a queue.
+/// `OutOfMemory` can come at any growth. Every file is then as it was.
+///
+/// If it succeeds, the folder had no queue, and no other file has changed. If the folder has a queue, nothing changes.
 pub fn init<F: Folder>(
     alloc: Global,
     folder: &mut F,
@@ -63,7 +68,7 @@ fn check_new<F: Folder>(alloc: Global, folder: &mut F) -> Result<(), ToolFault>
     Ok(())
 }
 
-/// The text of `queue.cqc` with these settings.
+/// Returns the text of `queue.cqc` with these settings.
 fn initial_text(alloc: Global, roll: Roll, settings: &InitSettings) -> Result<Vec<u8>, ToolFault>
     ensures text { IfOk result (λ text. IsTextFor settings.now roll text.items) }
     ensures fault { IfErr result (IsLimitFault (wanted_settings settings.now roll)) }
@@ -73,7 +78,7 @@ fn initial_text(alloc: Global, roll: Roll, settings: &InitSettings) -> Result<Ve
     Ok(write_config(alloc, &config, positions.as_slice(), 0)?)
 }
 
-/// The configuration that was asked for, if it is within the limits.
+/// Returns the configuration with these settings, if it is within the limits.
 fn config_for(alloc: Global, roll: Roll, settings: &InitSettings) -> Result<Config, ToolFault>
     ensures config { IfOk result (λ config. (config ≡ wanted_settings settings.now roll)
         × IsLawfulSettings (wanted_settings settings.now roll)) }

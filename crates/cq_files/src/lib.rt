@@ -1,12 +1,23 @@
-//! The commands of the program `cq` on the files of a folder, which need no queue: `init`, `check`, `dump`, `salvage` and
-//! `migrate`; and how the images of a queue are read from its folder and saved there.
+//! The commands of the program `cq` on the files of a folder, which need no queue. It also reads the images
+//! of a queue from its folder, and saves them there.
 //!
-//! For each command: it writes and saves only where it is alone in the folder, and lists and reads
-//! only where it is in it. It is out of the folder where it calls the function that writes its
-//! output. `FolderFault` and `FileFault` come only where the folder counted a failure during the
-//! call, or its count is at its end, 2^64 - 1. Too large a file, out of memory, and faults of the
-//! input or the output are none of these. What is wrong with an image, or with `queue.cqc`, is said
-//! only of a file of at most 8,388,608 bytes, which are read. All this holds of `cq_commands` too.
+//! | item | what it is for |
+//! |---|---|
+//! | `init` | makes a queue in a folder |
+//! | `check`, `dump`, `salvage` | print the state, the records, and the messages of images |
+//! | `migrate` | makes a folder of version 1 into one of version 2 |
+//! | `open_queue` | reads a folder's queue: `Kept`, `ReadQueue`, `SavedQueue`, `CycleImage`, `ImageFile`, `SeenMessages` |
+//! | `save`, `write_file` | save images, and a file |
+//! | `print_outside` | writes the output of a command that has left the folder |
+//! | `has_name`, `CONFIG_FILE`, `MOST_FILE_BYTES` | names of files, and the limit of their bytes |
+//!
+//! What holds of each command here, and of those in `cq_commands`:
+//!
+//! - It writes and saves only while it is alone in the folder, and lists and reads only while it is in it. It has left
+//!   the folder when it calls the function that writes its output.
+//! - `FolderFault` and `FileFault` come only if the folder counted a failure during the call, or its count is at its
+//!   end, 2^64 - 1. Too large a file, out of memory, and errors of the input or the output are none of these.
+//! - A fault of an image, or of `queue.cqc`, is reported only for a file of at most 8,388,608 bytes, which are read.
 #![tactic(auto)]
 
 mod checking;
