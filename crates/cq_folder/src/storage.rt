@@ -83,7 +83,7 @@ pub struct NewFile {
 /// those of a real one.
 ///
 /// Errors of every call but `end`, `access` and `failures`:
-/// - `Device`: the folder could not do it. `failures` counts these.
+/// - `Device`: the folder failed. `failures` counts these.
 /// - `TooLarge`: only of `read`.
 /// - `OutOfMemory`: out of memory.
 pub trait Folder {

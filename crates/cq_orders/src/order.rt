@@ -35,7 +35,7 @@ pub enum Order {
     Read {
         /// The folder.
         folder: String,
-        /// Whether to read from the end towards the first message.
+        /// Whether to read backwards, towards the first message: from the end, unless `from` is given.
         back: bool,
         /// The index at which to begin, as it was given.
         from: Option<String>,

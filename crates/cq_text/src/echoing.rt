@@ -42,7 +42,7 @@ pub fn echo<R: Read, W: Write>(
     ensures written { OnOk result (IfSome (R.remaining input.old) (λ bytes.
         Appends (W.contents output.old) (W.contents output.new) (echo_text (input_lines bytes)))) }
 
-    // A fault of the input is the one that the input has, and only for an accepted input is anything written.
+    // A fault of the input is the one that the input has, and the output is tried only for an accepted input.
     ensures fault { IfErr result (λ fault. IfSome (R.remaining input.old) (λ bytes. IsEchoFault bytes fault)) }
     ensures silent { IfErr result (λ fault. fault ≢ ToolFault.WriteFault
         → Keeps (W.contents output.old) (W.contents output.new)) }

@@ -1,4 +1,4 @@
-//! Enters a folder: takes the lock, and finishes a save that was cut short.
+//! Enters a folder: takes the lock, and looks for what is left of a save that was cut short.
 
 ghost use Rattle.std.specs.Prelude.{◌≡◌, IfOk, None, OnOk, Some, option_map};
 
