@@ -7,8 +7,8 @@ use crate::parts::Parts;
 use std::alloc::{AllocError, Global};
 use std::marker::Model;
 
-/// Something that the library holds, of which C sees no more than its address. One that is dropped keeps its memory.
-/// It owns what a box of the same owns: what it was made of is what it lends and gives back.
+/// Something that the library holds, of which C sees only its address. A handle that is dropped does not free its
+/// memory. It owns what a box of the same value owns: it can be made from a box, and turned back into one.
 #[repr(C)]
 #[derive(Drop)]
 pub struct Handle {
@@ -22,21 +22,21 @@ impl Model for Handle {
 }
 
 impl Handle {
-    /// A handle of this. Answers `AllocError` where no memory is left for it; it is dropped then.
+    /// Makes a handle of this. Returns `AllocError` if there is no memory for it; the value is dropped then.
     pub fn new(alloc: Global, held: Held) -> Result<Handle, AllocError>
         ensures { IfOk result (λ handle. handle.held ≡ held) }
     {
         Ok(Handle::of(Box::new(alloc, held)?))
     }
 
-    /// The handle of a box.
+    /// Makes the handle of a box.
     pub fn of(held: Box<Held>) -> Handle
         ensures { result.held ≡ held.value }
     {
         Handle::of_parts(Parts::of(held))
     }
 
-    /// The box of a handle.
+    /// Turns a handle back into its box.
     pub fn into_box(self) -> Box<Held>
         ensures { result.value ≡ self.held }
     {

@@ -7,7 +7,7 @@ use cq_shown::Stopped;
 pub enum Held {
     /// An endpoint of a queue.
     Endpoint(Endpoint),
-    /// A queue that was stopped, and not read yet.
+    /// A queue that was stopped, and is not read yet.
     Stopped(Stopped),
     /// A queue as plain data.
     Saved(Saved),

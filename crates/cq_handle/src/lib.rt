@@ -1,5 +1,11 @@
-//! The handle by which C and other languages hold an endpoint, or what was saved of a queue: its address, and in its type that
-//! it owns that.
+//! The handle by which C and other languages hold an endpoint, a stopped queue or a saved one. It is an address, and
+//! its type owns what lives there.
+//!
+//! | item | what it is for |
+//! |---|---|
+//! | `Handle::new`, `of` | make a handle of a value or of a box |
+//! | `Handle::held_mut`, `into_box` | give access to the value, or the box back |
+//! | `Held` | what a handle holds |
 //!
 //! `Parts` and the proofs of `Handle` are those of a box that is kept as its address.
 #![tactic(auto)]

@@ -1,4 +1,4 @@
-//! What calls answer to C.
+//! What calls return to C.
 ghost use Rattle.std.specs.Prelude.{◌≡◌};
 ghost use Rattle.linnetshelf.specs.Answers.{append_answer, append_status, begin_answer, complete_answer, done, drop_answer, move_answer, moved, plain, position_answer, put_answer, roll_back_answer, seek_answer};
 
@@ -9,20 +9,20 @@ use cq_endpoint::{
 };
 use cq_layout::Refusal;
 
-/// What a call answers that tells more than how it went. What it does not tell is 0.
+/// What a call returns if it says more than how it went. What it does not say is 0.
 #[repr(C)]
 #[derive(Clone, Copy)]
 pub struct Answer {
-    /// The index of a message, a position, an end, a cycle, a floor or a count, 1 for a cycle that has ended, or the byte at which
-    /// an image is at fault, as the call says.
+    /// A number, as the call says: the index of a message, a position, an end, a cycle, a floor or a count. It is 1
+    /// for a cycle that has ended, and for an image with an error the byte at which that is.
     pub index: u64,
-    /// The length of a message or an image in bytes, or the one that the room has to have.
+    /// The length of a message or an image in bytes, or the length that the buffer needs.
     pub length: u32,
     /// How it went: the number of a `Status`.
     pub status: u32,
 }
 
-/// An answer of a status alone.
+/// Makes an answer that has only a status.
 pub(crate) fn plain(status: Status) -> Answer
     ensures { result ≡ plain status }
 {
@@ -33,7 +33,7 @@ pub(crate) fn plain(status: Status) -> Answer
     }
 }
 
-/// It is done, and tells a number.
+/// Makes the answer of a call that is done, with a number.
 pub(crate) fn done(index: u64) -> Answer
     ensures { result ≡ done index }
 {
@@ -44,7 +44,7 @@ pub(crate) fn done(index: u64) -> Answer
     }
 }
 
-/// What `append` answers.
+/// Makes the answer of `append`.
 pub(crate) fn append_answer(said: Result<Index, AppendFault>) -> Answer
     ensures { result ≡ append_answer said }
 {
@@ -54,7 +54,7 @@ pub(crate) fn append_answer(said: Result<Index, AppendFault>) -> Answer
     }
 }
 
-/// What `advance` answers.
+/// Makes the answer of `advance`.
 pub(crate) fn advance_answer(said: Result<u32, AppendFault>) -> Answer
     ensures { result ≡ append_answer said }
 {
@@ -64,7 +64,7 @@ pub(crate) fn advance_answer(said: Result<u32, AppendFault>) -> Answer
     }
 }
 
-/// What `begin` answers.
+/// Makes the answer of `begin`.
 pub(crate) fn begin_answer(said: Result<(), AppendFault>) -> u32
     ensures { result ≡ begin_answer said }
 {
@@ -75,7 +75,7 @@ pub(crate) fn begin_answer(said: Result<(), AppendFault>) -> u32
     status.number()
 }
 
-/// Why nothing was appended or begun.
+/// Says why nothing was appended or begun.
 fn append_status(fault: AppendFault) -> Status
     ensures { result ≡ append_status fault }
 {
@@ -89,7 +89,7 @@ fn append_status(fault: AppendFault) -> Status
     }
 }
 
-/// What `put` answers.
+/// Makes the answer of `put`.
 pub(crate) fn put_answer(said: Result<(), PutFault>) -> u32
     ensures { result ≡ put_answer said }
 {
@@ -101,7 +101,7 @@ pub(crate) fn put_answer(said: Result<(), PutFault>) -> u32
     status.number()
 }
 
-/// What `complete` answers.
+/// Makes the answer of `complete`.
 pub(crate) fn complete_answer(said: Result<Index, CompleteFault>) -> Answer
     ensures { result ≡ complete_answer said }
 {
@@ -112,7 +112,7 @@ pub(crate) fn complete_answer(said: Result<Index, CompleteFault>) -> Answer
     }
 }
 
-/// What `roll_back` answers.
+/// Makes the answer of `roll_back`.
 pub(crate) fn roll_back_answer(said: Result<(), NotWriting>) -> u32
     ensures { result ≡ roll_back_answer said }
 {
@@ -123,7 +123,7 @@ pub(crate) fn roll_back_answer(said: Result<(), NotWriting>) -> u32
     status.number()
 }
 
-/// What `move_to` answers.
+/// Makes the answer of `move_to`.
 pub(crate) fn move_answer(stands: bool) -> u32
     ensures { result ≡ move_answer stands }
 {
@@ -135,7 +135,7 @@ pub(crate) fn move_answer(stands: bool) -> u32
     status.number()
 }
 
-/// What `drop_before` answers.
+/// Makes the answer of `drop_before`.
 pub(crate) fn drop_answer(said: Result<u32, NotSeen>) -> Answer
     ensures { result ≡ drop_answer said }
 {
@@ -145,7 +145,7 @@ pub(crate) fn drop_answer(said: Result<u32, NotSeen>) -> Answer
     }
 }
 
-/// What `position` answers.
+/// Makes the answer of `position`.
 pub(crate) fn position_answer(said: Result<u64, NoSuchName>) -> Answer
     ensures { result ≡ position_answer said }
 {
@@ -155,7 +155,7 @@ pub(crate) fn position_answer(said: Result<u64, NoSuchName>) -> Answer
     }
 }
 
-/// A name stands at this position.
+/// Makes the answer that a name is at this position.
 pub(crate) fn moved(position: u64) -> Answer
     ensures { result ≡ moved position }
 {
@@ -166,7 +166,7 @@ pub(crate) fn moved(position: u64) -> Answer
     }
 }
 
-/// What `seek` answers.
+/// Makes the answer of `seek`.
 pub(crate) fn seek_answer(said: Result<Sought, SeekFault>) -> Answer
     ensures { result ≡ seek_answer said }
 {

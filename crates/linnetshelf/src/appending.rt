@@ -1,4 +1,4 @@
-//! Messages are appended, whole or in parts, and cycles begin.
+//! Appending messages, whole or in parts, and beginning cycles.
 ghost use Rattle.std.specs.Prelude.{◌≡◌};
 ghost use Rattle.cq_endpoint.specs.Endpoints.{ChangesWork};
 ghost use Rattle.cq_endpoint.specs.Works.{Advances, Appends, BeginsMessage, CompletesMessage, GivesUp, PutsBytes};
@@ -14,8 +14,8 @@ use crate::answer::{
 use crate::status::Status;
 use cq_handle::{Handle, Held};
 
-/// Appends a message in the cycle of `moment`, which is in milliseconds of Unix time, or in the current cycle where that is a
-/// later one, and tells its index. `Endpoint::append` says what is refused.
+/// Appends a message in the cycle of `moment`, in milliseconds of Unix time, or in the current cycle if that is
+/// later. Returns its index. `Endpoint::append` says what is refused.
 #[unsafe(no_mangle)]
 pub extern "C" fn linnetshelf_append(handle: &mut Handle, moment: u64, bytes: &[u8]) -> Answer
     ensures { OnEndpoint handle.old.held handle.new.held (result ≡ plain WrongKind) (λ old new.
@@ -27,8 +27,8 @@ pub extern "C" fn linnetshelf_append(handle: &mut Handle, moment: u64, bytes: &[
     }
 }
 
-/// Begins the cycle of `moment` where it is above the current one, and tells the current cycle, which is at least the one of
-/// the moment.
+/// Begins the cycle of `moment` if it is above the current one. Returns the current cycle, which is at least the one
+/// of the moment.
 #[unsafe(no_mangle)]
 pub extern "C" fn linnetshelf_advance(handle: &mut Handle, moment: u64) -> Answer
     ensures { OnEndpoint handle.old.held handle.new.held (result ≡ plain WrongKind) (λ old new.
@@ -40,8 +40,8 @@ pub extern "C" fn linnetshelf_advance(handle: &mut Handle, moment: u64) -> Answe
     }
 }
 
-/// Begins a message of at most `room` bytes in the cycle of `moment`. Nobody else begins a message before this one is completed
-/// or given up.
+/// Begins a message of at most `room` bytes in the cycle of `moment`. No other endpoint begins a message before this
+/// one is completed or given up.
 #[unsafe(no_mangle)]
 pub extern "C" fn linnetshelf_begin(handle: &mut Handle, moment: u64, room: u32) -> u32
     ensures { OnEndpoint handle.old.held handle.new.held (result ≡ number WrongKind) (λ old new.
@@ -53,7 +53,7 @@ pub extern "C" fn linnetshelf_begin(handle: &mut Handle, moment: u64, room: u32)
     }
 }
 
-/// Puts bytes behind those that were put into the message that is begun.
+/// Puts bytes after those that were put into the message that is begun.
 #[unsafe(no_mangle)]
 pub extern "C" fn linnetshelf_put(handle: &mut Handle, bytes: &[u8]) -> u32
     ensures { OnEndpoint handle.old.held handle.new.held (result ≡ number WrongKind) (λ old new.
@@ -65,7 +65,7 @@ pub extern "C" fn linnetshelf_put(handle: &mut Handle, bytes: &[u8]) -> u32
     }
 }
 
-/// Appends the message that is begun, and tells its index.
+/// Appends the message that is begun, and returns its index.
 #[unsafe(no_mangle)]
 pub extern "C" fn linnetshelf_complete(handle: &mut Handle) -> Answer
     ensures { OnEndpoint handle.old.held handle.new.held (result ≡ plain WrongKind) (λ old new.

@@ -1,9 +1,10 @@
-//! The sizes of what crosses.
+//! The sizes of what crosses between C and the library.
 use crate::answer::Answer;
 use crate::settings::Settings;
 use cq_handle::Handle;
 
-/// The size in bytes of a handle (0), of settings (1) and of an answer (2), for who declares them by hand. Other numbers have none.
+/// Returns the size in bytes of a handle (0), of settings (1) and of an answer (2), for callers that declare them by
+/// hand. For any other number it returns 0.
 #[unsafe(no_mangle)]
 pub extern "C" fn linnetshelf_size(which: u32) -> usize {
     match which {

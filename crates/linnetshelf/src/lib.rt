@@ -1,9 +1,21 @@
-//! The calls that C makes, and whatever calls as C does.
+//! The calls of the library for C, and for any language that calls as C does.
 //!
-//! A call is given a handle, and answers the number of a `Status`, alone or in an `Answer`. It asks nothing of its arguments, but
-//! that two endpoints which meet are of one queue, and says of what the handle holds what the call of `cq_endpoint` or `cq_saved`
-//! says that it stands for. `c/linnetshelf.h` has the calls for people. All calls are safe and
-//! return. A handle that holds something else stays as it is, and the answer is `WrongKind`.
+//! A call is given a handle, and returns the number of a `Status`, alone or in an `Answer`. It has no preconditions,
+//! except that two endpoints that meet are of one queue. Its contract says of what the handle holds what the contract
+//! of the call that it wraps says, in `cq_endpoint` or `cq_saved`. `c/linnetshelf.h` describes the calls for people.
+//! All calls are memory-safe and terminate. A handle that holds something else than the call is for is left as it is,
+//! and the status is `WrongKind`.
+//!
+//! | calls | what they are for |
+//! |---|---|
+//! | `linnetshelf_create`, `_split`, `_meet`, `_destroy` | make a queue, and endpoints of it |
+//! | `linnetshelf_append`, `_begin`, `_put`, `_complete`, `_roll_back` | append messages, whole or in parts |
+//! | `linnetshelf_advance` | begins a cycle |
+//! | `linnetshelf_next`, `_read_at`, `_take` | read and take messages, into a buffer of the caller |
+//! | `linnetshelf_cursor`, `_direction`, `_to_start`, `_to_end`, `_move_to` | move an endpoint |
+//! | `linnetshelf_position`, `_seek`, `_drop_before` | read and set the position of a name, and drop old cycles |
+//! | `linnetshelf_stop`, `_saved_..`, `_open` | stop a queue, save what it held, and open it again |
+//! | `linnetshelf_size`, `_text` | sizes of types, and texts of statuses |
 #![tactic(auto)]
 
 mod answer;

@@ -1,4 +1,4 @@
-//! Queues are made, and endpoints of them handed out, split off and ended.
+//! Making queues, and handing out, splitting off and ending endpoints of them.
 ghost use Rattle.std.specs.Prelude.{◌≡◌};
 ghost use Rattle.linnetshelf.specs.Answers.{Tells};
 ghost use Rattle.linnetshelf.specs.Handles.{OnEndpoint};
@@ -13,9 +13,9 @@ use cq_handle::{Handle, Held};
 use cq_shown::CreateError;
 use std::alloc::Global;
 
-/// Hands out the first endpoint of a new queue, whose first cycle is that of `moment`, in milliseconds of Unix time. The names
-/// are a text with a line for each. `BadSettings` comes only where no such queue can be, or a name
-/// is no text.
+/// Hands out the first endpoint of a new queue, whose first cycle is that of `moment`, in milliseconds of Unix time.
+/// The names are a text with a line for each. It returns `BadSettings` only if there can be no such queue, or if a
+/// name is not UTF-8.
 #[unsafe(no_mangle)]
 pub extern "C" fn linnetshelf_create(
     alloc: Global,
@@ -33,7 +33,7 @@ pub extern "C" fn linnetshelf_create(
     status.number()
 }
 
-/// The first endpoint of a new queue.
+/// Makes the first endpoint of a new queue.
 fn create(alloc: Global, settings: &Settings, names: &[u8], moment: u64) -> Result<Endpoint, Status>
     ensures { Makes settings.now names.now moment result }
 {
@@ -46,7 +46,7 @@ fn create(alloc: Global, settings: &Settings, names: &[u8], moment: u64) -> Resu
     }
 }
 
-/// Hands out what a handle is to hold. Answers `Done` or `OutOfMemory`; the handle stays as it was then.
+/// Hands out a handle of this value. Returns `Done`, or `OutOfMemory`; then the handle is left as it was.
 pub(crate) fn hand_out(alloc: Global, held: Held, out: &mut Handle) -> Status
     ensures { HandsOut out.old.held held out.new.held result }
 {
@@ -59,8 +59,8 @@ pub(crate) fn hand_out(alloc: Global, held: Held, out: &mut Handle) -> Status
     }
 }
 
-/// Hands out another endpoint of the same queue, which may go to another thread: it has begun no message, and reads forwards
-/// from the start.
+/// Hands out another endpoint of the same queue, which may go to another thread. It has begun no message, and reads
+/// forwards from the start.
 #[unsafe(no_mangle)]
 pub extern "C" fn linnetshelf_split(alloc: Global, handle: &mut Handle, out: &mut Handle) -> u32
     ensures { OnEndpoint handle.old.held handle.new.held

@@ -4,9 +4,11 @@ ghost use Rattle.linnetshelf.specs.Meets.{AreOfOneQueue, Meets};
 use crate::status::Status;
 use cq_handle::{Handle, Held};
 
-/// Afterwards two endpoints of one queue have seen one history, which begins with what each of them had seen: where one may move,
-/// drop cycles or place a name by the end that it was told, the other may too. An appender that has begun a message takes no part.
-/// Both are of one queue, as one is that was split off the other.
+/// Shares what two endpoints of one queue have seen. Afterwards both have seen one history, which begins with what
+/// each of them had seen. If one may move, drop cycles or place a name by the end that it was given, the other may
+/// too. An appender that has begun a message takes no part.
+///
+/// Precondition: both are of one queue, as an endpoint is of the queue of the one that it was split off.
 #[unsafe(no_mangle)]
 pub extern "C" fn linnetshelf_meet(handle: &mut Handle, other: &mut Handle) -> u32
     requires { AreOfOneQueue handle.old.held other.old.held }

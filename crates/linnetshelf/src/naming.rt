@@ -1,5 +1,5 @@
-//! Names, their positions, and takes. A name is the bytes of a text; others are no name of a queue,
-//! and nothing changes then.
+//! Names, their positions, and takes. A name is the UTF-8 bytes of a text. Other bytes are no name of a queue, and
+//! nothing changes then.
 ghost use Rattle.std.specs.Prelude.{◌≡◌};
 ghost use Rattle.cq_endpoint.specs.Endpoints.{ChangesTailer};
 ghost use Rattle.linnetshelf.specs.Answers.{Tells, plain, position_answer, seek_answer};
@@ -12,7 +12,7 @@ use crate::status::Status;
 use cq_endpoint::{Endpoint, NoSuchName, SeekFault, Sought};
 use cq_handle::{Handle, Held};
 
-/// Tells the position of a name: the next message that is taken by it has this index or a later one.
+/// Returns the position of a name: the next message that is taken by it has this index or a later one.
 #[unsafe(no_mangle)]
 pub extern "C" fn linnetshelf_position(handle: &mut Handle, name: &[u8]) -> Answer
     ensures { OnEndpoint handle.old.held handle.new.held (result ≡ plain WrongKind) (λ old new.
@@ -34,8 +34,10 @@ fn position(endpoint: &mut Endpoint, name: &[u8]) -> Result<u64, NoSuchName>
     }
 }
 
-/// Moves a name from position `from` to position `to`. Where it stands elsewhere, it is not moved: the answer is `Moved` with its
-/// position. Answers `NotSeen` where `to` lies behind the end that the endpoint has seen.
+/// Moves a name from position `from` to position `to`.
+///
+/// - `Moved`: the name is elsewhere and was not moved; the answer has its position.
+/// - `NotSeen`: `to` is after the end that the endpoint has seen.
 #[unsafe(no_mangle)]
 pub extern "C" fn linnetshelf_seek(handle: &mut Handle, name: &[u8], from: u64, to: u64) -> Answer
     ensures { OnEndpoint handle.old.held handle.new.held (result ≡ plain WrongKind) (λ old new.

@@ -1,4 +1,4 @@
-//! The endpoint moves to where it reads, and old cycles are dropped.
+//! Moving an endpoint to where it reads, and dropping old cycles.
 ghost use Rattle.std.specs.Prelude.{◌≡◌};
 ghost use Rattle.cq_endpoint.specs.Endpoints.{ChangesTailer};
 ghost use Rattle.cq_model.specs.declared.history.Answer.TheVariants.{Ends};
@@ -16,7 +16,7 @@ use cq_cycle::Index;
 use cq_endpoint::{Direction, Endpoint};
 use cq_handle::{Handle, Held};
 
-/// Tells the gap between messages at which the endpoint reads: an index, at or after which the next message stands.
+/// Returns the gap between messages at which the endpoint reads: the next message has this index or a later one.
 #[unsafe(no_mangle)]
 pub extern "C" fn linnetshelf_cursor(handle: &mut Handle) -> Answer
     ensures { OnEndpoint handle.old.held handle.new.held (result ≡ plain WrongKind) (λ old new.
@@ -28,7 +28,8 @@ pub extern "C" fn linnetshelf_cursor(handle: &mut Handle) -> Answer
     }
 }
 
-/// Turns the endpoint: 0 forwards, 1 backwards. Answers `BadDirection` where no direction has this number.
+/// Sets the direction of the endpoint: 0 forwards, 1 backwards. Returns `BadDirection` if no direction has this
+/// number.
 #[unsafe(no_mangle)]
 pub extern "C" fn linnetshelf_direction(handle: &mut Handle, way: u32) -> u32
     ensures { OnEndpoint handle.old.held handle.new.held (result ≡ number WrongKind) (λ old new.
@@ -40,7 +41,7 @@ pub extern "C" fn linnetshelf_direction(handle: &mut Handle, way: u32) -> u32
     }
 }
 
-/// Turns an endpoint the way that has this number.
+/// Sets the direction of an endpoint to the one that has this number.
 fn turn(endpoint: &mut Endpoint, way: u32) -> u32
     ensures { Tells (Turns endpoint.old endpoint.new way) direction_answer result }
 {
@@ -57,7 +58,7 @@ fn turn(endpoint: &mut Endpoint, way: u32) -> u32
     }
 }
 
-/// Goes before the first message.
+/// Moves before the first message.
 #[unsafe(no_mangle)]
 pub extern "C" fn linnetshelf_to_start(handle: &mut Handle) -> u32
     ensures { OnEndpoint handle.old.held handle.new.held (result ≡ number WrongKind) (λ old new.
@@ -72,7 +73,7 @@ pub extern "C" fn linnetshelf_to_start(handle: &mut Handle) -> u32
     }
 }
 
-/// Goes to the end of the queue, where the next message of the current cycle will stand, and tells it.
+/// Moves to the end of the queue, and returns it: the index that the next message of the current cycle gets.
 #[unsafe(no_mangle)]
 pub extern "C" fn linnetshelf_to_end(handle: &mut Handle) -> Answer
     ensures { OnEndpoint handle.old.held handle.new.held (result ≡ plain WrongKind) (λ old new.
@@ -84,8 +85,8 @@ pub extern "C" fn linnetshelf_to_end(handle: &mut Handle) -> Answer
     }
 }
 
-/// Goes to an index where a message stands there, in a cycle that is not dropped; where none does it answers `NoMessage` and
-/// stays where it is.
+/// Moves to an index if a message is there, in a cycle that is not dropped. If none is there it returns `NoMessage`,
+/// and the endpoint stays where it is.
 #[unsafe(no_mangle)]
 pub extern "C" fn linnetshelf_move_to(handle: &mut Handle, index: u64) -> u32
     ensures { OnEndpoint handle.old.held handle.new.held (result ≡ number WrongKind) (λ old new.
@@ -97,8 +98,8 @@ pub extern "C" fn linnetshelf_move_to(handle: &mut Handle, index: u64) -> u32
     }
 }
 
-/// Drops the cycles below this one: reads and takes of everybody pass over them from then on. Tells the floor, the least cycle
-/// that reads look at.
+/// Drops the cycles below this one: from then on no read or take of any caller returns their messages. Returns the
+/// floor, the oldest cycle that reads return.
 #[unsafe(no_mangle)]
 pub extern "C" fn linnetshelf_drop_before(handle: &mut Handle, cycle: u32) -> Answer
     ensures { OnEndpoint handle.old.held handle.new.held (result ≡ plain WrongKind) (λ old new.

@@ -1,4 +1,4 @@
-//! Messages are read and taken into rooms, which are bytes of the caller. No memory is needed for it.
+//! Reading and taking messages into buffers, which are bytes of the caller. It allocates nothing.
 ghost use Rattle.std.specs.Prelude.{◌≡◌};
 ghost use Rattle.cq_endpoint.specs.Endpoints.{ChangesTailer};
 ghost use Rattle.cq_tail.specs.Rooms.{ReadsAtInto, ReadsInto};
@@ -13,8 +13,10 @@ use cq_cycle::Index;
 use cq_endpoint::{AtInto, Endpoint, FoundInto, NoSuchName, TakeInto};
 use cq_handle::{Handle, Held};
 
-/// Reads the next message in the endpoint's direction into a room, tells its index and its length, and goes behind it, or backwards
-/// before it. Where the room has fewer bytes, it answers `NoRoom` with the length, and reads nothing.
+/// Reads the next message in the endpoint's direction into a buffer. Returns its index and its length, and moves
+/// after it, or backwards before it.
+///
+/// - `NoRoom`: the buffer has fewer bytes. The answer has the length, and nothing is read.
 #[unsafe(no_mangle)]
 pub extern "C" fn linnetshelf_next(handle: &mut Handle, room: &mut [u8]) -> Answer
     ensures { OnEndpoint handle.old.held handle.new.held ((result ≡ plain WrongKind) × (room.new ≡ room.old)) (λ old new.
@@ -26,8 +28,9 @@ pub extern "C" fn linnetshelf_next(handle: &mut Handle, room: &mut [u8]) -> Answ
     }
 }
 
-/// Reads the message with this index into a room, tells its length, and stays where it is. Where the room has fewer bytes, it answers
-/// `NoRoom` with the length, and reads nothing.
+/// Reads the message with this index into a buffer. Returns its length, and the endpoint stays where it is.
+///
+/// - `NoRoom`: the buffer has fewer bytes. The answer has the length, and nothing is read.
 #[unsafe(no_mangle)]
 pub extern "C" fn linnetshelf_read_at(handle: &mut Handle, index: u64, room: &mut [u8]) -> Answer
     ensures { OnEndpoint handle.old.held handle.new.held ((result ≡ plain WrongKind) × (room.new ≡ room.old)) (λ old new.
@@ -42,9 +45,11 @@ pub extern "C" fn linnetshelf_read_at(handle: &mut Handle, index: u64, room: &mu
     }
 }
 
-/// Takes the next message of a name into a room, and tells its index and its length. Where the room has fewer bytes, it answers `NoRoom`
-/// with the length, and takes nothing. Where another endpoint has moved the name meanwhile, it takes nothing and answers `Moved` with
-/// the position that it found.
+/// Takes the next message of a name into a buffer. Returns its index and its length.
+///
+/// - `NoRoom`: the buffer has fewer bytes. The answer has the length, and nothing is taken.
+/// - `Moved`: another endpoint has moved the name meanwhile. The answer has the position that was found, and nothing
+///   is taken.
 #[unsafe(no_mangle)]
 pub extern "C" fn linnetshelf_take(handle: &mut Handle, name: &[u8], room: &mut [u8]) -> Answer
     ensures { OnEndpoint handle.old.held handle.new.held ((result ≡ plain WrongKind) × (room.new ≡ room.old)) (λ old new.
@@ -66,7 +71,7 @@ fn take(endpoint: &mut Endpoint, name: &[u8], room: &mut [u8]) -> Result<TakeInt
     }
 }
 
-/// A message of this length was read.
+/// Makes the answer that a message of this length was read.
 fn read(index: u64, length: u32) -> Answer
     ensures { result ≡ read index length }
 {
@@ -77,7 +82,7 @@ fn read(index: u64, length: u32) -> Answer
     }
 }
 
-/// A message of this length was not read: the room is too small.
+/// Makes the answer that a message of this length was not read: the buffer is too small.
 fn too_long(length: u32) -> Answer
     ensures { result ≡ too_long length }
 {
@@ -88,7 +93,7 @@ fn too_long(length: u32) -> Answer
     }
 }
 
-/// What `next` answers.
+/// Makes the answer of `next`.
 fn found_answer(said: FoundInto) -> Answer
     ensures { result ≡ found_answer said }
 {
@@ -100,7 +105,7 @@ fn found_answer(said: FoundInto) -> Answer
     }
 }
 
-/// What `read_at` answers.
+/// Makes the answer of `read_at`.
 fn at_answer(said: AtInto) -> Answer
     ensures { result ≡ at_answer said }
 {
@@ -113,7 +118,7 @@ fn at_answer(said: AtInto) -> Answer
     }
 }
 
-/// What `take` answers.
+/// Makes the answer of `take`.
 fn take_answer(said: Result<TakeInto, NoSuchName>) -> Answer
     ensures { result ≡ take_answer said }
 {
@@ -123,7 +128,7 @@ fn take_answer(said: Result<TakeInto, NoSuchName>) -> Answer
     }
 }
 
-/// What a take by a name that the queue declares answers.
+/// Makes the answer of a take by a name that the queue declares.
 fn took_answer(took: TakeInto) -> Answer
     ensures { result ≡ took_answer took }
 {

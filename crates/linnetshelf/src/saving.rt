@@ -1,5 +1,5 @@
-//! Queues are stopped, and what they held is saved: an image for each cycle, a position for each name, and the floor. What was
-//! saved is put together again, and opened.
+//! Stopping queues and saving what they held: an image for each cycle, a position for each name, and the floor. What
+//! was saved is put together again, and opened.
 ghost use Rattle.std.specs.Prelude.{◌≡◌, ◌^◌, ◌<◌, length};
 ghost use Rattle.linnetshelf.specs.Answers.{Tells, add_answer, done, image_answer, kind_status, number_answer, plain};
 ghost use Rattle.linnetshelf.specs.Handles.{OnSaved};
@@ -20,11 +20,11 @@ use cq_saved::{AddFault, NoSuchPlace, Saved};
 use cq_shown::{CreateError, Stopped};
 use std::alloc::Global;
 
-/// Stops the queue of an endpoint, which is the last one, and reads what it held out of it: the handle holds that then. A message
-/// that is begun is given up.
+/// Stops the queue of an endpoint, which is the last one, and reads what it held: the handle holds that afterwards. A
+/// message that is begun is given up.
 ///
-/// Answers `InUse` where other endpoints of the queue live; the endpoint is as it was. Where it answers `OutOfMemory` the queue is
-/// stopped, and the call can be made again.
+/// - `InUse`: other endpoints of the queue live. The endpoint is as it was.
+/// - `OutOfMemory`: the queue is stopped, and the call can be made again.
 #[unsafe(no_mangle)]
 pub extern "C" fn linnetshelf_stop(alloc: Global, handle: &mut Handle) -> u32
     ensures { Tells (StopsHeld handle.old.held handle.new.held) number result }
@@ -33,7 +33,7 @@ pub extern "C" fn linnetshelf_stop(alloc: Global, handle: &mut Handle) -> u32
     status.number()
 }
 
-/// What is held once it is stopped and read.
+/// Returns what is held once it is stopped and read.
 fn stop(alloc: Global, held: Held) -> (Held, Status)
     ensures { StopsHeld held result.0 result.1 }
 {
@@ -47,7 +47,7 @@ fn stop(alloc: Global, held: Held) -> (Held, Status)
     }
 }
 
-/// What a stopped queue held, or the queue as it is.
+/// Reads what a stopped queue held; if memory is refused, returns the stopped queue as it is.
 fn recover(alloc: Global, stopped: Stopped) -> (Held, Status)
     ensures { Recovers stopped result.0 result.1 }
 {
@@ -57,8 +57,8 @@ fn recover(alloc: Global, stopped: Stopped) -> (Held, Status)
     }
 }
 
-/// Hands out a queue of no cycle, with each name at 0 and the floor 0, to which what was saved is added.
-/// `BadSettings` comes only where no such queue can be, or a name is no text.
+/// Hands out a queue without cycles, with each name at 0 and the floor 0, to which what was saved is added. It
+/// returns `BadSettings` only if there can be no such queue, or if a name is not UTF-8.
 #[unsafe(no_mangle)]
 pub extern "C" fn linnetshelf_saved_new(
     alloc: Global,
@@ -78,7 +78,7 @@ pub extern "C" fn linnetshelf_saved_new(
     status.number()
 }
 
-/// Adds a cycle behind the others, from its image. A fault of the image is told with its position in bytes.
+/// Adds a cycle after the others, from its image. An error of the image is returned with its position in bytes.
 #[unsafe(no_mangle)]
 pub extern "C" fn linnetshelf_saved_add(
     alloc: Global,
@@ -95,7 +95,7 @@ pub extern "C" fn linnetshelf_saved_add(
     }
 }
 
-/// What `add` answers.
+/// Makes the answer of `add`.
 fn add_answer(said: Result<(), AddFault>) -> Answer
     ensures { result ≡ add_answer said }
 {
@@ -111,7 +111,7 @@ fn add_answer(said: Result<(), AddFault>) -> Answer
     }
 }
 
-/// What is wrong with an image.
+/// Says what is wrong with an image.
 fn kind_status(kind: FaultKind) -> Status
     ensures { result ≡ kind_status kind }
 {
@@ -127,7 +127,7 @@ fn kind_status(kind: FaultKind) -> Status
     }
 }
 
-/// Tells how many cycles there are.
+/// Returns how many cycles there are.
 #[unsafe(no_mangle)]
 pub extern "C" fn linnetshelf_saved_count(handle: &mut Handle) -> Answer
     ensures { OnSaved handle.old.held handle.new.held (result ≡ plain WrongKind) (λ old new.
@@ -139,7 +139,7 @@ pub extern "C" fn linnetshelf_saved_count(handle: &mut Handle) -> Answer
     }
 }
 
-/// Tells the number of cycle `k`, counted from 0.
+/// Returns the number of cycle `k`, counted from 0.
 #[unsafe(no_mangle)]
 pub extern "C" fn linnetshelf_saved_cycle(handle: &mut Handle, k: u32) -> Answer
     ensures { OnSaved handle.old.held handle.new.held (result ≡ plain WrongKind) (λ old new.
@@ -161,7 +161,7 @@ fn cycle(saved: &Saved, k: u32) -> Result<u64, NoSuchPlace>
     Ok(u64::from(saved.cycle(k)))
 }
 
-/// Tells 1 where cycle `k`, counted from 0, has ended, and 0 where it is open.
+/// Returns 1 if cycle `k`, counted from 0, has ended, and 0 if it is open.
 #[unsafe(no_mangle)]
 pub extern "C" fn linnetshelf_saved_ended(handle: &mut Handle, k: u32) -> Answer
     ensures { OnSaved handle.old.held handle.new.held (result ≡ plain WrongKind) (λ old new.
@@ -183,7 +183,7 @@ fn ended(saved: &Saved, k: u32) -> Result<u64, NoSuchPlace>
     Ok(u64::from(saved.has_ended(k)))
 }
 
-/// What a call on the `k`th of something answers that tells a number.
+/// Makes the answer of a call on the `k`th of something that returns a number.
 fn number_answer(said: Result<u64, NoSuchPlace>) -> Answer
     ensures { result ≡ number_answer said }
 {
@@ -193,8 +193,9 @@ fn number_answer(said: Result<u64, NoSuchPlace>) -> Answer
     }
 }
 
-/// Copies the image of cycle `k`, counted from 0, to the front of a room, and tells its length. Where the room is smaller, it
-/// answers `NoRoom` with the length, and copies nothing.
+/// Copies the image of cycle `k`, counted from 0, to the front of a buffer. Returns its length.
+///
+/// - `NoRoom`: the buffer is smaller. The answer has the length, and nothing is copied.
 #[unsafe(no_mangle)]
 pub extern "C" fn linnetshelf_saved_image(
     alloc: Global,
@@ -211,16 +212,16 @@ pub extern "C" fn linnetshelf_saved_image(
     }
 }
 
-/// How the copy of an image into a room came out.
+/// How the copy of an image into a buffer went.
 #[derive(Clone, Copy)]
 enum ImageInto {
-    /// An image of so many bytes: they are the first of the room.
+    /// An image of that many bytes: they are the first of the buffer.
     Copied(u32),
-    /// The image has so many bytes, which is more than the room has.
+    /// The image has that many bytes, which is more than the buffer has.
     NoRoom(u32),
-    /// There are not as many cycles.
+    /// There are fewer cycles.
     NoSuchPlace,
-    /// There was no memory.
+    /// Out of memory.
     OutOfMemory,
 }
 
@@ -237,7 +238,7 @@ fn image_into(alloc: Global, saved: &Saved, k: u32, room: &mut [u8]) -> ImageInt
     }
 }
 
-/// Copies some bytes to the front of a room that is large enough.
+/// Copies some bytes to the front of a buffer that is large enough.
 fn copy_into(bytes: &[u8], room: &mut [u8]) -> ImageInto
     requires { length bytes.now < 2 ^ 32 }
     ensures { CopiesImage bytes.now room.old room.new result }
@@ -250,7 +251,7 @@ fn copy_into(bytes: &[u8], room: &mut [u8]) -> ImageInto
     ImageInto::Copied(length as u32)
 }
 
-/// What `saved_image` answers.
+/// Makes the answer of `saved_image`.
 fn image_answer(said: ImageInto) -> Answer
     ensures { result ≡ image_answer said }
 {
@@ -267,7 +268,7 @@ fn image_answer(said: ImageInto) -> Answer
     }
 }
 
-/// Tells the position of the name that was declared as the `k`th, counted from 0.
+/// Returns the position of the name that was declared as the `k`th, counted from 0.
 #[unsafe(no_mangle)]
 pub extern "C" fn linnetshelf_saved_position(handle: &mut Handle, k: u32) -> Answer
     ensures { OnSaved handle.old.held handle.new.held (result ≡ plain WrongKind) (λ old new.
@@ -288,7 +289,7 @@ fn position(saved: &Saved, k: u32) -> Result<u64, NoSuchPlace>
     }
 }
 
-/// Places the name that was declared as the `k`th, counted from 0.
+/// Sets the position of the name that was declared as the `k`th, counted from 0.
 #[unsafe(no_mangle)]
 pub extern "C" fn linnetshelf_saved_set_position(
     alloc: Global,
@@ -309,7 +310,7 @@ pub extern "C" fn linnetshelf_saved_set_position(
     status.number()
 }
 
-/// Tells the least cycle that reads look at.
+/// Returns the floor: the oldest cycle that reads return.
 #[unsafe(no_mangle)]
 pub extern "C" fn linnetshelf_saved_floor(handle: &mut Handle) -> Answer
     ensures { OnSaved handle.old.held handle.new.held (result ≡ plain WrongKind) (λ old new.
@@ -321,7 +322,7 @@ pub extern "C" fn linnetshelf_saved_floor(handle: &mut Handle) -> Answer
     }
 }
 
-/// Sets the least cycle that reads look at.
+/// Sets the floor: the oldest cycle that reads return.
 #[unsafe(no_mangle)]
 pub extern "C" fn linnetshelf_saved_set_floor(handle: &mut Handle, floor: u32) -> u32
     ensures { OnSaved handle.old.held handle.new.held (result ≡ number WrongKind) (λ old new.
@@ -336,8 +337,8 @@ pub extern "C" fn linnetshelf_saved_set_floor(handle: &mut Handle, floor: u32) -
     }
 }
 
-/// Hands out the first endpoint of a queue that holds what is saved, with the last of its cycles current. What is saved stays as
-/// it is. `Saved::open` says which contents are refused as `BadContents`.
+/// Hands out the first endpoint of a queue that holds what is saved, with the last of its cycles current. What is
+/// saved stays as it is. `Saved::open` says which contents are refused as `BadContents`.
 #[unsafe(no_mangle)]
 pub extern "C" fn linnetshelf_open(alloc: Global, handle: &mut Handle, out: &mut Handle) -> u32
     ensures { OnSaved handle.old.held handle.new.held

@@ -1,4 +1,4 @@
-//! How a queue is made, as C says it.
+//! The settings of a queue, as C gives them.
 ghost use Rattle.std.specs.Prelude.{◌≡◌, ◌++◌, ◌∷◌, [], IfErr, IfNone, IfOk, IfSome, OnOk, string_bytes};
 ghost use Rattle.std.specs.Str.{IsUtf8};
 ghost use Rattle.cq_model.specs.Settings.{texts};
@@ -13,7 +13,7 @@ use cq_model::Config;
 use cq_text::InputLines;
 use std::alloc::Global;
 
-/// How a queue is made. The names of its tailers are a text beside it, with a line for each.
+/// How a queue is made. The names of its tailers are a text next to it, with a line for each.
 #[repr(C)]
 #[derive(Clone, Copy)]
 pub struct Settings {
@@ -21,9 +21,9 @@ pub struct Settings {
     pub epoch: u64,
     /// The cells of a cycle, of four bytes each.
     pub cells: u32,
-    /// The entries of a table of the index: a power of two from 8 to 1,024.
+    /// The entries of an index table: a power of two from 8 to 1,024.
     pub index_count: u32,
-    /// One message in so many has an entry in the index: a power of two from 1 to 256.
+    /// One message in this many has an entry in the index: a power of two from 1 to 256.
     pub index_spacing: u32,
     /// How many cycles may begin: 1 to 64.
     pub cycles: u32,
@@ -31,9 +31,10 @@ pub struct Settings {
     pub roll: u32,
 }
 
-/// The configuration of these settings and names. `Config` says what the limits are.
+/// Makes the configuration of these settings and names. `Config` says what the limits are. Errors:
 ///
-/// Answers `BadSettings` where a setting is outside its limits, and `OutOfMemory`.
+/// - `BadSettings`: a setting is outside its limits, or a name is not UTF-8.
+/// - `OutOfMemory`: an allocation was refused.
 pub(crate) fn config_of(alloc: Global, settings: &Settings, names: &[u8]) -> Result<Config, Status>
     ensures made { IfOk result (IsAsked settings.now names.now) }
     ensures err { IfErr result (IsNotMade settings.now names.now) }
@@ -52,7 +53,7 @@ pub(crate) fn config_of(alloc: Global, settings: &Settings, names: &[u8]) -> Res
     }
 }
 
-/// The roll that has this number for C.
+/// Returns the roll that has this number for C.
 fn roll_of(number: u32) -> Option<Roll>
     ensures found { IfSome result (λ roll. roll_number roll ≡ number) }
     ensures none { IfNone result (HasNoRoll number) }
@@ -65,7 +66,7 @@ fn roll_of(number: u32) -> Option<Roll>
     }
 }
 
-/// The lines of a text as names.
+/// Makes names of the lines of a text.
 fn names_in(alloc: Global, text: &[u8]) -> Result<Vec<String>, Status>
     ensures made { IfOk result (λ names. texts names.items ≡ input_lines text.now) }
     ensures err { IfErr result (HasNoNames text.now) }
@@ -80,7 +81,7 @@ fn names_in(alloc: Global, text: &[u8]) -> Result<Vec<String>, Status>
     Ok(names)
 }
 
-/// A line as a name.
+/// Makes a name of a line.
 fn name_of(alloc: Global, line: &[u8]) -> Result<String, Status>
     ensures made { IfOk result (λ name. (string_bytes name ≡ line.now) × IsUtf8 line.now) }
     ensures err { IfErr result (IsNoName line.now) }
@@ -94,7 +95,7 @@ fn name_of(alloc: Global, line: &[u8]) -> Result<String, Status>
     }
 }
 
-/// Puts a name behind the others.
+/// Puts a name after the others.
 fn push(names: &mut Vec<String>, name: String) -> Result<(), Status>
     ensures ok { OnOk result (names.new.items ≡ names.old.items ++ name ∷ []) }
     ensures err { IfErr result (λ status. status ≡ OutOfMemory) }

@@ -4,41 +4,41 @@ ghost use Rattle.linnetshelf.specs.Statuses.{number};
 /// How a call went. C has its number.
 #[derive(Clone, Copy, Debug, PartialEq, Eq)]
 pub enum Status {
-    /// It is done.
+    /// The call is done.
     Done,
     /// There is no such message yet.
     NotYet,
     /// There is no earlier message.
     BeforeStart,
-    /// No message will ever stand there: its cycle is below the current one.
+    /// No message will ever be there: its cycle is below the current one.
     Never,
-    /// Reads pass over the cycle of this index, which was dropped.
+    /// Reads skip the cycle of this index, which was dropped.
     Gone,
-    /// No message stands at this index, or its cycle was dropped; the endpoint stays where it is.
+    /// No message is at this index, or its cycle was dropped; the endpoint stays where it is.
     NoMessage,
-    /// The room is too small; the answer has the length that is needed.
+    /// The buffer is too small; the answer has the length that is needed.
     NoRoom,
-    /// The name stands elsewhere and was not moved; the answer has its position.
+    /// The name is elsewhere and was not moved; the answer has its position.
     Moved,
     /// Another endpoint is writing.
     Busy,
-    /// A message of this length does not fit behind those of the current cycle.
+    /// A message of this length does not fit after those of the current cycle.
     CycleFull,
-    /// The moment lies in a later cycle, and the queue has as many cycles as it may have.
+    /// The moment is in a later cycle, and the queue has as many cycles as it may have.
     NoCycleLeft,
     /// No message has this length, which is 0 or above 2^30 - 1 bytes.
     BadRoom,
-    /// The moment lies in no cycle.
+    /// The moment is in no cycle.
     BadMoment,
     /// The endpoint has begun a message, which is to be completed or given up first.
     Writing,
     /// The endpoint has begun no message.
     NotWriting,
-    /// The bytes would pass the room with which the message was begun.
+    /// The bytes would pass the maximum length with which the message was begun.
     PastRoom,
     /// Nothing was put: a message has at least one byte.
     EmptyMessage,
-    /// The position or the cycle lies behind the end that the endpoint has seen.
+    /// The position or the cycle is after the end that the endpoint has seen.
     NotSeen,
     /// The queue declares no tailer of this name.
     NoSuchName,
@@ -48,11 +48,11 @@ pub enum Status {
     BadSettings,
     /// No queue of these settings holds these cycles, positions and floor.
     BadContents,
-    /// The cycle before has not ended, and nothing stands behind that.
+    /// The cycle before has not ended, and nothing comes after an open cycle.
     BehindOpen,
     /// The image ends before a record does, or where a message must follow.
     Cut,
-    /// Four bytes of the image that are not a header stand where one must be.
+    /// Four bytes of the image that are not a header are where one must be.
     BadHeader,
     /// A record of the image is not complete.
     Unfinished,
@@ -60,24 +60,24 @@ pub enum Status {
     WrongStore,
     /// A table of the image is missing, or has a wrong size or a wrong entry.
     WrongTable,
-    /// A byte of the image behind a message, up to the next four bytes, is not 0.
+    /// A byte of the image after a message, up to the next four bytes, is not 0.
     BadPadding,
     /// Bytes follow the end of data of the image.
     AfterEnd,
-    /// A message of the image does not fit the settings behind those before it.
+    /// A message of the image does not fit the settings after those before it.
     OverShape,
-    /// There are not as many cycles or names.
+    /// There are fewer cycles or names.
     NoSuchPlace,
     /// Other endpoints of the queue live.
     InUse,
     /// The handle holds something else than this call is for.
     WrongKind,
-    /// There was no memory.
+    /// Out of memory.
     OutOfMemory,
 }
 
 impl Status {
-    /// Its number for C.
+    /// Returns its number for C.
     pub fn number(self) -> u32
         ensures { result ≡ number self }
     {
@@ -120,7 +120,7 @@ impl Status {
         }
     }
 
-    /// The status of a number, where one has it.
+    /// Returns the status of a number, if one has it.
     pub fn of_number(asked: u32) -> Option<Status>
         ensures found { IfSome result (λ status. number status ≡ asked) }
         ensures none { IfNone result (35 ≤ asked) }
@@ -165,7 +165,7 @@ impl Status {
         }
     }
 
-    /// What it says.
+    /// Returns the text of this status, in English.
     pub fn text(self) -> &'static str {
         match self {
             Status::Done => "it is done",
