@@ -1,4 +1,4 @@
-//! Messages are appended to a queue that others may write to.
+//! Appending messages to a queue that others may write to.
 ghost use Rattle.std.specs.Prelude.{◌≡◌, ◌+◌, ◌<◌, ◌≤◌, OnOk};
 ghost use Rattle.cq_bench.specs.Counts.{messages_appended};
 ghost use Rattle.cq_words.specs.Values.{IsOf};
@@ -9,7 +9,7 @@ use cq_layout::Refusal;
 use cq_words::Queue;
 use std::hint::spin_loop;
 
-/// The moment of each append, in milliseconds of Unix time: all messages stand in one cycle.
+/// The moment of each append, in milliseconds of Unix time: all messages are in one cycle.
 pub const MOMENT: u64 = 0;
 
 /// The most tries of one call that is held back by another caller.
@@ -18,12 +18,12 @@ pub const MOST_TRIES: u32 = 1 << 30;
 /// How many times a caller pauses before it tries again.
 const PAUSES: u32 = 32;
 
-/// How an append stands in the loop that is measured.
+/// How an append is compiled into the measured loop.
 #[derive(Clone, Copy)]
 pub enum Appending {
     /// Its common case is code of the loop.
     Inlined,
-    /// It is a function that the loop calls: beside its figure stands that of a call from C.
+    /// It is a function that the loop calls: its figure is compared with that of a call from C.
     Called,
 }
 
@@ -34,7 +34,7 @@ fn pause() {
     }
 }
 
-/// Appends a message, and tries again where another caller writes.
+/// Appends a message, and tries again if another caller writes.
 #[inline(always)]
 pub fn append_one(queue: &Queue, appender: &mut Appender, bytes: &[u8]) -> Result<(), BenchFault>
     requires { IsOf queue.now appender.old }
@@ -48,8 +48,8 @@ pub fn append_one(queue: &Queue, appender: &mut Appender, bytes: &[u8]) -> Resul
     }
 }
 
-/// Tries again to append a message that another caller held back, with a pause before each try. It stands apart, so that where
-/// nobody else writes an append is one call.
+/// Tries again to append a message that another caller held back, with a pause before each try. It is a function of
+/// its own, so that an append is one call if no other caller writes.
 #[inline(never)]
 fn append_again(queue: &Queue, appender: &mut Appender, bytes: &[u8]) -> Result<(), BenchFault>
     requires { IsOf queue.now appender.old }
@@ -67,8 +67,7 @@ fn append_again(queue: &Queue, appender: &mut Appender, bytes: &[u8]) -> Result<
     Err(BenchFault::Refused(Refusal::Busy))
 }
 
-/// Appends a message `count` times: at least that many more of the caller's calls are answered with an
-/// index, or it fails.
+/// Appends a message `count` times. At least that many more of the caller's calls return an index, or it fails.
 pub fn append_all(
     queue: &Queue,
     appender: &mut Appender,
@@ -89,8 +88,8 @@ pub fn append_all(
     Ok(())
 }
 
-/// The same where another caller held back the first one. It stands apart, so that where nobody else writes nothing is kept for
-/// more tries.
+/// The same if another caller held back the first one. It is a function of its own, so that nothing is kept for more
+/// tries if no other caller writes.
 #[cold]
 #[inline(never)]
 fn append_rest(
@@ -121,7 +120,7 @@ fn append_called(queue: &Queue, appender: &mut Appender, bytes: &[u8]) -> Result
     append_one(queue, appender, bytes)
 }
 
-/// Appends a message so many times, each by a call.
+/// Appends a message this many times, each by a call.
 fn append_all_called(
     queue: &Queue,
     appender: &mut Appender,
@@ -138,7 +137,7 @@ fn append_all_called(
     Ok(())
 }
 
-/// Appends a message so many times, in this way.
+/// Appends a message this many times, in this way.
 pub fn append_so(
     appending: Appending,
     queue: &Queue,

@@ -1,4 +1,4 @@
-//! The cases, and the words for them.
+//! The cases, and their names on the command line.
 use crate::appending::Appending;
 use crate::crews::{Crew, print_crews};
 use crate::fault::BenchFault;
@@ -16,11 +16,11 @@ use std::thread::Threads;
 pub enum Case {
     /// Appenders fill a cycle together.
     Append,
-    /// One does, by a call for each message.
+    /// One appender does, by a call for each message.
     AppendByCall,
     /// Tailers read a full cycle, each all of it.
     Read,
-    /// The same into rooms of theirs.
+    /// The same into buffers of theirs.
     ReadInto,
     /// Appenders fill a cycle while tailers read it.
     Flow,
@@ -30,7 +30,7 @@ pub enum Case {
     ReadAt,
     /// Appends early and late in a cycle.
     Growth,
-    /// The same by appenders that know no place.
+    /// The same by appenders that know no position in the queue.
     ColdAppend,
     /// A queue is filled, stopped and made an image.
     Save,
@@ -38,7 +38,7 @@ pub enum Case {
     Reopen,
 }
 
-/// The word of each case, and what it measures.
+/// The name of each case, and what it measures.
 pub static CASES: [(&str, Case, &str); 11] = [
     ("append", Case::Append, "1, 2 and 4 appenders fill a cycle"),
     (
@@ -61,7 +61,7 @@ const LENGTHS: [u32; 5] = [8, 64, 256, 1024, 4096];
 
 const FLOW_LENGTHS: [u32; 2] = [64, 1024];
 
-/// A crew of so many appenders and tailers, which read owned copies.
+/// A crew of this many appenders and tailers, which read owned copies.
 const fn crew(appenders: u32, tailers: u32) -> Crew {
     Crew {
         appending: Appending::Inlined,
@@ -79,7 +79,7 @@ const CALLER: Crew = Crew {
     reading: Reading::Copies,
 };
 
-/// A crew of so many tailers, which read into rooms.
+/// A crew of this many tailers, which read into buffers.
 const fn crew_into(tailers: u32) -> Crew {
     Crew {
         appending: Appending::Inlined,
@@ -89,7 +89,7 @@ const fn crew_into(tailers: u32) -> Crew {
     }
 }
 
-/// The case of a word, if there is one.
+/// Returns the case of a name, if there is one.
 pub fn case_of(word: &str) -> Option<Case> {
     for (name, case, _) in &CASES {
         if *name == word {

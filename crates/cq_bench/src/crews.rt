@@ -1,4 +1,4 @@
-//! Appenders and tailers on threads of one queue.
+//! Appenders and tailers of one queue, on threads.
 use crate::appending::{Appending, MOST_TRIES};
 use crate::fault::BenchFault;
 use crate::figures::{Figure, Label, print_line};
@@ -12,7 +12,8 @@ use std::rt::Clock;
 use std::thread::Threads;
 use std::time::Duration;
 
-/// How many of each share a queue, and how they append and read. Where there is no appender the queue is full before.
+/// How many appenders and tailers share a queue, and how they append and read. If there is no appender the queue is
+/// filled before.
 #[derive(Clone, Copy)]
 pub struct Crew {
     pub appending: Appending,
@@ -29,7 +30,7 @@ struct Share {
 }
 
 impl Crew {
-    /// What each does where so many messages fit.
+    /// Returns what each does if this many messages fit.
     fn share(self, count: u32) -> Result<Share, BenchFault> {
         let each = match self.appenders {
             0 => count,
@@ -44,7 +45,8 @@ impl Crew {
         })
     }
 
-    /// How many messages count: those that were appended, or where nobody appends, those that each has read.
+    /// Returns how many messages count: those that were appended, or those that each tailer has read if there is no
+    /// appender.
     fn messages(self, share: Share) -> u64 {
         match self.appenders {
             0 => u64::from(share.all).saturating_mul(u64::from(self.tailers)),
@@ -52,7 +54,7 @@ impl Crew {
         }
     }
 
-    /// How it is called in a line.
+    /// Returns its name in a line.
     fn name(self, alloc: Global) -> Result<String, AllocError> {
         let Crew {
             appending: _,
@@ -69,7 +71,7 @@ impl Crew {
         format!(in alloc; "{appenders}to{tailers}")
     }
 
-    /// What the threads do on a new queue.
+    /// Returns what the threads do on a new queue.
     fn jobs(
         self,
         alloc: Global,
@@ -80,7 +82,7 @@ impl Crew {
         for _ in 0..self.appenders {
             jobs.push(Job::Append(shared.appender()?, self.appending, share.each))?;
         }
-        // Where nobody appends, a message that is not there will not come.
+        // If there is no appender, a message that is not there will not come.
         let looks = if self.appenders == 0 { 1 } else { MOST_TRIES };
         for _ in 0..self.tailers {
             let target = Target::new(alloc, self.reading)?;
@@ -90,7 +92,7 @@ impl Crew {
     }
 }
 
-/// The time of a crew on a new queue.
+/// Measures the time of a crew on a new queue.
 fn crew_time<R: AllocGlobal + Clock + Threads + Sync>(
     rt: &R,
     shape: Shape,
@@ -106,7 +108,7 @@ fn crew_time<R: AllocGlobal + Clock + Threads + Sync>(
     time_of(rt, jobs, bytes)
 }
 
-/// Messages in a second, in the best of all repetitions.
+/// Measures messages per second, in the best of all repetitions.
 fn crew_figure<R: AllocGlobal + Clock + Threads + Sync>(
     rt: &R,
     settings: &Settings,

@@ -5,10 +5,10 @@ use std::alloc::AllocError;
 /// Why a case has no figure.
 #[derive(Debug, Drop, thiserror::Error)]
 pub enum BenchFault {
-    /// There is no queue of this shape.
+    /// No queue has this shape.
     #[error("there is no queue of this shape")]
     NoQueue,
-    /// A cycle has no room for the messages of the case.
+    /// The messages of the case do not fit in a cycle.
     #[error("a cycle has no room for the messages")]
     NoRoom,
     /// An append was refused.
@@ -23,7 +23,7 @@ pub enum BenchFault {
     /// The figure was not printed.
     #[error("the figure was not printed")]
     NotPrinted,
-    /// There was no memory.
+    /// Out of memory.
     #[error("OutOfMemory")]
     OutOfMemory,
 }

@@ -1,4 +1,4 @@
-//! What is measured, as it is printed.
+//! Figures, and how they are printed.
 use crate::fault::BenchFault;
 use crate::settings::Settings;
 use std::fmt;
@@ -11,20 +11,20 @@ pub struct Figure {
 }
 
 impl Figure {
-    /// None at all.
+    /// The figure 0.
     pub const ZERO: Figure = Figure { hundredths: 0 };
 
-    /// Messages in a second, where so many took this time.
+    /// Returns messages per second, if this many took this time.
     pub fn rate(count: u64, time: Duration) -> Figure {
         Figure::of(u128::from(count) * 100_000_000_000, time.as_nanos())
     }
 
-    /// Nanoseconds for each, where so many took this time.
+    /// Returns nanoseconds per message, if this many took this time.
     pub fn nanos_each(count: u64, time: Duration) -> Figure {
         Figure::of(time.as_nanos().saturating_mul(100), u128::from(count))
     }
 
-    /// How many times the other figure this one is.
+    /// Returns how many times the other figure this one is.
     pub fn times(self, other: Figure) -> Figure {
         Figure::of(
             u128::from(self.hundredths) * 100,
@@ -32,7 +32,7 @@ impl Figure {
         )
     }
 
-    /// So many hundredths for each. Of none there is one.
+    /// This many hundredths for each. Zero counts as one.
     fn of(hundredths: u128, each: u128) -> Figure {
         Figure {
             hundredths: (hundredths / each.max(1)).min(u128::from(u64::MAX)) as u64,
@@ -56,7 +56,7 @@ pub struct Label<'a> {
     pub threads: &'a str,
 }
 
-/// Prints the line of a figure, or without the figure where it is only tried whether the case runs.
+/// Prints the line of a figure. In a trial, which only tries whether the case runs, the line has no figure.
 pub fn print_line<R: Print>(
     rt: &R,
     settings: &Settings,

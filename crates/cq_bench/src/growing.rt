@@ -1,4 +1,5 @@
-//! What an append takes early and late in a cycle, by an appender that goes on and by ones that know no place.
+//! How long an append takes early and late in a cycle, by an appender that goes on and by new ones that know no
+//! position.
 use crate::fault::BenchFault;
 use crate::figures::{Figure, Label, print_line};
 use crate::queues::{SharedAppender, SharedQueue, message_count};
@@ -15,10 +16,11 @@ const LENGTH: u32 = 8;
 /// A message.
 const MESSAGE: [u8; 8] = [b'x'; 8];
 
-/// How many new appenders append in each eighth, so many one behind the other each time.
+/// How many batches of new appenders append in each eighth.
 const BATCHES: u32 = 2;
 
-/// How many new appenders append one behind the other: so many that the two looks at the clock round them count for little.
+/// How many new appenders append one after the other in a batch: enough that the two readings of the clock around
+/// them count for little.
 const BATCH: u32 = 64;
 
 /// The time of the measured appends in the first and in the last eighth of a cycle.
@@ -38,7 +40,7 @@ pub enum Growth {
 }
 
 impl Growth {
-    /// How many appends of an eighth are measured, where it has so many.
+    /// How many appends of an eighth are measured, if it has that many.
     fn measured(self, eighth: u32) -> u64 {
         match self {
             Growth::Warm => u64::from(eighth),
@@ -46,7 +48,7 @@ impl Growth {
         }
     }
 
-    /// Appends an eighth, and answers the time of those that are measured.
+    /// Appends an eighth, and returns the time of those that are measured.
     fn eighth_time<R: AllocGlobal + Clock>(
         self,
         rt: &R,
@@ -65,7 +67,7 @@ impl Growth {
     }
 }
 
-/// So many appenders that were just split off.
+/// Makes this many appenders that were just split off.
 fn new_appenders(
     alloc: Global,
     shared: &mut SharedQueue,
@@ -77,7 +79,7 @@ fn new_appenders(
     Ok(appenders)
 }
 
-/// The time of one append by each of these.
+/// Measures the time of one append by each of these.
 fn batch_time<R: Clock>(rt: &R, appenders: &mut [SharedAppender]) -> Result<Duration, BenchFault> {
     let start = now(rt)?;
     for appender in appenders.iter_mut() {
@@ -86,7 +88,7 @@ fn batch_time<R: Clock>(rt: &R, appenders: &mut [SharedAppender]) -> Result<Dura
     Ok(now(rt)?.duration_since(start))
 }
 
-/// Appends an eighth, and answers the time of appends by appenders that were just split off.
+/// Appends an eighth, and returns the time of appends by appenders that were just split off.
 fn cold_time<R: AllocGlobal + Clock>(
     rt: &R,
     shared: &mut SharedQueue,
@@ -102,7 +104,7 @@ fn cold_time<R: AllocGlobal + Clock>(
     Ok(total)
 }
 
-/// The times over a queue, by this appender where one goes on.
+/// Measures the times over a queue, by this appender if one goes on.
 fn eighths_by<R: AllocGlobal + Clock>(
     rt: &R,
     growth: Growth,
@@ -116,7 +118,7 @@ fn eighths_by<R: AllocGlobal + Clock>(
     Ok(Eighths { first, last })
 }
 
-/// The times over a new queue.
+/// Measures the times over a new queue.
 fn eighths_of<R: AllocGlobal + Clock>(
     rt: &R,
     shape: Shape,

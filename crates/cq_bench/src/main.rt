@@ -1,8 +1,13 @@
 //! Measures a queue: prints a line of JSON for each figure on standard output.
 //!
-//! The words of the command line say which cases, or `all`. Without a word it prints what words there are. It ends with
-//! status 0 where all was measured, 1 after a fault and 2 where a word or a variable is not understood. What is wrong goes
-//! to standard error.
+//! The arguments say which cases to measure, or `all`. Without an argument it prints the list of cases. The exit
+//! status is:
+//!
+//! - 0: all was measured.
+//! - 1: a case failed.
+//! - 2: an argument or an environment variable is not understood.
+//!
+//! What is wrong goes to standard error.
 #![tactic(auto)]
 
 mod appending;
@@ -30,23 +35,23 @@ use std::{env, io};
 /// All was measured.
 const DONE: u8 = 0;
 
-/// A case met a fault.
+/// A case failed.
 const FAULT: u8 = 1;
 
-/// A word or a variable is not understood.
+/// An argument or an environment variable is not understood.
 const NOT_UNDERSTOOD: u8 = 2;
 
-/// The word for all cases.
+/// The argument for all cases.
 const ALL: &str = "all";
 
-/// The word for a short run of all cases over small queues, without figures.
+/// The argument for a short run of all cases over small queues, without figures.
 const TRIAL: &str = "trial";
 
 fn main(rt: HostRuntime) -> ExitCode {
     ExitCode::from(status(&rt))
 }
 
-/// Does what the words ask for, and gives the exit status.
+/// Does what the arguments ask for, and returns the exit status.
 fn status<R>(rt: &R) -> u8
 where
     R: AllocGlobal + Clock + Env + Print + Eprint + Threads + Sync,
@@ -70,7 +75,7 @@ where
     }
 }
 
-/// Says what is wrong, if anything is, and gives the exit status.
+/// Prints what is wrong, if anything is, and returns the exit status.
 fn ended<R: Eprint>(rt: &R, outcome: Result<(), BenchFault>) -> u8 {
     match outcome {
         Ok(()) => DONE,
@@ -81,17 +86,17 @@ fn ended<R: Eprint>(rt: &R, outcome: Result<(), BenchFault>) -> u8 {
     }
 }
 
-/// The words of the command line behind the program's name.
+/// Returns the arguments after the program's name.
 fn words<R: AllocGlobal + Env>(rt: &R) -> io::Result<Vec<String>> {
     Ok(env::args(rt)?.skip(1).collect(rt.alloc())?)
 }
 
-/// Whether there is something for a word.
+/// Whether an argument is understood.
 fn is_known(word: &str) -> bool {
     word == ALL || word == TRIAL || case_of(word).is_some()
 }
 
-/// Measures what each word says. Where there is none, prints the words.
+/// Measures what each argument says. If there is none, prints the list of cases.
 fn print_words<R>(rt: &R, settings: &Settings, words: &[String]) -> Result<(), BenchFault>
 where
     R: AllocGlobal + Clock + Print + Threads + Sync,
@@ -105,7 +110,7 @@ where
     Ok(())
 }
 
-/// Measures what a word says.
+/// Measures what an argument says.
 fn print_word<R>(rt: &R, settings: &Settings, word: &str) -> Result<(), BenchFault>
 where
     R: AllocGlobal + Clock + Print + Threads + Sync,
@@ -119,7 +124,7 @@ where
     }
 }
 
-/// Prints the words that there are.
+/// Prints the arguments that there are.
 fn print_help<R: Print>(rt: &R) -> Result<(), BenchFault> {
     for (word, _, what) in &CASES {
         print_meaning(rt, word, what)?;
@@ -128,7 +133,7 @@ fn print_help<R: Print>(rt: &R) -> Result<(), BenchFault> {
     print_meaning(rt, TRIAL, "all of these over small queues, without figures")
 }
 
-/// Prints a word, and what is measured for it.
+/// Prints an argument, and what is measured for it.
 fn print_meaning<R: Print>(rt: &R, word: &str, what: &str) -> Result<(), BenchFault> {
     match println!(rt; "{word:14} {what}") {
         Ok(()) => Ok(()),

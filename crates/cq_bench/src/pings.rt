@@ -1,4 +1,4 @@
-//! How long a message is on its way from an append to another's read of it.
+//! How long it takes from an append of a message until another caller has read it.
 ghost use Rattle.cq_words.specs.Values.{IsOf};
 
 use crate::appending::{MOST_TRIES, append_one};
@@ -20,17 +20,17 @@ use std::time::{Duration, Instant};
 /// The bytes of a message.
 const LENGTH: u32 = 64;
 
-/// How many messages are sent, if so many fit.
+/// How many messages are sent, if that many fit.
 const MOST_PINGS: u32 = 10_000;
 
-/// The times that half of the messages and 99 of 100 take at most.
+/// The times that half of the messages, and 99 of 100, take at most.
 #[derive(Clone, Copy)]
 struct Times {
     half: Duration,
     most: Duration,
 }
 
-/// Appends messages, each when the one before it was read, and keeps when each append began.
+/// Appends messages, each once the one before it was read, and keeps when each append began.
 fn send_all<R: Clock>(
     rt: &R,
     read: &Gate,
@@ -42,7 +42,7 @@ fn send_all<R: Clock>(
     requires { IsOf queue.now appender.old }
 {
     for number in 0..count {
-        // The first is sent when the tailer has come.
+        // The first is sent once the tailer has come.
         if !read.wait(u64::from(number) + 1) {
             return Err(BenchFault::Missing);
         }
@@ -55,7 +55,7 @@ fn send_all<R: Clock>(
     Ok(())
 }
 
-/// Appends messages, each when the one before it was read, and answers when each append began.
+/// Appends messages, each once the one before it was read, and returns when each append began.
 fn send<R: AllocGlobal + Clock>(
     rt: &R,
     read: &Gate,
@@ -94,7 +94,7 @@ fn receive_all<R: AllocGlobal + Clock>(
     Ok(())
 }
 
-/// Reads messages as they come, and answers when each was read.
+/// Reads messages as they come, and returns when each was read.
 fn receive<R: AllocGlobal + Clock>(
     rt: &R,
     read: &Gate,
@@ -107,13 +107,13 @@ fn receive<R: AllocGlobal + Clock>(
     Ok(received)
 }
 
-/// An appender and a tailer of a new queue.
+/// Makes an appender and a tailer of a new queue.
 fn new_pair(alloc: Global, shape: Shape) -> Result<(SharedAppender, SharedTailer), BenchFault> {
     let mut shared = SharedQueue::new(alloc, shape)?;
     Ok((shared.appender()?, shared.tailer()?))
 }
 
-/// When each of so many messages was sent and read, one at a time.
+/// Returns when each of this many messages was sent and read, one at a time.
 fn send_and_receive<R: AllocGlobal + Clock + Threads + Sync>(
     rt: &R,
     appender: SharedAppender,
@@ -131,7 +131,7 @@ fn send_and_receive<R: AllocGlobal + Clock + Threads + Sync>(
     )
 }
 
-/// The times of so many messages, one at a time.
+/// Measures the times of this many messages, one at a time.
 fn ping_times<R: AllocGlobal + Clock + Threads + Sync>(
     rt: &R,
     shape: Shape,
@@ -144,7 +144,7 @@ fn ping_times<R: AllocGlobal + Clock + Threads + Sync>(
     times_of(times.as_slice())
 }
 
-/// How long each message was on its way.
+/// Returns how long each message was on its way.
 fn times_between(
     alloc: Global,
     sent: &[Instant],
@@ -159,7 +159,7 @@ fn times_between(
     Ok(times)
 }
 
-/// The two times of these, the shortest of which comes first.
+/// Returns these two of the given times, of which the shortest comes first.
 fn times_of(times: &[Duration]) -> Result<Times, BenchFault> {
     match (
         times.get(times.len() / 2),

@@ -17,7 +17,7 @@ use cq_words::{Caller, Queue};
 use std::alloc::{AllocError, Global};
 use std::sync::Arc;
 
-/// The settings of a queue with one cycle of this shape, which is a day.
+/// Makes the settings of a queue with one cycle of this shape, which lasts a day.
 pub fn config_of(alloc: Global, shape: Shape) -> Result<Config, BenchFault> {
     match Config::new(shape, 1, Roll::Daily, 0, Vec::new(alloc)) {
         Ok(config) => Ok(config),
@@ -25,7 +25,7 @@ pub fn config_of(alloc: Global, shape: Shape) -> Result<Config, BenchFault> {
     }
 }
 
-/// A new queue with one cycle of this shape, and its first caller.
+/// Makes a new queue with one cycle of this shape, and its first caller.
 pub fn new_queue(alloc: Global, shape: Shape) -> Result<(Queue, Caller), BenchFault>
     ensures of { IfOk result (λ made. IsOf made.0 made.1) }
     ensures idle { IfOk result (λ made. made.1.view.claim ≡ None) }
@@ -33,13 +33,14 @@ pub fn new_queue(alloc: Global, shape: Shape) -> Result<(Queue, Caller), BenchFa
     Ok(Queue::create(alloc, config_of(alloc, shape)?, MOMENT)?)
 }
 
-/// How many messages of this length, in bytes, fit in a cycle of this shape for certain, with all tables that they need.
+/// Returns how many messages of this length, in bytes, certainly fit in a cycle of this shape, with all tables that
+/// they need.
 pub fn message_count(shape: Shape, length: u32) -> u32 {
     let layout = layout_of(shape, Roll::Daily, 0);
     let table = 1 + u64::from(shape.index_count());
     let served = u64::from(layout.messages_per_table());
     let record = u64::from(record_cells(length));
-    // Behind the store record, the top table, one index table and the end of data.
+    // After the store record, the top table, one index table and the end of data.
     let room = u64::from(shape.cells()) - u64::from(store_size(layout)) - 2 * table - 1;
     let fitting = room * served / (served * record + table);
     fitting.min(u64::from(layout.message_limit())) as u32
@@ -55,21 +56,21 @@ pub struct SharedQueue {
 }
 
 impl SharedQueue {
-    /// A new queue with one cycle of this shape.
+    /// Makes a new queue with one cycle of this shape.
     pub fn new(alloc: Global, shape: Shape) -> Result<SharedQueue, BenchFault> {
         let (queue, caller) = new_queue(alloc, shape)?;
         let queue = Arc::new(alloc, queue).map_err(|_| AllocError)?;
         Ok(SharedQueue { queue, caller })
     }
 
-    /// An appender that knows no place in the queue.
+    /// Makes an appender that knows no position in the queue.
     pub fn appender(&mut self) -> Result<SharedAppender, AllocError> {
         let queue = Arc::try_clone(&self.queue)?;
         let appender = Appender::new(queue.split(&mut self.caller));
         Ok(SharedAppender { queue, appender })
     }
 
-    /// A tailer at the start.
+    /// Makes a tailer at the start.
     pub fn tailer(&mut self) -> Result<SharedTailer, AllocError> {
         let queue = Arc::try_clone(&self.queue)?;
         let tailer = Tailer::new(queue.split(&mut self.caller));
@@ -94,7 +95,7 @@ impl SharedAppender {
         append_one(&self.queue, &mut self.appender, bytes)
     }
 
-    /// Appends so many messages of these bytes.
+    /// Appends this many messages of these bytes.
     pub fn append_all(&mut self, bytes: &[u8], count: u32) -> Result<(), BenchFault>
         ensures { OnOk result (messages_appended self.old.appender + count ≤ messages_appended self.new.appender) }
     {
@@ -123,7 +124,8 @@ pub struct SharedTailer {
 }
 
 impl SharedTailer {
-    /// Reads so many messages. Where the next one has not come it looks again, so many times for each.
+    /// Reads this many messages. If the next one has not come it tries again, up to the given number of times for
+    /// each.
     pub fn read_all(
         &mut self,
         target: &mut Target,

@@ -1,4 +1,4 @@
-//! Messages are read by index, here and there over a full cycle.
+//! Reading messages by index, in pseudo-random order over a full cycle.
 ghost use Rattle.std.specs.Prelude.{◌≡◌, ◌+◌, ◌<◌, ◌≤◌, None, OnOk};
 ghost use Rattle.cq_bench.specs.Counts.{messages_read};
 ghost use Rattle.cq_words.specs.Values.{IsOf};
@@ -20,20 +20,20 @@ use std::time::Duration;
 /// The bytes of a message.
 const LENGTH: u32 = 64;
 
-/// How many messages are read between two looks at the clock.
+/// How many messages are read between two readings of the clock.
 const BATCH: u32 = 64;
 
 /// The most batches.
 const MOST_BATCHES: u32 = 1 << 24;
 
-/// Numbers that look random, the same in each run.
+/// Pseudo-random numbers, the same in each run.
 #[derive(Drop)]
 struct Numbers {
     state: u64,
 }
 
 impl Numbers {
-    /// The next one below this.
+    /// Returns the next one below this.
     fn below(&mut self, end: u32) -> u32
         requires { 0 < end }
         ensures { result < end }
@@ -46,7 +46,7 @@ impl Numbers {
     }
 }
 
-/// Reads a batch of messages of the first cycle, which has at least so many.
+/// Reads a batch of messages of the first cycle, which has at least that many.
 fn read_batch(
     alloc: Global,
     queue: &Queue,
@@ -69,7 +69,7 @@ fn read_batch(
     Ok(())
 }
 
-/// Reads batch after batch for at least this time, and answers messages in a second.
+/// Reads batch after batch for at least this time, and returns messages per second.
 fn read_for<R: AllocGlobal + Clock>(
     rt: &R,
     queue: &Queue,
@@ -93,7 +93,7 @@ fn read_for<R: AllocGlobal + Clock>(
     Err(BenchFault::Missing)
 }
 
-/// The best of all repetitions, in messages in a second.
+/// Returns the best of all repetitions, in messages per second.
 fn best_reads<R: AllocGlobal + Clock>(
     rt: &R,
     settings: &Settings,
@@ -111,7 +111,7 @@ fn best_reads<R: AllocGlobal + Clock>(
     Ok(best)
 }
 
-/// Appends so many messages, by a caller that ends then.
+/// Appends this many messages, by a caller that ends then.
 fn fill(queue: &Queue, caller: Caller, count: u32) -> Result<(), BenchFault>
     requires of { IsOf queue.now caller }
     requires idle { caller.view.claim ≡ None }
@@ -120,7 +120,7 @@ fn fill(queue: &Queue, caller: Caller, count: u32) -> Result<(), BenchFault>
     append_all(queue, &mut appender, &[b'x'; LENGTH as usize], count)
 }
 
-/// The best of all repetitions over a new queue of so many messages.
+/// Returns the best of all repetitions over a new queue of this many messages.
 fn best_reads_of_new<R: AllocGlobal + Clock>(
     rt: &R,
     settings: &Settings,

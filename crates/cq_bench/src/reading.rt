@@ -1,4 +1,4 @@
-//! Messages are read from a queue that others may write to.
+//! Reading messages from a queue that others may write to.
 ghost use Rattle.std.specs.Prelude.{◌≡◌, ◌+◌, ◌≤◌, IfOk, OnOk};
 ghost use Rattle.cq_bench.specs.Counts.{messages_read, of_a_look};
 ghost use Rattle.cq_words.specs.Values.{IsOf};
@@ -9,7 +9,7 @@ use cq_words::Queue;
 use std::alloc::{AllocError, Global};
 use std::hint::spin_loop;
 
-/// The bytes of a room: as many as the longest messages have that are measured.
+/// The bytes of a buffer: as many as the longest measured messages have.
 const ROOM: usize = 4096;
 
 /// How messages are read.
@@ -17,21 +17,21 @@ const ROOM: usize = 4096;
 pub enum Reading {
     /// As owned copies.
     Copies,
-    /// Into a room of the tailer's own.
+    /// Into a buffer of the tailer's own.
     Into,
 }
 
-/// What a tailer reads messages to.
+/// Where a tailer puts the messages that it reads.
 #[derive(Drop)]
 pub enum Target {
-    /// To owned copies, which take memory.
+    /// Owned copies, which take memory.
     Copies(Global),
-    /// To this room, one after the other, which takes none.
+    /// This buffer, one message after the other, which takes none.
     Room(Vec<u8>),
 }
 
 impl Target {
-    /// A target for messages that are read so.
+    /// Makes a target for messages that are read in this way.
     pub fn new(alloc: Global, reading: Reading) -> Result<Target, AllocError> {
         match reading {
             Reading::Copies => Ok(Target::Copies(alloc)),
@@ -40,7 +40,7 @@ impl Target {
     }
 }
 
-/// Reads the next message, if it has come, as an owned copy, and answers whether it has.
+/// Reads the next message, if it has come, as an owned copy. Returns whether it has.
 #[inline(always)]
 fn look_for_copy(alloc: Global, queue: &Queue, tailer: &mut Tailer) -> Result<bool, BenchFault>
     requires { IsOf queue.now tailer.old.caller }
@@ -54,8 +54,8 @@ fn look_for_copy(alloc: Global, queue: &Queue, tailer: &mut Tailer) -> Result<bo
     }
 }
 
-/// Reads the next message, if it has come, into a room, and answers whether it has. It is not inlined: its figure is that of a call,
-/// beside which that of a call from C stands.
+/// Reads the next message, if it has come, into a buffer. Returns whether it has. It is not inlined: its figure is
+/// that of a call, and is compared with that of a call from C.
 #[inline(never)]
 fn look_into(queue: &Queue, tailer: &mut Tailer, room: &mut [u8]) -> Result<bool, BenchFault>
     requires { IsOf queue.now tailer.old.caller }
@@ -70,7 +70,7 @@ fn look_into(queue: &Queue, tailer: &mut Tailer, room: &mut [u8]) -> Result<bool
     }
 }
 
-/// Reads the next message as an owned copy. Where none has come it looks again, so many times.
+/// Reads the next message as an owned copy. If none has come it tries again, up to this many times.
 #[inline(always)]
 pub fn read_copy(
     alloc: Global,
@@ -88,8 +88,8 @@ pub fn read_copy(
     read_copy_again(alloc, queue, tailer, tries)
 }
 
-/// Looks again for a message that had not come, with a pause before each look. It stands apart, so that where messages are there a
-/// read is one call.
+/// Tries again to read a message that had not come, with a pause before each try. It is a function of its own, so
+/// that a read is one call if messages are there.
 #[inline(never)]
 fn read_copy_again(
     alloc: Global,
@@ -110,7 +110,7 @@ fn read_copy_again(
     Err(BenchFault::Missing)
 }
 
-/// Reads the next message into a room. Where none has come it looks again, so many times altogether.
+/// Reads the next message into a buffer. If none has come it tries again, this many times in all.
 #[inline(always)]
 fn read_into(
     queue: &Queue,
@@ -131,7 +131,8 @@ fn read_into(
     Err(BenchFault::Missing)
 }
 
-/// Reads so many messages as owned copies. Where the next one has not come it looks again, so many times for each.
+/// Reads this many messages as owned copies. If the next one has not come it tries again, up to the given number of
+/// times for each.
 fn read_copies(
     alloc: Global,
     queue: &Queue,
@@ -151,7 +152,8 @@ fn read_copies(
     Ok(())
 }
 
-/// The same where the next one had not come. It stands apart, so that where messages are there nothing is kept for more looks.
+/// The same if the next one had not come. It is a function of its own, so that nothing is kept for more tries if
+/// messages are there.
 #[inline(never)]
 fn wait_for_copies(
     alloc: Global,
@@ -170,7 +172,7 @@ fn wait_for_copies(
     Ok(())
 }
 
-/// The same into a room, one after the other.
+/// The same into a buffer, one after the other.
 fn read_all_into(
     queue: &Queue,
     tailer: &mut Tailer,
@@ -188,8 +190,8 @@ fn read_all_into(
     Ok(())
 }
 
-/// Reads so many messages. Where the next one has not come it looks again, so many times for each. At
-/// least `count` more of the caller's calls are answered with a message, or it fails.
+/// Reads this many messages. If the next one has not come it tries again, up to the given number of times for each.
+/// At least `count` more of the caller's calls return a message, or it fails.
 pub fn read_all(
     target: &mut Target,
     queue: &Queue,

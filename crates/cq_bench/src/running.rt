@@ -9,29 +9,29 @@ use std::sync::atomic::{AtomicU64, Ordering};
 use std::thread::{Threads, map_vec};
 use std::time::{Duration, Instant};
 
-/// The most looks of a thread at whether another has come.
+/// The most times that a thread checks whether another has come.
 const MOST_LOOKS: u32 = 1 << 30;
 
-/// How far threads have come together.
+/// How many threads have come so far.
 #[derive(Drop)]
 pub struct Gate {
     come: AtomicU64,
 }
 
 impl Gate {
-    /// A gate at which nobody is.
+    /// Makes a gate to which no thread has come.
     pub fn new() -> Gate {
         Gate {
             come: AtomicU64::new(0),
         }
     }
 
-    /// One more has come.
+    /// Counts one more thread that has come.
     pub fn come(&self) {
         self.come.fetch_add(1, Ordering::SeqCst);
     }
 
-    /// Waits until so many have come, and answers whether they have: it does not wait forever.
+    /// Waits until this many have come, and returns whether they have: it does not wait forever.
     pub fn wait(&self, all: u64) -> bool {
         for _ in 0..MOST_LOOKS {
             if self.come.load(Ordering::SeqCst) >= all {
@@ -46,9 +46,9 @@ impl Gate {
 /// What one thread does.
 #[derive(Drop)]
 pub enum Job {
-    /// Appends so many messages, in this way.
+    /// Appends this many messages, in this way.
     Append(SharedAppender, Appending, u32),
-    /// Reads so many messages to a target, with so many looks for each.
+    /// Reads this many messages to a target, with this many tries for each.
     Read(SharedTailer, Target, u32, u32),
 }
 
@@ -59,7 +59,7 @@ struct Span {
     end: Instant,
 }
 
-/// What the clock shows.
+/// Returns what the clock shows.
 pub fn now(clock: &impl Clock) -> Result<Instant, BenchFault> {
     match Instant::now(clock) {
         Ok(instant) => Ok(instant),
@@ -95,8 +95,8 @@ fn span_of<R: Clock>(
     Ok(Span { start, end })
 }
 
-/// Does each job on a thread of its own, with messages of these bytes, and answers the time from the first start to the last
-/// end. Where one of them met a fault, that is the answer.
+/// Does each job on a thread of its own, with messages of these bytes. Returns the time from the first start to the
+/// last end, or the fault that one of them met.
 pub fn time_of<R: AllocGlobal + Clock + Threads + Sync>(
     rt: &R,
     jobs: Vec<Job>,
@@ -112,7 +112,7 @@ pub fn time_of<R: AllocGlobal + Clock + Threads + Sync>(
     whole(spans)
 }
 
-/// From the first start to the last end.
+/// Returns the time from the first start to the last end.
 fn whole(spans: Vec<Result<Span, BenchFault>>) -> Result<Duration, BenchFault> {
     let mut together: Option<Span> = None;
     for span in spans {

@@ -31,7 +31,7 @@ struct Saved {
     time: Duration,
 }
 
-/// The image of the first cycle of a queue, which has not ended.
+/// Makes the image of the first cycle of a queue, which has not ended.
 fn stopped_image(alloc: Global, queue: Queue, caller: Caller) -> Result<Vec<u8>, BenchFault>
     requires { IsOf queue caller }
 {
@@ -45,7 +45,7 @@ fn stopped_image(alloc: Global, queue: Queue, caller: Caller) -> Result<Vec<u8>,
     Ok(image_by_layout(alloc, list.cycle, layout, list.messages.as_slice(), false)?)
 }
 
-/// Appends so many messages to a queue, stops it, and makes its image.
+/// Appends this many messages to a queue, stops it, and makes its image.
 fn filled_image(
     alloc: Global,
     queue: Queue,
@@ -60,7 +60,7 @@ fn filled_image(
     stopped_image(alloc, queue, appender.into_caller())
 }
 
-/// The image of a new queue to which so many messages were appended, and how long that took.
+/// Makes the image of a new queue to which this many messages were appended, and measures how long that took.
 fn save<R: AllocGlobal + Clock>(rt: &R, shape: Shape, count: u32) -> Result<Saved, BenchFault> {
     let (queue, caller) = new_queue(rt.alloc(), shape)?;
     let start = now(rt)?;
@@ -69,7 +69,7 @@ fn save<R: AllocGlobal + Clock>(rt: &R, shape: Shape, count: u32) -> Result<Save
     Ok(Saved { image, time })
 }
 
-/// The messages of the cycle of which this is the image.
+/// Reads the messages of a cycle from its image.
 fn messages_of(alloc: Global, shape: Shape, image: &[u8]) -> Result<Items<Message>, BenchFault> {
     match cq_image::read(alloc, 0, shape, Roll::Daily, 0, image) {
         Ok(ImageRead { messages, ended: _ }) => Ok(messages),
@@ -78,7 +78,7 @@ fn messages_of(alloc: Global, shape: Shape, image: &[u8]) -> Result<Items<Messag
     }
 }
 
-/// What a queue holds whose first cycle has these messages.
+/// Makes the contents of a queue whose first cycle has these messages.
 fn contents_of(alloc: Global, messages: Items<Message>) -> Result<Contents, AllocError> {
     let lists = vec![in alloc; CycleList { cycle: 0, messages }]?;
     Ok(Contents {
@@ -88,12 +88,12 @@ fn contents_of(alloc: Global, messages: Items<Message>) -> Result<Contents, Allo
     })
 }
 
-/// What the queue holds of which this is the image.
+/// Reads the contents of a queue from its image.
 fn contents_in(alloc: Global, shape: Shape, image: &[u8]) -> Result<Contents, BenchFault> {
     Ok(contents_of(alloc, messages_of(alloc, shape, image)?)?)
 }
 
-/// A queue that is opened with these contents, and its first caller.
+/// Opens a queue with these contents, and returns it with its first caller.
 fn reopened(alloc: Global, shape: Shape, contents: &Contents) -> Result<(Queue, Caller), BenchFault>
     ensures of { IfOk result (λ made. IsOf made.0 made.1) }
     ensures idle { IfOk result (λ made. made.1.view.claim ≡ None) }
@@ -101,7 +101,7 @@ fn reopened(alloc: Global, shape: Shape, contents: &Contents) -> Result<(Queue, 
     Ok(Queue::reopen(alloc, config_of(alloc, shape)?, contents)?)
 }
 
-/// Reads so many messages, and answers the time since a start.
+/// Reads this many messages, and returns the time since a start.
 fn time_to_read<R: AllocGlobal + Clock>(
     rt: &R,
     queue: &Queue,
@@ -116,7 +116,7 @@ fn time_to_read<R: AllocGlobal + Clock>(
     Ok(now(rt)?.duration_since(start))
 }
 
-/// Reads an image, opens a queue with what it holds, and reads so many messages. Answers the time that it took.
+/// Reads an image, opens a queue with its contents, and reads this many messages. Returns the time that it took.
 fn reopen_time<R: AllocGlobal + Clock>(
     rt: &R,
     shape: Shape,
@@ -129,7 +129,7 @@ fn reopen_time<R: AllocGlobal + Clock>(
     time_to_read(rt, &queue, &mut Tailer::new(caller), count, start)
 }
 
-/// Measures how a queue is saved.
+/// Measures how long it takes to save a queue.
 pub fn print_save<R: AllocGlobal + Clock + Print>(
     rt: &R,
     settings: &Settings,
@@ -142,7 +142,7 @@ pub fn print_save<R: AllocGlobal + Clock + Print>(
     print_messages(rt, settings, "save", count, best)
 }
 
-/// Measures how a queue is opened again.
+/// Measures how long it takes to open a queue again.
 pub fn print_reopen<R: AllocGlobal + Clock + Print>(
     rt: &R,
     settings: &Settings,

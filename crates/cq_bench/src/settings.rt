@@ -1,11 +1,11 @@
-//! What a run is given: the shape of the queues, and how often and how long is measured.
+//! What a run is given: the shape of the queues, and how often and for how long is measured.
 use crate::fault::BenchFault;
 use cq_layout::Shape;
 use std::env::{self, VarError};
 use std::rt::Env;
 use std::time::Duration;
 
-/// The shape where none is given.
+/// The shape if none is given.
 const SHAPE: &str = "1048576,256,16";
 
 /// What every case is given.
@@ -13,9 +13,9 @@ const SHAPE: &str = "1048576,256,16";
 pub struct Settings {
     /// The shape of each queue's one cycle.
     pub shape: Shape,
-    /// How often each case is measured. The best figure counts.
+    /// How often each case is measured. The best figure is kept.
     pub repetitions: u32,
-    /// How long random reads go on at least.
+    /// How long random reads last at least.
     pub reading_time: Duration,
     /// Whether it is only tried that each case runs: no figure is printed.
     pub is_trial: bool,
@@ -33,8 +33,8 @@ pub enum SettingFault {
 }
 
 impl Settings {
-    /// What the environment says: in `CQ_SHAPE` the cells of a cycle, the entries of a table and the spacing, and in `REPS`
-    /// how often each case is measured.
+    /// Reads the settings from the environment. `CQ_SHAPE` has the cells of a cycle, the entries of a table and the
+    /// spacing; `REPS` says how often each case is measured.
     pub fn of_environment<R: AllocGlobal + Env>(rt: &R) -> Result<Settings, SettingFault> {
         let Some(shape) = variable(rt, "CQ_SHAPE", SHAPE).and_then(|text| shape_of(text.as_str()))
         else {
@@ -53,7 +53,7 @@ impl Settings {
         })
     }
 
-    /// A short run over small queues, without figures.
+    /// Returns the settings of a short run over small queues, without figures.
     pub fn of_trial() -> Result<Settings, BenchFault> {
         let Some(shape) = shape_with(8192, 32, 4) else {
             return Err(BenchFault::NoQueue);
@@ -67,7 +67,8 @@ impl Settings {
     }
 }
 
-/// A variable of the environment, or what it is where it is not there. Answers none where it is no text.
+/// Reads an environment variable, or returns the given value if it is not set. Returns `None` if it is not UTF-8, or
+/// if memory was refused.
 fn variable<R: AllocGlobal + Env>(rt: &R, name: &str, otherwise: &str) -> Option<String> {
     match env::var(rt, name) {
         Ok(text) => Some(text),
@@ -76,7 +77,7 @@ fn variable<R: AllocGlobal + Env>(rt: &R, name: &str, otherwise: &str) -> Option
     }
 }
 
-/// The shape of three numbers.
+/// Returns the shape of three numbers.
 fn shape_of(text: &str) -> Option<Shape> {
     let mut parts = text.split(',');
     let cells = number_of(parts.next())?;
@@ -88,7 +89,7 @@ fn shape_of(text: &str) -> Option<Shape> {
     shape_with(cells, count, spacing)
 }
 
-/// The shape with these measures.
+/// Returns the shape with these measures.
 fn shape_with(cells: u32, count: u32, spacing: u32) -> Option<Shape> {
     Shape::new(cells, count, spacing).ok()
 }

@@ -162,7 +162,7 @@ fn dumps_records(rt: HostRuntime) -> Result<(), Fail> {
     expect(rt.alloc(), &DUMPED)
 }
 
-/// The order that the words of a line are.
+/// The order that the arguments of a line are.
 pub fn order_of(alloc: Global, line: &str) -> Result<Order, Fail> {
     let words = words_of(alloc, line)?;
     match parse(alloc, words.as_slice()) {
@@ -193,14 +193,14 @@ fn ran_and_checked<F: Folder>(
     Ok(format!(in alloc; "{ran}|{checked}")?)
 }
 
-/// What an order writes behind these steps, and what `check` says then.
+/// What an order writes after these steps, and what `check` says then.
 fn ran_behind(alloc: Global, before: &[Step], order: &Order) -> Result<String, FolderFault> {
     let mut folder = MemoryFolder::new(alloc);
     said_by(alloc, &mut folder, before)?;
     ran_and_checked(alloc, &mut folder, order)
 }
 
-/// The same of the order that the words of a line are.
+/// The same of the order that the arguments of a line are.
 fn line_ran(alloc: Global, before: &[Step], line: &str) -> Result<String, Fail> {
     let order = order_of(alloc, line)?;
     Ok(ran_behind(alloc, before, &order)?)

@@ -1,4 +1,4 @@
-//! What `drop` does and prints, and what reads and takes look at behind it.
+//! What `drop` does and prints, and what reads and takes return after it.
 use crate::steps::{DAY, Failing, Step, expect, expect_each, expect_failing};
 use std::test::Fail;
 
@@ -74,7 +74,7 @@ static RAISED: [(Step, &str); 21] = [
     ),
     (Step::Read(true, None), "0000000700000000 c\n"),
     (Step::Read(true, Some("0000000700000000")), ""),
-    // It is kept beside what is written and taken.
+    // It is kept along with what is written and taken.
     (Step::Write(7 * DAY, b"d\n"), "0000000700000001\n"),
     (Step::Take("reader"), "0000000700000000 c\n"),
     (Step::Drop(u64::MAX), "7\n"),
@@ -112,8 +112,8 @@ fn drops_nothing_where_nothing_is(rt: HostRuntime) -> Result<(), Fail> {
 const FLOOR_1: &[u8] =
     b"cq 2\nroll daily\nepoch 0\ncells 64\ncount 8\nspacing 1\ncycles 4\nfloor 1\nname reader 0\n";
 
-/// A floor without an image, and one above the last cycle: all commands that open a queue refuse them and leave all files as
-/// they were. The last cycle itself is one, and `check` looks at no floor.
+/// A floor without an image, and one above the last cycle: all commands that open a queue refuse them and leave all
+/// files as they were. The last cycle itself can be the floor, and `check` does not check floors.
 static HELD: [(&[Step], &str); 3] = [
     (
         &[
@@ -167,7 +167,7 @@ fn opens_no_floor_that_a_queue_cannot_have(rt: HostRuntime) -> Result<(), Fail> 
 const AT_START: &str =
     "cq 2\nroll daily\nepoch 0\ncells 64\ncount 8\nspacing 1\ncycles 4\nname reader 0\n";
 
-/// The same where reads begin at cycle 1.
+/// The same if reads begin at cycle 1.
 const FROM_1: &str =
     "cq 2\nroll daily\nepoch 0\ncells 64\ncount 8\nspacing 1\ncycles 4\nfloor 1\nname reader 0\n";
 
@@ -194,7 +194,7 @@ static FAILING: Failing = Failing {
     writes: false,
 };
 
-/// The same where the floor is saved all the same.
+/// The same if the floor is saved nevertheless.
 static SAVED: Failing = Failing {
     before: TWO_CYCLES,
     step: Step::Drop(1),

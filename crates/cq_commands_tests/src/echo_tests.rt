@@ -8,7 +8,7 @@ use std::io;
 use std::io::{ErrorKind, Read, Write};
 use std::test::Fail;
 
-/// Fails where bytes are not those that are wanted, with both.
+/// Fails if bytes are not those that are wanted, and gives both.
 fn expect_bytes(said: Vec<u8>, want: &[u8]) -> Result<(), Fail> {
     if said.as_slice() == want {
         return Ok(());
@@ -35,7 +35,7 @@ fn told(
     Ok(output)
 }
 
-/// What `echo` writes, and behind it how many lines it gives or the text of its fault.
+/// What `echo` writes, and after it how many lines it counts or the text of its fault.
 fn echoed<R: Read>(alloc: Global, input: &mut R) -> Result<Vec<u8>, AllocError> {
     let mut output = Vec::new(alloc);
     let done = echo(alloc, input, &mut output);
@@ -62,7 +62,7 @@ fn echoes_lines(rt: HostRuntime) -> Result<(), Fail> {
     Ok(())
 }
 
-/// So many lines of so many bytes, and more.
+/// This many lines of this many bytes, and more.
 fn lines_of(alloc: Global, lines: usize, bytes: usize, more: &str) -> Result<Vec<u8>, AllocError> {
     let mut text = Vec::new(alloc);
     for _ in 0..lines {
@@ -72,7 +72,7 @@ fn lines_of(alloc: Global, lines: usize, bytes: usize, more: &str) -> Result<Vec
     Ok(text)
 }
 
-/// Adds a line of so many bytes to a text.
+/// Adds a line of this many bytes to a text.
 fn push_line(text: &mut Vec<u8>, bytes: usize) -> Result<(), AllocError> {
     for _ in 0..bytes {
         text.push(b'x')?;
@@ -89,7 +89,7 @@ fn counted(alloc: Global, input: &[u8]) -> Result<String, AllocError> {
     format!(in alloc; "{text}, silent: {}", output.is_empty())
 }
 
-/// The same of so many lines of so many bytes, and more.
+/// The same of this many lines of this many bytes, and more.
 fn counted_lines(
     alloc: Global,
     lines: usize,
@@ -123,7 +123,7 @@ fn bounds_the_input(rt: HostRuntime) -> Result<(), Fail> {
     Ok(())
 }
 
-/// A reader that gives this many single bytes, and then only this answer.
+/// A reader that gives this many single bytes, and then only this result.
 #[derive(Drop)]
 struct Reader {
     bytes: u32,
@@ -152,7 +152,7 @@ static ENDS: [(u32, Result<usize, ErrorKind>, &[u8]); 7] = [
     (3, Ok(0), b"0 aaa\n1 lines"),
     (3, Err(ErrorKind::Other), b"read fault"),
     (0, Err(ErrorKind::IsADirectory), b"read fault"),
-    // The whole input is read before its length is looked at.
+    // The whole input is read before its length is checked.
     (129_001, Ok(0), b"input too long"),
     (129_001, Err(ErrorKind::Other), b"read fault"),
     // A reader that never ends.
@@ -169,7 +169,7 @@ fn reads_to_the_end(rt: HostRuntime) -> Result<(), Fail> {
     Ok(())
 }
 
-/// A writer that takes one byte at a time, this many of them, and refuses the flush where it is told to.
+/// A writer that takes one byte at a time, this many of them, and refuses the flush if it has to.
 #[derive(Drop)]
 struct Writer {
     room: usize,
@@ -198,7 +198,8 @@ impl Write for Writer {
     }
 }
 
-/// What a writer with so much room takes of "a" and "b", and behind it how many lines `echo` gives or the text of its fault.
+/// What a writer for this many bytes takes of "a" and "b", and after it how many lines `echo` counts or the text of
+/// its fault.
 fn echoed_into(alloc: Global, room: usize, refuses_flush: bool) -> Result<Vec<u8>, AllocError> {
     let mut output = Writer {
         room,
@@ -225,7 +226,7 @@ fn passes_write_faults_on(rt: HostRuntime) -> Result<(), Fail> {
     Ok(())
 }
 
-/// The texts of these faults, each behind a bar.
+/// The texts of these faults, each after a bar.
 fn texts_of(alloc: Global, faults: &[ToolFault]) -> Result<String, Fail> {
     let mut text = String::new(alloc);
     for fault in faults {
@@ -283,7 +284,7 @@ static CYCLES: [(&str, u64, u64, &str); 10] = [
     ("weekly", 0, 0, "cq: BadConfig"),
     ("", 0, 0, "cq: BadConfig"),
     ("Daily", 0, 0, "cq: BadConfig"),
-    // The roll is looked at before the moment.
+    // The roll is checked before the moment.
     ("weekly", 1, 0, "cq: BadConfig"),
     ("daily", 1, 0, "cq: BadMoment"),
     ("daily", 0, 253_402_300_800_000, "cq: BadMoment"),
@@ -298,7 +299,7 @@ fn prints_cycles(rt: HostRuntime) -> Result<(), Fail> {
     Ok(())
 }
 
-/// What `cycle` says where the output has room for so many bytes.
+/// What `cycle` says if the output takes this many bytes.
 fn cycle_said_into(alloc: Global, room: usize) -> Result<String, Fail> {
     let mut output = Writer {
         room,

@@ -1,4 +1,4 @@
-//! A folder may list its names in any order: commands answer the same.
+//! A folder may list its names in any order: commands return the same.
 use crate::falling::FallingFolder;
 use crate::images::{A, HELLO};
 use crate::steps::{DAY, Step, expect_each, said_by};
@@ -7,8 +7,8 @@ use cq_folder::{Access, Folder, FolderFault};
 use std::alloc::Global;
 use std::test::Fail;
 
-/// Each list of steps says together what stands beside it, over a folder that lists its names in rising order, and over one
-/// that lists them in falling order.
+/// Fails if a list of steps says something else than its row wants, over a folder that lists its names in rising
+/// order, or over one that lists them in falling order.
 fn expect_in_any_order(
     alloc: Global,
     table: &'static [(&'static [Step], &'static str)],
@@ -20,7 +20,7 @@ fn expect_in_any_order(
     Ok(())
 }
 
-/// What all these steps say over a new folder that lists its names in falling order, one behind the other.
+/// What all these steps say, one after the other, over a new folder that lists its names in falling order.
 fn said_falling(alloc: Global, steps: &[Step]) -> Result<String, FolderFault> {
     let mut folder = FallingFolder::new(alloc);
     said_by(alloc, &mut folder, steps)
@@ -103,8 +103,8 @@ fn migrates_in_any_order(rt: HostRuntime) -> Result<(), Fail> {
 /// An image that ended with no message.
 const ENDED: &[u8] = &[0, 0, 0, 0xc0];
 
-/// Two faults, of which the first by the order of names is told, and by what comes first: the configuration, names, images,
-/// ends, contents.
+/// Two faults, of which the first is reported: by the order of names, and by what comes first of the configuration,
+/// names, images, ends and contents.
 static TWO: [(&[Step], &str); 8] = [
     (
         &[

@@ -1,4 +1,4 @@
-//! Which fault is answered, and what the folder holds then.
+//! Which fault is reported, and what the folder holds then.
 use crate::images::{HELLO, NINE};
 use crate::steps::{
     DAY, Failing, MOST_BYTES, Step, Unprinted, expect, expect_each, expect_failing, said_anew,
@@ -40,7 +40,7 @@ static WRONG: [(usize, &[u8], &str); 10] = [
     (12, &[1], "WrongStore at 12"),
 ];
 
-/// What `check`, `dump` and `read` say where the image has these bytes.
+/// What `check`, `dump` and `read` say if the image has these bytes.
 fn faults_of(alloc: Global, at: usize, bytes: &'static [u8]) -> Result<String, FolderFault> {
     let steps = [
         Step::OldQueue(4),
@@ -53,7 +53,7 @@ fn faults_of(alloc: Global, at: usize, bytes: &'static [u8]) -> Result<String, F
     said_anew(alloc, &steps)
 }
 
-/// What they say where this is wrong.
+/// What they say if this is wrong.
 fn wanted_of(alloc: Global, want: &str) -> Result<String, AllocError> {
     format!(in alloc;
         "19700101.cqi: {want}\ncq: images at faultcq: 19700101.cqi: {want}cq: 19700101.cqi: {want}"
@@ -124,7 +124,7 @@ static OVER: [(Step, &str); 7] = [
     ),
 ];
 
-/// Of version 2, where a second index table stands before the ninth "hello".
+/// Of version 2, with a second index table before the ninth "hello".
 static OVER_2: [(Step, &str); 5] = [
     (Step::Queue(4), ""),
     (
@@ -156,8 +156,8 @@ fn tells_what_fits_no_shape(rt: HostRuntime) -> Result<(), Fail> {
     expect(rt.alloc(), &OVER_2)
 }
 
-/// Two faulty images, a bad name beside a faulty image, and a faulty image beside a wrong end. The images come before what
-/// the command itself was given, but for an index that is none.
+/// Two faulty images, a bad name along with a faulty image, and a faulty image along with a wrong end. The images
+/// come before what the command itself was given, except an index that is none.
 static TWO: [(&[Step], &str); 3] = [
     (
         &[
@@ -426,7 +426,7 @@ static FAILING_INIT: Failing = Failing {
     writes: false,
 };
 
-/// The same where the queue is made all the same.
+/// The same if the queue is made nevertheless.
 static MADE_INIT: Failing = Failing {
     before: &[Step::Put("notes", b"kept")],
     step: Step::Queue(4),
@@ -441,7 +441,7 @@ fn init_passes_each_folder_fault_on(rt: HostRuntime) -> Result<(), Fail> {
     expect_failing(rt.alloc(), &MADE_INIT)
 }
 
-/// A queue with "hello" in cycle 0, beside a file that is none of its own.
+/// A queue with "hello" in cycle 0, along with a file that is none of its own.
 const BESIDE_NOTES: &[Step] = &[
     Step::Queue(4),
     Step::Put("notes", b"kept"),
@@ -467,7 +467,7 @@ static FAILING_WRITE: Failing = Failing {
     writes: false,
 };
 
-/// The same where both images are saved all the same.
+/// The same if both images are saved nevertheless.
 static SAVED_WRITE: Failing = Failing {
     before: BESIDE_NOTES,
     step: Step::Write(DAY, b"a\n"),
@@ -480,7 +480,7 @@ static SAVED_WRITE: Failing = Failing {
 const OPEN: &str = "19700101.cqi: 1 messages, open\n\
 keptcq 2\nroll daily\nepoch 0\ncells 64\ncount 8\nspacing 1\ncycles 4\nname reader 0\n";
 
-/// What is left of it where both are.
+/// What is left of it if both are.
 const ROLLED: &str = "19700101.cqi: 1 messages, ended\n19700102.cqi: 1 messages, open\n\
 keptcq 2\nroll daily\nepoch 0\ncells 64\ncount 8\nspacing 1\ncycles 4\nname reader 0\n";
 
@@ -554,7 +554,7 @@ cq: 19700101.cqi: wrong end|cq: 19700101.cqi: wrong end",
     ),
 ];
 
-/// What `check`, `read` and `write` say where this file was put.
+/// What `check`, `read` and `write` say if this file was put.
 fn said_beside(
     alloc: Global,
     file: &'static str,

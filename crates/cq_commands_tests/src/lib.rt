@@ -1,7 +1,11 @@
-//! Tests of the commands: the words that name them, what they do over folders in memory where they need one, in worked examples,
-//! the order of faults, and limits, and the race, whose threads no contract speaks of.
+//! Tests of the commands:
 //!
-//! They are proved apart from the commands, so that both go on side by side.
+//! - the arguments that name them;
+//! - what they do over folders in memory, if they need one, in worked examples;
+//! - the order of faults, and limits;
+//! - the race, whose threads no contract mentions.
+//!
+//! They are proved apart from the commands, so that both proofs can run at the same time.
 #![tactic(auto)]
 
 #[cfg(test)]

@@ -1,9 +1,9 @@
-//! What `migrate` makes of a folder of version 1, and which fault it answers.
+//! What `migrate` makes of a folder of version 1, and which fault it reports.
 use crate::images::{A, HELLO, HELLO_WORLD, NINE};
 use crate::steps::{DAY, Failing, Step, expect, expect_each, expect_failing};
 use std::test::Fail;
 
-/// `queue.cqc` of version 1 where "hello" of cycle 20000 is taken.
+/// `queue.cqc` of version 1 after "hello" of cycle 20000 was taken.
 const BEHIND_HELLO: &[u8] =
     b"cq 1\nroll daily\nepoch 0\ncells 64\ncount 8\nspacing 1\ncycles 4\nname reader 85899345920001\n";
 
@@ -36,7 +36,7 @@ static ROW: [(Step, &str); 18] = [
 0000004c 40000020 table 0 112 124 0 0 0 0 0 0\n00000070 00000005 data 0 68656c6c6f\n\
 0000007c 00000005 data 1 776f726c64\n",
     ),
-    // Once more, and where the image was written before and `queue.cqc` was not.
+    // Once more, and if the image was written before and `queue.cqc` was not.
     (Step::Migrate, ""),
     (Step::Text("queue.cqc"), NEW_BEHIND_HELLO),
     (Step::Bytes("20241004.cqi"), NEW_HELLO_WORLD),
@@ -147,7 +147,8 @@ fn keeps_what_a_queue_holds(rt: HostRuntime) -> Result<(), Fail> {
     expect_each(rt.alloc(), &STAYS)
 }
 
-/// An image of version 2 in a folder of version 1: for three cells more it is taken, and else its first fault is told.
+/// An image of version 2 in a folder of version 1: with three cells more it is accepted, and otherwise its first
+/// fault is reported.
 static MIXED: [(&[Step], &str); 4] = [
     (
         &[
@@ -317,7 +318,7 @@ static FAILING: Failing = Failing {
     writes: false,
 };
 
-/// The same where all files are saved all the same.
+/// The same if all files are saved nevertheless.
 static SAVED: Failing = Failing {
     before: TWO_CYCLES,
     step: Step::Migrate,
@@ -332,7 +333,7 @@ fn saves_all_or_nothing(rt: HostRuntime) -> Result<(), Fail> {
     expect_failing(rt.alloc(), &SAVED)
 }
 
-/// What `migrate` and the files are behind a migration that failed.
+/// What `migrate` says and the files are after a migration that failed.
 const AGAIN: &[Step] = &[
     Step::Migrate,
     Step::Bytes("19700101.cqi"),
@@ -369,7 +370,7 @@ fn ends_with_the_same_files_when_it_is_run_again(rt: HostRuntime) -> Result<(), 
     expect_failing(rt.alloc(), &SAVED_ONCE)
 }
 
-/// `queue.cqc` alone is written where there is no image.
+/// `queue.cqc` alone is written if there is no image.
 static ALONE: Failing = Failing {
     before: &[Step::OldQueue(4)],
     step: Step::Migrate,
@@ -387,7 +388,7 @@ cq 2\nroll daily\nepoch 0\ncells 67\ncount 8\nspacing 1\ncycles 4\nname reader 0
     writes: false,
 };
 
-/// A folder of version 2 is at fault where it is not opened.
+/// A folder of version 2 is at fault if it is not opened.
 static UNMOVED: Failing = Failing {
     before: &[Step::Queue(4)],
     step: Step::Migrate,

@@ -10,7 +10,7 @@ use std::alloc::Global;
 use std::cell::Cell;
 use std::test::Fail;
 
-/// The words of a command, its input, and what it writes.
+/// The arguments of a command, its input, and what it writes.
 type Row = (&'static str, &'static [u8], &'static str);
 
 /// What an order writes over a folder from an input, which both fail while a command is in the folder.
@@ -35,7 +35,7 @@ fn said_outside(
     said(alloc, done, output.text.as_slice())
 }
 
-/// Adds what is said by commands in turn where it is something else than the table wants to a text, with the places.
+/// Adds to a text what commands say in turn other than the table wants, with the places.
 fn push_missed_rows(
     alloc: Global,
     folder: &mut WatchedFolder<'_>,

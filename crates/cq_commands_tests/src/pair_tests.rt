@@ -1,4 +1,5 @@
-//! Two faults that compete, over a folder that lists its names in falling order: the first one of the command's order is told.
+//! Two faults that compete, over a folder that lists its names in falling order: the first one of the command's order
+//! is reported.
 use crate::falling::FallingFolder;
 use crate::steps::{DAY, MOST_BYTES, Step, Unprinted, said_at, said_by};
 use cq_fixtures::{expect_text, push_missed};
@@ -6,15 +7,15 @@ use cq_folder::{FailingFolder, FolderFault};
 use std::alloc::Global;
 use std::test::Fail;
 
-/// Two faults that a step could tell of.
+/// Two faults that a step could report.
 struct Pair {
     /// What is done before.
     before: &'static [Step],
-    /// The call on the folder that fails at the step; 0 where none does.
+    /// The call on the folder that fails at the step, or 0 if none does.
     failing: u64,
     /// The step.
     step: Step,
-    /// The fault that is told.
+    /// The fault that is reported.
     want: &'static str,
 }
 
@@ -47,7 +48,7 @@ fn push_missed_pairs(
     Ok(())
 }
 
-/// Each step tells of the first of its two faults.
+/// Fails if a step does not report the first of its two faults.
 fn expect_first(alloc: Global, pairs: &'static [Pair]) -> Result<(), Fail> {
     let mut missed = String::new(alloc);
     push_missed_pairs(alloc, pairs, &mut missed)?;
@@ -457,7 +458,7 @@ const TOO_MANY_OLD: &[Step] = &[
     Step::Put("19700102.cqi", b""),
 ];
 
-/// Of a folder of version 1 that is to be changed: of `queue.cqc` before its version, and of all else behind it.
+/// Of a folder of version 1 that is to be changed: of `queue.cqc` before its version, and of all else after it.
 static OLD: [Pair; 9] = [
     Pair {
         before: &[Step::OldQueue(4)],
@@ -621,7 +622,7 @@ fn migrate_tells_the_first(rt: HostRuntime) -> Result<(), Fail> {
     expect_first(rt.alloc(), &MIGRATE)
 }
 
-/// A line that fits into no cycle of 64 cells, behind an empty one.
+/// A line that fits into no cycle of 64 cells, after an empty one.
 const EMPTY_AND_LONG: &[u8] =
     b"\naaaaaaaaaaaaaaaaaaaaaaaaaaaaaaaaaaaaaaaaaaaaaaaaaaaaaaaaaaaaaaaaaaaaaaaaaaaaaaaaaaaaaaaaaaaaaaaaaaaaaaaaaaaaaaaaaaaaaaaaaaaaaaaaaaaaaaaaaaaaaaaaaaaaaaaaaaaaaaaaaaaaaaaaaaaaaaaaaaaaaaaaaaaaaaaaaaaaaaaa\n";
 

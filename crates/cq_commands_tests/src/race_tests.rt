@@ -1,4 +1,4 @@
-//! Races with several gates: what is printed, which calls a gate is asked for, and that the workers run beside one another.
+//! Races with several gates: what is printed, which calls a gate is asked for, and that the workers run concurrently.
 use crate::streams::said;
 use cq_fixtures::expect_text;
 use cq_race::{Gate, OpenGate, race};
@@ -9,7 +9,7 @@ use std::sync::atomic::{AtomicU64, Ordering};
 use std::test::Fail;
 use std::thread::Threads;
 
-/// What a race with this gate writes, and behind it the text of its fault.
+/// What a race with this gate writes, and after it the text of its fault.
 fn raced<R: AllocGlobal + Threads + Sync, G: Gate + Sync>(
     rt: &R,
     messages: u32,
@@ -61,7 +61,7 @@ impl Gate for LimitedGate {
     fn answered(&self, _worker: usize, _call: u64) {}
 }
 
-/// A gate that lets nobody in.
+/// A gate that lets no worker in.
 #[derive(Drop)]
 struct ClosedGate;
 
@@ -95,8 +95,8 @@ fn a_worker_that_is_not_let_in_gives_up(rt: HostRuntime) -> Result<(), Fail> {
     Ok(())
 }
 
-/// What a gate is asked and told by each worker: how many of its calls it has entered, and how many were answered. It counts what
-/// comes out of turn.
+/// A gate that counts for each worker how many calls it has entered, and how many of them have returned. It also
+/// counts what comes out of turn.
 #[derive(Drop)]
 struct CountingGate {
     entered: [AtomicU64; 4],
@@ -138,7 +138,7 @@ impl CountingGate {
         }
     }
 
-    /// Counts a stray, unless a worker has entered so many calls so far and so many of them were answered.
+    /// Counts a stray, unless a worker has entered this many calls so far and this many of them have returned.
     fn expect(&self, worker: usize, entered: Option<u64>, answered: u64) {
         let is_in_turn = count_of(&self.entered, worker) == entered
             && count_of(&self.answered, worker) == Some(answered);
@@ -147,7 +147,7 @@ impl CountingGate {
         }
     }
 
-    /// The least number of calls that were answered of two workers.
+    /// Returns the lower count of the calls of two workers that have returned.
     fn least_answered(&self, one: usize, two: usize) -> u64 {
         self.answered_by(one).min(self.answered_by(two))
     }
@@ -170,8 +170,8 @@ impl Gate for CountingGate {
     }
 }
 
-/// What a counting gate has counted: how many calls came out of turn, whether each appender was answered for each of its messages
-/// at least, and whether each tailer was for those of both.
+/// Gives what a counting gate has counted. It says how many calls came out of turn, whether calls of each appender
+/// returned for at least each of its messages, and whether those of each tailer did for the messages of both.
 fn counted_text(alloc: Global, gate: &CountingGate) -> Result<String, AllocError> {
     let strays = gate.strays.load(Ordering::SeqCst);
     let appended = gate.least_answered(0, 1) >= 10;
@@ -229,7 +229,7 @@ fn race_overlaps(rt: HostRuntime) -> Result<(), Fail> {
     expect_text(raced(&rt, 10, &gate)?, TEN)
 }
 
-/// A writer that takes so many bytes and then fails.
+/// A writer that takes this many bytes and then fails.
 #[derive(Drop)]
 struct Broken {
     left: usize,
@@ -250,7 +250,7 @@ impl Write for Broken {
     }
 }
 
-/// What is said of a race whose writer takes so many bytes and then fails.
+/// What is said of a race whose writer takes this many bytes and then fails.
 fn said_broken<R: AllocGlobal + Threads + Sync>(rt: &R, left: usize) -> Result<String, Fail> {
     let done = race(rt, 1, &OpenGate, &mut Broken { left });
     Ok(said(rt.alloc(), done, &[])?)

@@ -1,4 +1,4 @@
-//! What `salvage` prints, and which faults it answers.
+//! What `salvage` prints, and which faults it reports.
 use crate::steps::{DAY, Failing, MOST_BYTES, Step, expect, expect_each, expect_failing};
 use std::test::Fail;
 
@@ -24,7 +24,7 @@ fn saves_what_lies_before_a_cut(rt: HostRuntime) -> Result<(), Fail> {
     expect(rt.alloc(), &CUT)
 }
 
-/// Files that are no images of the folder, and what is told of them.
+/// Files that are no images of the folder, and what is reported of them.
 static NO_IMAGE: [(Step, &str); 9] = [
     (Step::Salvage("19700101.cqi"), "cq: no queue here"),
     (Step::Queue(4), ""),
@@ -45,7 +45,7 @@ fn tells_that_a_file_is_no_image(rt: HostRuntime) -> Result<(), Fail> {
     expect(rt.alloc(), &NO_IMAGE)
 }
 
-/// The largest file that is read, one that is larger, and a faulty image beside the one that is named.
+/// The largest file that is read, one that is larger, and a faulty image along with the one that is named.
 static LARGE: [(&[Step], &str); 3] = [
     (
         &[

@@ -15,25 +15,26 @@ pub const DAY: u64 = 86_400_000;
 /// The most bytes of a file, and of the input of `write`.
 pub const MOST_BYTES: usize = 8_388_608;
 
-/// What is done to a folder. A command says what it wrote, and behind it the text of its fault; a change of a file says
-/// nothing.
+/// What is done to a folder. A command gives what it wrote, and after it the text of its fault; a change of a file
+/// gives nothing.
 #[derive(Clone, Copy)]
 pub enum Step {
-    /// `init` of a daily queue with epoch 0, 64 cells, so many cycles and the name "reader".
+    /// `init` of a daily queue with epoch 0, 64 cells, this many cycles and the name "reader".
     Queue(u64),
     /// Puts the `queue.cqc` of such a queue in a folder of version 1.
     OldQueue(u64),
-    /// The same with so many cells and cycles.
+    /// The same with this many cells and cycles.
     OldCells(u64, u64),
     /// `init` with a roll, an epoch, cells, cycles and names.
     Init(&'static str, u64, u64, u64, &'static [&'static str]),
     /// `write` of an input at a moment.
     Write(u64, &'static [u8]),
-    /// `write` of so many empty lines at a moment.
+    /// `write` of this many empty lines at a moment.
     WriteEmpty(u64, usize),
-    /// `write` of a line on each of so many days from day 0 on, which says nothing where each has the index 0 of its day.
+    /// `write` of a line on each of this many days from day 0 on, which gives nothing if each has the index 0 of its
+    /// day.
     WriteDays(u32),
-    /// `write` at a moment with a reader that fails behind so many line feeds, and a writer that fails.
+    /// `write` at a moment with a reader that fails after this many line feeds, and a writer that fails.
     WriteBroken(u64, usize),
     /// A command with a writer that fails.
     Unprinted(Unprinted),
@@ -53,11 +54,11 @@ pub enum Step {
     Migrate,
     /// Puts a file with these bytes.
     Put(&'static str, &'static [u8]),
-    /// Puts a file of so many copies of a byte.
+    /// Puts a file of this many copies of a byte.
     Fill(&'static str, u8, usize),
-    /// Replaces the bytes of a file from a place on, or puts them behind its last byte.
+    /// Replaces the bytes of a file from a place on, or puts them after its last byte.
     Patch(&'static str, usize, &'static [u8]),
-    /// Keeps so many bytes of a file.
+    /// Keeps this many bytes of a file.
     Cut(&'static str, usize),
     /// Says the text of a file.
     Text(&'static str),
@@ -117,7 +118,7 @@ pub fn said_at<F: Folder>(
     }
 }
 
-/// What a command says that needs no more than its words and an output.
+/// What a command says that needs only its arguments and an output.
 fn printed<F: Folder>(
     alloc: Global,
     folder: &mut F,
@@ -128,7 +129,7 @@ fn printed<F: Folder>(
     said(alloc, done, &output)
 }
 
-/// Runs the command that a step is, where it needs no more than its words and an output; any other step does nothing.
+/// Runs the command that a step is, if it needs only its arguments and an output; any other step does nothing.
 fn run_step<F: Folder, W: Write>(
     alloc: Global,
     folder: &mut F,
@@ -204,7 +205,7 @@ fn texts(alloc: Global, words: &[&str]) -> Result<Vec<String>, AllocError> {
     Ok(texts)
 }
 
-/// What `write` says of so many empty lines.
+/// What `write` says of this many empty lines.
 fn written_empty<F: Folder>(
     alloc: Global,
     folder: &mut F,
@@ -217,7 +218,7 @@ fn written_empty<F: Folder>(
     said(alloc, done, &output)
 }
 
-/// What is said of a line on each of so many days from day 0 on: nothing where each has the index 0 of its day.
+/// What is said of a line on each of this many days from day 0 on: nothing if each has the index 0 of its day.
 fn written_each_day<F: Folder>(
     alloc: Global,
     folder: &mut F,
@@ -238,7 +239,7 @@ fn begins_cycle<F: Folder>(alloc: Global, folder: &mut F, day: u32) -> Result<bo
     Ok(said.as_str() == format!(in alloc; "{day:08x}00000000\n")?.as_str())
 }
 
-/// What `write` says where the input fails behind so many line feeds, and the output fails.
+/// What `write` says if the input fails after this many line feeds, and the output fails.
 fn written_broken<F: Folder>(
     alloc: Global,
     folder: &mut F,
@@ -276,7 +277,7 @@ fn copies(alloc: Global, byte: u8, count: usize) -> Result<Vec<u8>, AllocError> 
     vec![in alloc; byte; count]
 }
 
-/// The bytes of a file, none where it is not there.
+/// The bytes of a file, or none if it is not there.
 fn bytes_of<F: Folder>(alloc: Global, folder: &mut F, file: &str) -> Result<Vec<u8>, FolderFault> {
     folder.begin(alloc, Access::Shared)?;
     match folder.read(alloc, file, MOST_BYTES) {
@@ -340,7 +341,7 @@ fn patched<F: Folder>(
     put(alloc, folder, file, &bytes)
 }
 
-/// Replaces bytes from a place on, and puts behind the last one those for which there is none.
+/// Replaces bytes from a place on, and puts those that go past the end after the last one.
 fn patch(bytes: &mut Vec<u8>, at: usize, new: &[u8]) -> Result<(), AllocError> {
     for (i, byte) in new.iter().enumerate() {
         match bytes.get_mut(at.saturating_add(i)) {
@@ -362,7 +363,7 @@ fn cut<F: Folder>(
     put(alloc, folder, file, &bytes)
 }
 
-/// What all these steps say, one behind the other.
+/// What all these steps say, one after the other.
 pub fn said_by<F: Folder>(
     alloc: Global,
     folder: &mut F,
@@ -386,13 +387,13 @@ pub fn push_said<F: Folder>(
     Ok(())
 }
 
-/// What all these steps say over a new folder, one behind the other.
+/// What all these steps say over a new folder, one after the other.
 pub fn said_anew(alloc: Global, steps: &[Step]) -> Result<String, FolderFault> {
     let mut folder = MemoryFolder::new(alloc);
     said_by(alloc, &mut folder, steps)
 }
 
-/// Adds what is said at each step that says something else than stands beside it to a text, with its place.
+/// Adds to a text what each step says that says something else than its row wants, with its place.
 fn push_missed_steps<F: Folder>(
     alloc: Global,
     folder: &mut F,
@@ -411,7 +412,7 @@ fn push_missed_steps<F: Folder>(
     Ok(())
 }
 
-/// Each step over a new folder says what stands beside it.
+/// Fails if a step over a new folder says something else than its row wants.
 pub fn expect(alloc: Global, steps: &'static [(Step, &'static str)]) -> Result<(), Fail> {
     let mut folder = MemoryFolder::new(alloc);
     let mut missed = String::new(alloc);
@@ -419,8 +420,8 @@ pub fn expect(alloc: Global, steps: &'static [(Step, &'static str)]) -> Result<(
     expect_text(missed, "")
 }
 
-/// Adds what is said by lists of steps, each over a folder of its own, to a text, where it is something else than stands
-/// beside the list.
+/// Adds to a text what lists of steps say, each over a folder of its own, if it is something else than the list's row
+/// wants.
 fn push_missed_lists(
     alloc: Global,
     table: &'static [(&'static [Step], &'static str)],
@@ -432,7 +433,7 @@ fn push_missed_lists(
     Ok(())
 }
 
-/// Each list of steps, over a folder of its own, says together what stands beside it.
+/// Fails if a list of steps, over a folder of its own, says something else together than its row wants.
 pub fn expect_each(
     alloc: Global,
     table: &'static [(&'static [Step], &'static str)],
@@ -448,15 +449,15 @@ pub struct Failing {
     pub before: &'static [Step],
     /// The step.
     pub step: Step,
-    /// What is done behind it, while no call fails.
+    /// What is done after it, while no call fails.
     pub after: &'static [Step],
-    /// For a number of the failing call, what is said at the step and behind it.
+    /// For a number of the failing call, what is said at the step and after it.
     pub table: &'static [(u64, &'static str, &'static str)],
-    /// Whether what the failing call writes is written all the same.
+    /// Whether what the failing call writes is written nevertheless.
     pub writes: bool,
 }
 
-/// What is said at the step and behind it, where the call with this number fails.
+/// What is said at the step and after it, if the call with this number fails.
 fn said_failing(alloc: Global, failing: &Failing, number: u64) -> Result<String, FolderFault> {
     let mut folder = MemoryFolder::new(alloc);
     said_by(alloc, &mut folder, failing.before)?;
@@ -467,7 +468,7 @@ fn said_failing(alloc: Global, failing: &Failing, number: u64) -> Result<String,
     said_and_behind(alloc, folder, failing)
 }
 
-/// What is said at the step over a folder of which one call fails, and behind it.
+/// What is said at the step over a folder of which one call fails, and after it.
 fn said_and_behind(
     alloc: Global,
     mut folder: FailingFolder<MemoryFolder>,
@@ -479,7 +480,7 @@ fn said_and_behind(
     Ok(said)
 }
 
-/// Adds what is said to a text where it is something else than the table wants, with the number of the call.
+/// Adds what is said to a text if it is something else than the table wants, with the number of the call.
 fn push_missed_calls(
     alloc: Global,
     failing: &'static Failing,

@@ -5,7 +5,7 @@ use std::alloc::Global;
 use std::io::{ErrorKind, Read, Write};
 use std::{io, str};
 
-/// What a command wrote, and behind it the text of its fault.
+/// What a command wrote, and after it the text of its fault.
 pub fn said(
     alloc: Global,
     done: Result<(), ToolFault>,
@@ -18,7 +18,7 @@ pub fn said(
     }
 }
 
-/// A reader that fails behind so many line feeds.
+/// A reader that fails after this many line feeds.
 #[derive(Drop)]
 pub struct BrokenBehind {
     /// How many are left.

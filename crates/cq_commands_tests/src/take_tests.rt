@@ -42,7 +42,7 @@ fn takes_nothing_where_nothing_is(rt: HostRuntime) -> Result<(), Fail> {
     expect(rt.alloc(), &NOTHING)
 }
 
-/// A queue of four cycles whose name stands at position 1.
+/// A queue of four cycles whose name is at position 1.
 const AT_1: &[u8] =
     b"cq 2\nroll daily\nepoch 0\ncells 64\ncount 8\nspacing 1\ncycles 4\nname reader 1\n";
 
@@ -54,8 +54,8 @@ const AT_2: &[u8] =
 const OF_1: &[u8] =
     b"cq 2\nroll daily\nepoch 0\ncells 64\ncount 8\nspacing 1\ncycles 1\nname reader 0\n";
 
-/// A position without an image, one above the end, and more images than cycles: `write`, `read` and `take` all refuse them
-/// before what they were given is looked at, and leave all files as they were. The end itself is a position.
+/// A position without an image, one above the end, and more images than cycles. `write`, `read` and `take` all refuse
+/// them before they check what they were given, and leave all files as they were. The end itself is a position.
 static HELD: [(&[Step], &str); 4] = [
     (
         &[
@@ -158,7 +158,7 @@ fn takes_by_two_names_over_several_days(rt: HostRuntime) -> Result<(), Fail> {
 const AT_START: &str =
     "cq 2\nroll daily\nepoch 0\ncells 64\ncount 8\nspacing 1\ncycles 4\nname reader 0\n";
 
-/// The same where "hello" is taken.
+/// The same after "hello" was taken.
 const BEHIND_HELLO: &str =
     "cq 2\nroll daily\nepoch 0\ncells 64\ncount 8\nspacing 1\ncycles 4\nname reader 1\n";
 
@@ -185,7 +185,7 @@ static FAILING: Failing = Failing {
     writes: false,
 };
 
-/// The same where the position is saved all the same.
+/// The same if the position is saved nevertheless.
 static SAVED: Failing = Failing {
     before: TWO_CYCLES,
     step: Step::Take("reader"),

@@ -3,7 +3,7 @@ use crate::images::{A, HELLO, HELLO_WORLD, NINE};
 use crate::steps::{DAY, Step, expect, expect_each};
 use std::test::Fail;
 
-/// `queue.cqc` of version 1 where "hello" of cycle 20000 is taken.
+/// `queue.cqc` of version 1 after "hello" of cycle 20000 was taken.
 const BEHIND_HELLO: &[u8] =
     b"cq 1\nroll daily\nepoch 0\ncells 64\ncount 8\nspacing 1\ncycles 4\nname reader 85899345920001\n";
 
@@ -58,8 +58,8 @@ const FLOOR_1: &[u8] =
 const AT_10: &[u8] =
     b"cq 1\nroll daily\nepoch 0\ncells 64\ncount 8\nspacing 1\ncycles 4\nname reader 10\n";
 
-/// What is read of version 1: messages that fit into no cycle of version 2, those at or above the floor, and none where no queue
-/// can hold what the images do.
+/// What is read of version 1: messages that fit into no cycle of version 2, those at or above the floor, and none if
+/// no queue can hold what the images do.
 static READ: [(&[Step], &str); 4] = [
     (
         &[
@@ -102,8 +102,8 @@ fn reads_folders_of_version_1(rt: HostRuntime) -> Result<(), Fail> {
     expect_each(rt.alloc(), &READ)
 }
 
-/// An image of version 2 in a folder of version 1, and one of version 1 in a folder of version 2: whole, and cut off behind the
-/// first header.
+/// An image of version 2 in a folder of version 1, and one of version 1 in a folder of version 2: whole, and cut off
+/// after the first header.
 static OTHER: [(&[Step], &str); 4] = [
     (
         &[

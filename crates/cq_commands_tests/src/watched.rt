@@ -70,7 +70,7 @@ impl Folder for WatchedFolder<'_> {
     }
 }
 
-/// Answers an error where a command is in the folder.
+/// Returns an error if a command is in the folder.
 fn check_outside(is_entered: &Cell<bool>) -> io::Result<()> {
     if is_entered.get() {
         return Err(io::Error::from(ErrorKind::Other));

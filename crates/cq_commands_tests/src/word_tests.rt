@@ -1,9 +1,9 @@
-//! What the words of a command line are.
+//! What the arguments of a command line are.
 use cq_command_line::{ParseFault, parse};
 use std::alloc::{AllocError, Global};
 use std::test::Fail;
 
-/// What words are, or what is said of them.
+/// What arguments are, or what is said of them.
 fn parsed(alloc: Global, words: &[String]) -> Result<String, AllocError> {
     match parse(alloc, words) {
         Ok(order) => format!(in alloc; "{order:?}"),
@@ -12,7 +12,7 @@ fn parsed(alloc: Global, words: &[String]) -> Result<String, AllocError> {
     }
 }
 
-/// The words of a line, which have a bar between them, each in memory of its own.
+/// The arguments of a line, which have a bar between them, each in memory of its own.
 pub fn words_of(alloc: Global, line: &str) -> Result<Vec<String>, AllocError> {
     let mut words = Vec::new(alloc);
     for word in line.split('|') {
@@ -21,13 +21,13 @@ pub fn words_of(alloc: Global, line: &str) -> Result<Vec<String>, AllocError> {
     Ok(words)
 }
 
-/// What the words of a line are, or what is said of them.
+/// What the arguments of a line are, or what is said of them.
 fn parsed_line(alloc: Global, line: &str) -> Result<String, AllocError> {
     let words = words_of(alloc, line)?;
     parsed(alloc, words.as_slice())
 }
 
-/// Fails where what is said does not have what is wanted in it.
+/// Fails if what is said does not contain what is wanted.
 fn expect_within(said: &str, want: &str) -> Result<(), Fail> {
     if said.contains(want) {
         return Ok(());
@@ -35,7 +35,7 @@ fn expect_within(said: &str, want: &str) -> Result<(), Fail> {
     Err(Fail::new(format_args!("{said}")))
 }
 
-/// The words of each line are what stands beside it.
+/// Fails if the arguments of a line are something else than its row wants.
 fn expect(alloc: Global, table: &[(&str, &str)]) -> Result<(), Fail> {
     for &(line, want) in table {
         expect_within(parsed_line(alloc, line)?.as_str(), want)?;
@@ -49,7 +49,7 @@ fn help_of(alloc: Global, command: &str) -> Result<String, AllocError> {
     parsed_line(alloc, line.as_str())
 }
 
-/// The help of each command says what stands beside it.
+/// Fails if the help of a command says something else than its row wants.
 fn expect_help(alloc: Global, table: &[(&str, &str)]) -> Result<(), Fail> {
     for &(command, want) in table {
         expect_within(help_of(alloc, command)?.as_str(), want)?;
@@ -57,7 +57,7 @@ fn expect_help(alloc: Global, table: &[(&str, &str)]) -> Result<(), Fail> {
     Ok(())
 }
 
-/// Words of no command, of `echo` and of `cycle`, each line beside what it is.
+/// Arguments of no command, of `echo` and of `cycle`, each line with what it is.
 static WORDS: [(&str, &str); 13] = [
     ("cq|echo", "Echo"),
     ("another name|echo", "Echo"),
@@ -85,7 +85,7 @@ fn parses_words(rt: HostRuntime) -> Result<(), Fail> {
     expect(rt.alloc(), &WORDS)
 }
 
-/// Words of `init`, each line beside what it is.
+/// Arguments of `init`, each line with what it is.
 static NEW_QUEUES: [(&str, &str); 10] = [
     (
         "cq|init|q|hourly|1|2|3|4|5",
@@ -124,7 +124,7 @@ fn parses_the_words_of_a_new_queue(rt: HostRuntime) -> Result<(), Fail> {
     expect(rt.alloc(), &NEW_QUEUES)
 }
 
-/// Words of `read`, each line beside what it is.
+/// Arguments of `read`, each line with what it is.
 static READERS: [(&str, &str); 15] = [
     (
         "cq|read|q",
@@ -184,7 +184,7 @@ fn parses_the_words_of_a_reader(rt: HostRuntime) -> Result<(), Fail> {
     expect(rt.alloc(), &READERS)
 }
 
-/// Words of the other commands on a folder, each line beside what it is.
+/// Arguments of the other commands on a folder, each line with what it is.
 static OTHERS: [(&str, &str); 34] = [
     (
         "cq|write|q|18446744073709551615",
@@ -254,7 +254,7 @@ fn parses_the_words_of_other_commands(rt: HostRuntime) -> Result<(), Fail> {
     expect(rt.alloc(), &OTHERS)
 }
 
-/// Words of `race`, each line beside what it is.
+/// Arguments of `race`, each line with what it is.
 static RACES: [(&str, &str); 9] = [
     ("cq|race|1", "Race { messages: 1 }"),
     ("cq|race|1000", "Race { messages: 1000 }"),
@@ -407,7 +407,7 @@ fn help_names_the_limits_of_other_words(rt: HostRuntime) -> Result<(), Fail> {
     expect_help(rt.alloc(), &LIMITS)
 }
 
-/// Commands, each beside the example in its help.
+/// Commands, each with the example in its help.
 static EXAMPLES: [(&str, &str); 11] = [
     ("echo", "Example:\n  printf 'hello\\nworld\\n' | cq echo\n"),
     ("cycle", "Example:\n  cq cycle daily 0 $(date +%s%3N)\n"),

@@ -6,10 +6,10 @@ use cq_fixtures::{expect, expect_text};
 use std::alloc::{AllocError, Global};
 use std::test::Fail;
 
-/// The lines of the format, but for the names.
+/// The lines of the format, except the names.
 const HEAD: &str = "cq 1\nroll daily\nepoch 0\ncells 64\ncount 8\nspacing 1\ncycles 4\n";
 
-/// What reading a text answers, as a text.
+/// What reading a text returns, as a text.
 fn answer_of(alloc: Global, text: &str) -> Result<String, AllocError> {
     match read_config(alloc, text.as_bytes()) {
         Ok(saved) => {
@@ -21,14 +21,14 @@ fn answer_of(alloc: Global, text: &str) -> Result<String, AllocError> {
     }
 }
 
-/// What reading a text of two parts answers, as a text.
+/// What reading a text of two parts returns, as a text.
 fn answer_of_parts(alloc: Global, head: &str, rest: &str) -> Result<String, AllocError> {
     let text = format!(in alloc; "{head}{rest}")?;
     answer_of(alloc, text.as_str())
 }
 
-/// Reads the texts of a table, each of which begins with this head, and fails at the first that is answered otherwise than
-/// the table wants.
+/// Reads the texts of a table, each of which begins with this head, and fails at the first that returns something
+/// else than the table wants.
 fn expect_answers(alloc: Global, head: &str, table: &[(&str, &str)]) -> Result<(), Fail> {
     for (rest, want) in table {
         expect_text(answer_of_parts(alloc, head, rest)?, want)?;
@@ -46,7 +46,7 @@ fn is_written_again(alloc: Global, text: &str, saved: &SavedConfig) -> Result<bo
     Ok(written.as_slice() == text.as_bytes())
 }
 
-/// Fails where a text is not written again from what it says, or that is not what is wanted.
+/// Fails if a text is not written again from what it says, or if that is not what is wanted.
 fn expect_saved(alloc: Global, text: &str, saved: &SavedConfig, want: &str) -> Result<(), Fail> {
     expect(is_written_again(alloc, text, saved)?, text)?;
     let settings = settings_text(alloc, &saved.config)?;
@@ -64,7 +64,7 @@ fn expect_read(alloc: Global, text: &str, want: &str) -> Result<(), Fail> {
     expect_saved(alloc, text, &saved, want)
 }
 
-/// Texts, each beside what it says.
+/// Texts, each with what it says.
 static TEXTS: [(&str, &str); 4] = [
     (
         "cq 1\nroll daily\nepoch 0\ncells 64\ncount 8\nspacing 1\ncycles 4\nname reader 0\n",
@@ -97,7 +97,7 @@ fn a_text_is_read_and_written_again(rt: HostRuntime) -> Result<(), Fail> {
     Ok(())
 }
 
-/// Texts, each beside what reading it answers.
+/// Texts, each with what reading it returns.
 static FAULTY_LINES: [(&str, &str); 31] = [
     // Texts that end too early.
     ("", "line 1"),
@@ -161,7 +161,7 @@ fn the_faulty_line_is_named(rt: HostRuntime) -> Result<(), Fail> {
     expect_answers(rt.alloc(), "", &FAULTY_LINES)
 }
 
-/// Lines of names, each beside what reading them answers.
+/// Lines of names, each with what reading them returns.
 static FAULTY_NAMES: [(&str, &str); 15] = [
     ("", "0 names, 0 positions"),
     ("name reader 0\nname writer 7\n", "2 names, 2 positions"),
@@ -177,7 +177,7 @@ static FAULTY_NAMES: [(&str, &str); 15] = [
     ("name a b 0\n", "line 8"),
     ("Name a 0\n", "line 8"),
     ("name a 0\nname b 0\nname a 0\nname\n", "line 11"),
-    // No name stands twice.
+    // No name is there twice.
     ("name a 0\nname b 0\nname a 0\n", "BadConfig"),
 ];
 
@@ -186,7 +186,7 @@ fn the_faulty_name_is_named(rt: HostRuntime) -> Result<(), Fail> {
     expect_answers(rt.alloc(), HEAD, &FAULTY_NAMES)
 }
 
-/// The floor that is read of the lines behind the head, or the fault, as a text.
+/// The floor that is read of the lines after the head, or the fault, as a text.
 fn floor_answer(alloc: Global, rest: &str) -> Result<String, AllocError> {
     let text = format!(in alloc; "{HEAD}{rest}")?;
     match read_config(alloc, text.as_bytes()) {
@@ -195,7 +195,7 @@ fn floor_answer(alloc: Global, rest: &str) -> Result<String, AllocError> {
     }
 }
 
-/// Lines behind the head, each beside the floor or the fault that is read of them.
+/// Lines after the head, each with the floor or the fault that is read of them.
 static FLOORS: [(&str, &str); 20] = [
     ("", "0"),
     ("name a 0\n", "0"),
@@ -213,7 +213,7 @@ static FLOORS: [(&str, &str); 20] = [
     ("floor 1", "line 8"),
     ("floor 1 2\n", "line 8"),
     ("Floor 1\n", "line 8"),
-    // It stands once, and before the names.
+    // It is there once, and before the names.
     ("floor 1\nfloor 1\n", "line 9"),
     ("name a 0\nfloor 1\n", "line 9"),
     ("floor 1\nname a 0", "line 9"),
@@ -229,7 +229,7 @@ fn a_floor_is_read_or_refused(rt: HostRuntime) -> Result<(), Fail> {
     Ok(())
 }
 
-/// Lines behind those of the roll, each beside what reading them answers.
+/// Lines after those of the roll, each with what reading them returns.
 static LIMITS: [(&str, &str); 14] = [
     (
         "epoch 0\ncells 64\ncount 8\nspacing 1\ncycles 4\n",
@@ -295,7 +295,7 @@ fn limits_are_told_apart(rt: HostRuntime) -> Result<(), Fail> {
     expect_answers(rt.alloc(), "cq 1\nroll hourly\n", &LIMITS)
 }
 
-/// The lines of so many names, each of a letter of its own, up to 26, and these behind it.
+/// The lines of this many names, each of a letter of its own, up to 26, and these after it.
 fn lines_of_names(alloc: Global, count: u8, letters: &str) -> Result<String, AllocError> {
     let mut text = String::new(alloc);
     for i in 0..count {
@@ -305,16 +305,16 @@ fn lines_of_names(alloc: Global, count: u8, letters: &str) -> Result<String, All
     Ok(text)
 }
 
-/// What reading the lines of so many names answers.
+/// What reading the lines of this many names returns.
 fn answer_of_names(alloc: Global, count: u8, letters: &str) -> Result<String, AllocError> {
     let lines = lines_of_names(alloc, count, letters)?;
     answer_of_parts(alloc, HEAD, lines.as_str())
 }
 
-/// The letters of a name of 32 letters behind the first one.
+/// The letters of a name of 32 letters after the first one.
 const LONGEST: &str = "nnnnnnnnnnnnnnnnnnnnnnnnnnnnnnn";
 
-/// Numbers of names and their letters behind the first one, each beside what reading such a text answers.
+/// Numbers of names and their letters after the first one, each with what reading such a text returns.
 static NAMES: [(u8, &str, &str); 5] = [
     (1, LONGEST, "1 names, 1 positions"),
     (1, "nnnnnnnnnnnnnnnnnnnnnnnnnnnnnnnn", "BadConfig"),

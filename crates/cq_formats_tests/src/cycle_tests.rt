@@ -13,7 +13,7 @@ const HOUR: u64 = 3_600_000;
 /// The epoch from which the last minute of the year 9999 is in the last cycle.
 const LATE: u64 = 124_553_281_980_000;
 
-/// Rolls, epochs and moments, each beside the cycle of the moment.
+/// Rolls, epochs and moments, each with the cycle of the moment.
 static CYCLES: [(Roll, u64, u64, Result<u32, BadMoment>); 15] = [
     (Roll::Daily, 0, 86_399_999, Ok(0)),
     (Roll::Daily, 0, 86_400_000, Ok(1)),
@@ -40,7 +40,7 @@ fn tells_the_cycle_of_a_moment() -> Result<(), Fail> {
     Ok(())
 }
 
-/// Rolls, epochs and cycles, each beside whether there is such a cycle.
+/// Rolls, epochs and cycles, each with whether there is such a cycle.
 static KNOWN: [(Roll, u64, u32, bool); 13] = [
     (Roll::Daily, 0, 2_932_896, true),
     (Roll::Daily, 0, 2_932_897, false),
@@ -80,7 +80,7 @@ fn is_named(
     Ok(printed.as_str() == name && cycle_named(roll, epoch, name) == Ok(cycle))
 }
 
-/// Rolls, epochs and cycles, each beside the name of the cycle.
+/// Rolls, epochs and cycles, each with the name of the cycle.
 static NAMES: [(Roll, u64, u32, &str); 17] = [
     (Roll::Daily, 0, 20_000, "20241004"),
     (Roll::Hourly, 0, 480_000, "20241004-00"),
@@ -109,7 +109,7 @@ fn names_cycles_and_finds_them(rt: HostRuntime) -> Result<(), Fail> {
     Ok(())
 }
 
-/// Rolls and epochs, each beside a name that no cycle has.
+/// Rolls and epochs, each with a name that no cycle has.
 static NO_NAMES: [(Roll, u64, &str); 35] = [
     // Not eight digits.
     (Roll::Daily, 0, ""),
@@ -175,7 +175,7 @@ fn index_text(alloc: Global, cycle: u32, sequence: u32) -> Result<String, AllocE
     format!(in alloc; "{value} = {cycle}, {sequence}: {index}")
 }
 
-/// Cycles and sequences, each beside what the index of both says.
+/// Cycles and sequences, each with what the index of both says.
 static INDEXES: [(u32, u32, &str); 4] = [
     (0, 0, "0 = 0, 0: 0000000000000000"),
     (20_000, 0, "85899345920000 = 20000, 0: 00004e2000000000"),
@@ -195,7 +195,7 @@ fn joins_and_splits_indexes(rt: HostRuntime) -> Result<(), Fail> {
     Ok(())
 }
 
-/// Words, each beside the roll that it names.
+/// Words, each with the roll that it names.
 static WORDS: [(&str, Option<Roll>); 9] = [
     ("daily", Some(Roll::Daily)),
     ("hourly", Some(Roll::Hourly)),

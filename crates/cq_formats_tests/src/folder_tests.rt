@@ -27,7 +27,7 @@ fn two_files(alloc: Global) -> Result<MemoryFolder, FolderFault> {
     Ok(folder)
 }
 
-/// What a read answers, as a text.
+/// What a read returns, as a text.
 fn answer_text(alloc: Global, answer: &Result<Vec<u8>, FolderFault>) -> Result<String, AllocError> {
     match answer {
         Ok(bytes) => format!(in alloc; "{:?}", bytes.as_slice()),
@@ -35,7 +35,7 @@ fn answer_text(alloc: Global, answer: &Result<Vec<u8>, FolderFault>) -> Result<S
     }
 }
 
-/// What reading a file answers, as a text.
+/// What reading a file returns, as a text.
 fn read_text<F: Folder>(
     alloc: Global,
     folder: &mut F,
@@ -48,7 +48,7 @@ fn read_text<F: Folder>(
     answer_text(alloc, &folder.read(alloc, name, limit))
 }
 
-/// Names in their order, with a space behind each.
+/// Names in their order, with a space after each.
 pub fn in_order(alloc: Global, names: Vec<String>) -> Result<String, AllocError> {
     let mut names = names;
     names.sort()?;
@@ -70,7 +70,7 @@ pub fn names_text<F: Folder>(alloc: Global, folder: &mut F) -> Result<String, Al
     }
 }
 
-/// Reads of a file up to a limit, each beside what it answers of those two files.
+/// Reads of a file up to a limit, each with what it returns of those two files.
 static READS: [(&str, usize, &str); 5] = [
     ("a", 3, "[97, 98, 99]"),
     ("a", usize::MAX, "[97, 98, 99]"),
@@ -79,8 +79,8 @@ static READS: [(&str, usize, &str); 5] = [
     ("c", 0, "Device"),
 ];
 
-/// Writes those two files, and fails where a folder then keeps other files, or another call of it failed than the read of a
-/// file that is not there.
+/// Writes those two files. Fails if a folder then keeps other files, or if another call of it failed than the read of
+/// a file that is not there.
 fn expect_two_files<F: Folder>(alloc: Global, folder: &mut F) -> Result<(), Fail> {
     write_two_files(alloc, folder)?;
     folder.begin(alloc, Access::Shared)?;
@@ -89,7 +89,7 @@ fn expect_two_files<F: Folder>(alloc: Global, folder: &mut F) -> Result<(), Fail
     expect(folder.failures() == 1, "one call fails")
 }
 
-/// Fails where a folder answers to reads of those two files otherwise than wanted.
+/// Fails if reads of those two files return other than wanted.
 fn expect_reads<F: Folder>(alloc: Global, folder: &mut F) -> Result<(), Fail> {
     for &(name, limit, want) in &READS {
         folder.begin(alloc, Access::Shared)?;
@@ -98,7 +98,7 @@ fn expect_reads<F: Folder>(alloc: Global, folder: &mut F) -> Result<(), Fail> {
     Ok(())
 }
 
-/// Fails as `expect_two_files` does, and where there is a file without a name.
+/// Fails as `expect_two_files` does, and if there is a file without a name.
 fn expect_no_more_files<F: Folder>(alloc: Global, folder: &mut F) -> Result<(), Fail> {
     expect_two_files(alloc, folder)?;
     folder.begin(alloc, Access::Shared)?;
@@ -137,7 +137,7 @@ pub fn save<F: Folder>(
     Ok(folder.save(changes.as_slice()))
 }
 
-/// What coming in, and then the list, a write, a read and a save of a folder answer, and how many calls failed, as text.
+/// What entering a folder returns, and then its list, a write, a read and a save, and how many calls failed, as text.
 fn calls_text<F: Folder>(alloc: Global, folder: &mut F) -> Result<String, AllocError> {
     let mut text = String::new(alloc);
     push_calls(alloc, folder, &mut text)?;
@@ -147,7 +147,7 @@ fn calls_text<F: Folder>(alloc: Global, folder: &mut F) -> Result<String, AllocE
     Ok(text)
 }
 
-/// Adds what coming in answers to a text, and what the calls of a command answer that has come in.
+/// Adds to a text what entering a folder returns, and what the calls of a command return that has entered.
 fn push_calls<F: Folder>(
     alloc: Global,
     folder: &mut F,
@@ -161,7 +161,7 @@ fn push_calls<F: Folder>(
     }
 }
 
-/// Adds what the list, a write, a read and a save answer to a text.
+/// Adds to a text what the list, a write, a read and a save return.
 fn push_calls_within<F: Folder>(
     alloc: Global,
     folder: &mut F,
@@ -195,7 +195,7 @@ fn three_text<F: Folder>(alloc: Global, folder: &mut F) -> Result<String, AllocE
     Ok(text)
 }
 
-/// Adds what a file holds to a text, behind a space.
+/// Adds what a file holds to a text, after a space.
 fn push_held<F: Folder>(
     alloc: Global,
     folder: &mut F,
@@ -209,7 +209,7 @@ fn push_held<F: Folder>(
     write!(text, " {held}")
 }
 
-/// Fails where the calls of a folder answer otherwise than wanted, or its files hold something else then.
+/// Fails if the calls of a folder return other than wanted, or if its files then hold something else.
 fn expect_failing(
     alloc: Global,
     mut folder: FailingFolder<NotedFolder>,
@@ -224,7 +224,7 @@ fn expect_failing(
     expect_text(three_text(alloc, &mut within)?, held)
 }
 
-/// The number of the call that fails and does nothing, beside what `calls_text` says, and what the files hold then.
+/// The number of the call that fails and does nothing, with what `calls_text` says, and what the files hold then.
 static FAILURES: [(u64, &str, &str); 7] = [
     (
         0,
@@ -259,7 +259,7 @@ static FAILURES: [(u64, &str, &str); 7] = [
     ),
 ];
 
-/// A folder with those two files, of which the call with a number fails, and is done all the same or not.
+/// A folder with those two files. The call with a number fails, and is done nevertheless or not.
 fn failing(
     alloc: Global,
     number: u64,
@@ -272,7 +272,7 @@ fn failing(
     }
 }
 
-/// Fails where a row of a table does not hold, whose call fails and is done all the same or not.
+/// Fails if a row of a table does not hold, whose call fails and is done nevertheless or not.
 fn expect_rows(alloc: Global, is_done: bool, table: &[(u64, &str, &str)]) -> Result<(), Fail> {
     for &(number, calls, held) in table {
         expect_failing(alloc, failing(alloc, number, is_done)?, calls, held)?;
@@ -285,7 +285,7 @@ fn each_call_can_fail_once(rt: HostRuntime) -> Result<(), Fail> {
     expect_rows(rt.alloc(), false, &FAILURES)
 }
 
-/// The same where the call that fails is done all the same.
+/// The same if the call that fails is done nevertheless.
 static DONE: [(u64, &str, &str); 2] = [
     (
         3,

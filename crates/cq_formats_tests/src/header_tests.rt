@@ -3,7 +3,7 @@ use cq_fixtures::expect_row;
 use cq_header::{BadHeader, Header, read, write};
 use std::test::Fail;
 
-/// Each kind of header beside its bits, as Chronicle Wire's table has them.
+/// Each kind of header with its bits, as Chronicle Wire's table has them.
 static TABLE: [(u32, Header); 8] = [
     (0x0000_0000, Header::Empty),
     (0x8000_0000, Header::Working),

@@ -1,4 +1,4 @@
-//! Cells, the shapes of cycles, and what has room in a cycle.
+//! Cells, the shapes of cycles, and what fits in a cycle.
 
 ghost use Rattle.std.specs.Prelude.{◌≤◌};
 
@@ -7,7 +7,7 @@ use cq_layout::{BadShape, Shape, cells_for, fits, fits_v1, needs, needs_v1, pack
 use std::alloc::{AllocError, Global};
 use std::test::Fail;
 
-/// Lengths, each beside the cells that it takes.
+/// Lengths, each with the cells that it takes.
 static LENGTHS: [(u32, u32); 6] = [
     (0, 0),
     (1, 1),
@@ -50,7 +50,7 @@ fn measures(cells: u32, index_count: u32, index_spacing: u32) -> Result<(u32, u3
     Ok((shape.cells(), shape.index_count(), shape.index_spacing()))
 }
 
-/// Cells, index counts and index spacings, each beside whether they are measures of a shape.
+/// Cells, index counts and index spacings, each with whether they are measures of a shape.
 static SHAPES: [(u32, u32, u32, bool); 16] = [
     (31, 8, 1, true),
     (64, 8, 1, true),

@@ -37,7 +37,7 @@ fn is_config(
     Ok(Config::new(shape, cycles, Roll::Daily, epoch, names).is_ok())
 }
 
-/// Cells, cycles and epochs, each beside whether they are settings.
+/// Cells, cycles and epochs, each with whether they are settings.
 static SETTINGS: [(u32, u32, u64, bool); 11] = [
     (64, 1, 0, true),
     (64, 4, 0, true),
@@ -61,7 +61,7 @@ fn a_configuration_has_limits(rt: HostRuntime) -> Result<(), Fail> {
     Ok(())
 }
 
-/// Names, each list beside whether these are names of tailers.
+/// Names, each list with whether these are names of tailers.
 static NAMES: [(&[&str], bool); 11] = [
     (&[], true),
     (&["AZaz09_-."], true),

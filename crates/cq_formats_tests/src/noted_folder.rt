@@ -3,7 +3,7 @@
 use cq_folder::{Access, Folder, FolderFault, MemoryFolder, NewFile};
 use std::alloc::Global;
 
-/// A folder in memory that notes the fault of a write or a save, in place of which the folder around it may answer another.
+/// A folder in memory that notes the fault of a write or a save. The folder around it may return another one.
 #[derive(Drop)]
 pub struct NotedFolder {
     /// The folder within.

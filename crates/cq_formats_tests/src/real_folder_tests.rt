@@ -28,15 +28,15 @@ enum Step {
     Lock(&'static str),
     /// Says whether a file may be read alone.
     IsLocked(&'static str),
-    /// Puts so many empty files with long names.
+    /// Puts this many empty files with long names.
     Many(usize),
     /// Says how many names there are.
     Count,
-    /// Comes in, beside others or alone.
+    /// Enters, together with others or alone.
     Begin(Access),
     /// Goes out.
     End,
-    /// Says whether another that opens the folder could come in, beside others or alone.
+    /// Says whether another that opens the folder could enter, together with others or alone.
     Try(Access),
     /// Saves files with these texts together.
     Save(&'static [(&'static str, &'static str)]),
@@ -52,8 +52,7 @@ enum Step {
     Failures,
 }
 
-/// Takes the steps in a new folder of the system in turn, and fails where one says something else than stands beside
-/// it.
+/// Takes the steps in a new folder of the system in turn, and fails if one says something else than its row wants.
 fn expect_steps(
     rt: &HostRuntime,
     name: &str,
@@ -70,7 +69,7 @@ fn temporary_path(rt: &HostRuntime, name: &str) -> Result<String, Fail> {
     Ok(format!(in rt.alloc(); "{}/cq_{name}_{id}", within.display())?)
 }
 
-/// What is said by steps in a new folder at a path where something else stands beside them, with their places.
+/// What steps in a new folder at a path say other than their rows want, with their places.
 fn missed_in_new(
     rt: &HostRuntime,
     path: &str,
@@ -108,7 +107,7 @@ where
     Ok(text)
 }
 
-/// Adds what is said by steps where something else stands beside them to a text, with their places.
+/// Adds to a text what steps say other than their rows want, with their places.
 fn push_missed_steps<R, F>(
     rt: &R,
     path: &str,
@@ -127,9 +126,9 @@ where
     Ok(())
 }
 
-/// Takes a step in the folder at a path, and gives what is said. Where that is not what is wanted, says behind it whether
-/// it was put off: a save that finds no memory behind its record, or for removing what it gives up, tells nobody, and leaves
-/// that to the next command that is alone.
+/// Takes a step in the folder at a path, and gives what is said. If that is not what is wanted, it also says whether
+/// the step was put off. A save that gets no memory after its record, or for removing what it gives up, reports
+/// nothing, and leaves that to the next command that is alone.
 fn said_beside<R, F>(
     rt: &R,
     path: &str,
@@ -195,7 +194,7 @@ where
     }
 }
 
-/// Nothing where a call was done, or its error.
+/// Nothing if a call was done, or its error.
 fn answer<E: Debug + Drop>(alloc: Global, done: Result<(), E>) -> Result<String, Fail> {
     match done {
         Ok(()) => Ok(String::new(alloc)),
@@ -334,7 +333,7 @@ fn text_of<F: Folder>(alloc: Global, folder: &mut F, name: &str) -> Result<Strin
     }
 }
 
-/// The same where a command has come in.
+/// The same once a command has entered.
 fn text_within<F: Folder>(alloc: Global, folder: &mut F, name: &str) -> Result<String, Fail>
     requires { IsSome (F.entered folder.old) }
 {
@@ -429,8 +428,8 @@ fn files_are_saved_together(rt: HostRuntime) -> Result<(), Fail> {
     expect_steps(&rt, "saved", &SAVED)
 }
 
-/// A save was stopped between its renames: a reader sees all of it, and whoever is alone finishes it. A part that no
-/// record names is of a save that was stopped before, and goes; a file of the user's stays.
+/// A save was stopped between its renames: a reader sees all of it, and any command that is alone finishes it. A part
+/// that no record names is of a save that was stopped before, and is removed; a file of the user's stays.
 static STOPPED: [(Step, &str); 20] = [
     (Step::Put("1.cqi", "new one"), ""),
     (Step::Put("2.cqi", "old two"), ""),
@@ -594,7 +593,7 @@ fn the_lock_is_held_while_a_command_is_in(rt: HostRuntime) -> Result<(), Fail> {
     expect_steps(&rt, "held", &HELD)
 }
 
-/// The names of parts, and others that are none: whoever comes in alone removes the parts, and nothing else.
+/// The names of parts, and others that are none: any command that enters alone removes the parts, and nothing else.
 static SWEPT: [(Step, &str); 29] = [
     (Step::Put("queue.cqc.7.part", ""), ""),
     (Step::Put("queue.save.0.part", ""), ""),
@@ -650,7 +649,7 @@ fn a_missing_folder_is_a_device_fault(rt: HostRuntime) -> Result<(), Fail> {
     expect_text(missed(&rt, "/no/such/folder", &MISSING)?, "")
 }
 
-/// Each call of a folder that is gone since a command came in is a fault, but for that which ends the command.
+/// Each call of a folder that is gone since a command entered is a fault, except the one that ends the command.
 static GONE: [(Step, &str); 8] = [
     (Step::Begin(Access::Alone), ""),
     (Step::Remove, ""),

@@ -10,7 +10,7 @@ use cq_layout::{Messages, Shape};
 use std::alloc::{AllocError, Global};
 use std::test::Fail;
 
-/// What is saved of the bytes: each message with a space behind it, and then the fault, or `whole`.
+/// What is saved of the bytes: each message with a space after it, and then the fault, or `whole`.
 fn saved(alloc: Global, cycle: u32, shape: Shape, bytes: &[u8]) -> Result<String, Fail> {
     let Salvaged { messages, fault } = salvage(alloc, cycle, shape, Roll::Daily, 0, bytes)?;
     let mut text = String::new(alloc);
@@ -19,7 +19,7 @@ fn saved(alloc: Global, cycle: u32, shape: Shape, bytes: &[u8]) -> Result<String
     Ok(text)
 }
 
-/// Adds each message to a text, with a space behind it.
+/// Adds each message to a text, with a space after it.
 fn push_messages(messages: &Messages<'_>, text: &mut String) -> Result<(), AllocError> {
     for sequence in 0..messages.len() {
         push_message(messages.bytes(sequence), " ", text)?;
@@ -48,7 +48,7 @@ static BEGINNINGS: [(usize, usize, &str, &str); 8] = [
     (116, 116, "1 ended", "hello whole"),
 ];
 
-/// Fails where the first bytes of the worked image, so many of them, are read or saved otherwise.
+/// Fails if the first bytes of the worked image, this many of them, are read or saved other than wanted.
 fn expect_beginning(alloc: Global, len: usize, read: &str, want: &str) -> Result<(), Fail> {
     let shape = Shape::new(64, 8, 1)?;
     let bytes = changed(alloc, &HELLO, &[Change::Cut(len)])?;
@@ -76,7 +76,7 @@ fn messages_of_either_version_are_saved(rt: HostRuntime) -> Result<(), Fail> {
     expect_text(saved(rt.alloc(), 0, shape, &second)?, "hello Cut at 124")
 }
 
-/// Fails where an image is saved otherwise with the changes of a row.
+/// Fails if an image is saved other than wanted with the changes of a row.
 fn expect_saved(
     alloc: Global,
     cycle: u32,

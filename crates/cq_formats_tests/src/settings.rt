@@ -26,7 +26,7 @@ pub fn messages_of(alloc: Global, texts: &[&[u8]]) -> Result<Vec<Message>, Alloc
     Ok(messages)
 }
 
-/// Adds a message to a text, and this behind it.
+/// Adds a message to a text, and this after it.
 pub fn push_message(message: &[u8], behind: &str, text: &mut String) -> Result<(), AllocError> {
     text.push_str(str::from_utf8(message).unwrap_or("no text"))?;
     text.push_str(behind)

@@ -1,11 +1,11 @@
-//! Entries of the index, and hints at where a walk may begin.
+//! Entries of the index, and hints where a walk may begin.
 
 use cq_fixtures::expect_row;
 use cq_layout::Shape;
 use cq_tables::{entry_places, pack_hint, start_for, unpack_hint};
 use std::test::Fail;
 
-/// Index counts, index spacings and sequences, each beside the table and the entry that name the message.
+/// Index counts, index spacings and sequences, each with the table and the entry that name the message.
 static ENTRIES: [(u32, u32, u32, Option<(u32, u32)>); 5] = [
     (8, 1, 8, Some((1, 0))),
     (8, 1, 9, Some((1, 1))),
@@ -23,7 +23,7 @@ fn messages_have_entries() -> Result<(), Fail> {
     Ok(())
 }
 
-/// Positions and sequences, each beside its hint.
+/// Positions and sequences, each with its hint.
 static HINTS: [(u32, u32, u64); 2] = [(100, 0, 429_496_729_600), (112, 1, 481_036_337_153)];
 
 #[test]
@@ -45,7 +45,7 @@ fn hints_are_unpacked() -> Result<(), Fail> {
 /// The hint at position 112, sequence 1.
 const SECOND: u64 = 481_036_337_153;
 
-/// Sequences and words, each beside the hint from which a walk begins. The hint 2,576,980,377,601 is at position 600,
+/// Sequences and words, each with the hint from which a walk begins. The hint 2,576,980,377,601 is at position 600,
 /// sequence 1.
 static STARTS: [(u32, [u64; 3], Option<u64>); 4] = [
     (2, [429_496_729_600, 0, SECOND], Some(SECOND)),

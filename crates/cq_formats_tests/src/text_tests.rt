@@ -13,7 +13,7 @@ use std::alloc::{AllocError, Global};
 use std::fmt::Display;
 use std::test::Fail;
 
-/// The texts of values, with a semicolon behind each.
+/// The texts of values, with a semicolon after each.
 fn texts<T: Display>(alloc: Global, values: &[T]) -> Result<String, AllocError> {
     let mut text = String::new(alloc);
     for value in values {
@@ -48,7 +48,7 @@ fn image_texts(alloc: Global) -> Result<String, AllocError> {
     Ok(text)
 }
 
-/// The texts of what a reader answers where an image has a fault of each kind at 100.
+/// The texts of what a reader returns if an image has a fault of each kind at 100.
 fn answer_texts(alloc: Global) -> Result<String, AllocError> {
     let mut text = String::new(alloc);
     for &kind in &KINDS {

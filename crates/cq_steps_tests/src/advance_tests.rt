@@ -13,7 +13,7 @@ static ADVANCE: Lost<'static> = Lost {
 /// For each number of steps how the advance comes out, and what is left.
 static ADVANCES: [(Outcome, &str); 5] = [
     (Outcome::Lost, "0[] at [0], 0"),
-    // The tail was looked at.
+    // The tail was loaded.
     (Outcome::Lost, "0[] at [0], 0"),
     // The cycle of the next slot was loaded.
     (Outcome::Lost, "0[] at [0], 0"),

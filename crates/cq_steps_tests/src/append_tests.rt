@@ -13,7 +13,7 @@ use std::test::Fail;
 struct Append<'a> {
     /// The measures of the cycles.
     measures: Measures,
-    /// How many messages stand before.
+    /// How many messages are there before.
     count: u32,
     /// What is appended.
     text: &'a str,
@@ -24,8 +24,8 @@ struct Append<'a> {
 }
 
 impl Append<'_> {
-    /// How the append is to come out, and what is left, after so many steps. The message stands after `stands` of them, behind which two fill in
-    /// entries of the index, and one raises the write position.
+    /// How the append has to end, and what has to be left, after this many steps. The message is published after
+    /// `stands` of them; two more fill in entries of the index, and one raises the write position.
     fn wanted(&self, stands: u32, steps: u32) -> (Outcome, &str) {
         if steps < stands {
             return (Outcome::Lost, self.before);
@@ -37,7 +37,7 @@ impl Append<'_> {
     }
 }
 
-/// What is answered or left otherwise than wanted, where the caller is lost after each number of steps.
+/// Returns the results and remains that differ from what is wanted, if the caller is lost after each number of steps.
 fn missed_of(alloc: Global, append: &Append<'_>) -> Result<String, Fail> {
     let mut missed = String::new(alloc);
     let layout = layout_of(alloc, append.measures)?;
@@ -60,7 +60,7 @@ fn missed_of(alloc: Global, append: &Append<'_>) -> Result<String, Fail> {
     Ok(missed)
 }
 
-/// Loses the caller after each number of steps, and compares what is told.
+/// Loses the caller after each number of steps, and compares the results.
 fn assert_append(rt: &impl Abort, alloc: Global, append: &Append<'_>) -> Result<(), Fail> {
     assert_none(rt, missed_of(alloc, append)?.as_str());
     Ok(())
@@ -105,16 +105,16 @@ fn an_appender_that_owes_three_records_is_lost(rt: HostRuntime) -> Result<(), Fa
     assert_append(&rt, rt.alloc(), &OF_LARGER_TABLES)
 }
 
-/// How many messages stand before, the cells that the store record has together with the message that fills the cycle, and
-/// how what is left begins.
+/// How many messages are there before, how many cells the store record has together with the message that fills the
+/// cycle, and how what is left begins.
 static FILLED: [(u32, u32, &str); 2] = [
-    // 64 cells but for two tables, the message's header, and the end of data.
+    // 64 cells less two tables, the message's header, and the end of data.
     (0, 44, "0["),
-    // And but for another table and eight messages.
+    // And less another table and eight messages.
     (8, 19, "0[a;a;a;a;a;a;a;a;"),
 ];
 
-/// A text of so many cells.
+/// Makes a text of this many cells.
 fn text_of(alloc: Global, cells: u32) -> Result<String, AllocError> {
     let mut text = String::new(alloc);
     for _ in 0..cells {
@@ -123,7 +123,7 @@ fn text_of(alloc: Global, cells: u32) -> Result<String, AllocError> {
     Ok(text)
 }
 
-/// Loses the caller in an append behind so many messages, which fills the cycle.
+/// Loses the caller in an append after this many messages, which fills the cycle.
 fn assert_filled(
     rt: &impl Abort,
     alloc: Global,

@@ -1,4 +1,5 @@
-//! Callers in the middle of a call while an appender is lost: they go on, and are answered as one reads the queue then.
+//! Callers in the middle of a call while an appender is lost: they go on, and get the results that a read of the
+//! queue at that moment gives.
 ghost use Rattle.std.specs.Prelude.{◌≡◌, ◌≤◌, ◌^◌, ℕ, List, IfOk, IfSome, None};
 ghost use Rattle.cq_shown.specs.Plans.{settings_in};
 ghost use Rattle.cq_walks.specs.Trails.{HasMessage, IsTrail};
@@ -25,8 +26,8 @@ use std::test::Fail;
 const MEASURES: Measures = (64, 8, 1);
 
 impl Call<'_> {
-    /// The step that shows behind so many messages: the message of one byte stands, or the last of four steps, as that which
-    /// ends the cycle before.
+    /// The step that publishes after this many messages. It publishes the message of one byte, or is the last of four
+    /// steps, which ends the cycle before.
     fn shows(self, layout: Layout, count: u32) -> u32
         ensures { result ≤ 2 ^ 31 }
     {
@@ -36,7 +37,7 @@ impl Call<'_> {
         }
     }
 
-    /// How many steps come behind that: two entries of the index, and the write position.
+    /// How many steps come after that: two entries of the index, and the write position.
     fn rest(self) -> u32
         ensures { result ≤ 3 }
     {
@@ -54,7 +55,7 @@ struct Loss {
     call: Call<'static>,
     /// How many steps of that it makes.
     steps: u32,
-    /// The tail where it stands.
+    /// Where the tail is.
     trail: Trail,
 }
 
@@ -63,7 +64,7 @@ struct Loss {
 enum Middle {
     /// It reads the last message, of which the first cell was loaded.
     Copy,
-    /// It reads the message behind that, where it looked at the tail.
+    /// It reads the message after that, if it has loaded the tail.
     Look,
     /// It takes the first message by the name "reader", whose position was loaded.
     Take,
@@ -71,7 +72,7 @@ enum Middle {
     Meet,
 }
 
-/// Appends "a" so many times and once more. Answers where the last one stands, and the trail behind it.
+/// Appends "a" this many times and once more. Returns where the last one is, and the trail after it.
 fn append_more(queue: &Queue, caller: &mut Caller, count: u32) -> Option<(MessagePlace, Trail)>
     requires of { IsOf queue.now caller.old }
     requires idle { caller.old.view.claim ≡ None }
@@ -87,7 +88,7 @@ fn append_more(queue: &Queue, caller: &mut Caller, count: u32) -> Option<(Messag
     Some((at, behind(queue, caller, at)))
 }
 
-/// Appends "a" so many times. Answers where the last one stands, if there is one, and the trail behind it.
+/// Appends "a" this many times. Returns where the last one is, if there is one, and the trail after it.
 fn append_some(
     queue: &Queue,
     caller: &mut Caller,
@@ -128,7 +129,7 @@ fn push_copy(
     write!(out, "cell {cell:08x}, floor {floor}")
 }
 
-/// What a read at an index answers.
+/// Adds what a read at an index returns.
 fn push_at(found: At, out: &mut String) -> Result<(), AllocError> {
     match found {
         At::Message(message) => {
@@ -140,7 +141,7 @@ fn push_at(found: At, out: &mut String) -> Result<(), AllocError> {
     }
 }
 
-/// What a caller reads at an index, behind the header that it has seen there.
+/// Adds what a caller reads at an index, after the header that it has seen there.
 fn push_found(
     alloc: Global,
     queue: &Queue,
@@ -156,7 +157,7 @@ fn push_found(
     push_at(tailer.read_at(alloc, queue, index)?, out)
 }
 
-/// A caller reads the message behind the last one that it has seen.
+/// Adds what a caller reads after the last message that it has seen.
 fn push_look(
     alloc: Global,
     queue: &Queue,
@@ -260,7 +261,8 @@ fn push_reads(
     push_messages(alloc, queue, &mut Tailer::new(reader), out)
 }
 
-/// What a caller is answered whose call is at this point when the appender is lost. `at` is the last message, if there is one.
+/// Adds what a call returns that is at this point when the appender is lost. `at` is the last message, if there is
+/// one.
 fn push_middle(
     alloc: Global,
     queue: &Queue,
@@ -288,8 +290,8 @@ fn push_middle(
     Ok(reader)
 }
 
-/// What a caller is answered beside an appender that is lost behind so many messages after so many steps, and then what it reads
-/// from the start on.
+/// Adds what a caller's call returns next to an appender that is lost after this many messages and this many steps,
+/// and then what the caller reads from the start on.
 fn push_beside(
     alloc: Global,
     queue: &Queue,
@@ -339,7 +341,8 @@ fn push_told(
     push_left(alloc, MEASURES, &queue.stop(other), out)
 }
 
-/// What a caller is answered whose call is in the middle, until a step of the lost appender is made, and from then on.
+/// What the call of a caller returns that is in the middle: until a certain step of the lost appender, and from that
+/// step on.
 struct Beside {
     call: Call<'static>,
     middle: Middle,
@@ -426,13 +429,14 @@ static BESIDE_FIRST: [Beside; 4] = [
 ];
 
 impl Beside {
-    /// What is to be answered where the step that shows was made, or was not.
+    /// What has to be returned if the publishing step was made, or was not.
     fn wanted(&self, is_shown: bool) -> &'static str {
         if is_shown { self.behind } else { self.before }
     }
 }
 
-/// What is told otherwise than wanted, beside an appender that is lost behind so many messages after each number of steps.
+/// Returns what differs from what is wanted, next to an appender that is lost after this many messages and after each
+/// number of steps.
 fn missed_beside(alloc: Global, count: u32, beside: &Beside) -> Result<String, Fail> {
     let mut missed = String::new(alloc);
     let shows = beside.call.shows(layout_of(alloc, MEASURES)?, count);

@@ -51,7 +51,7 @@ fn is_won_once<R: Threads + Sync>(rt: &R, alloc: Global) -> Result<bool, Fail> {
     Ok(found == (Some(0), Some(WORKING)) || found == (Some(WORKING), Some(0)))
 }
 
-/// Whether that is so of so many new queues.
+/// Whether that holds for this many new queues.
 fn are_won_once<R: Threads + Sync>(rt: &R, alloc: Global, count: u32) -> Result<bool, Fail> {
     for _ in 0..count {
         if !is_won_once(rt, alloc)? {

@@ -1,6 +1,6 @@
-//! How many atomic steps calls take on headers and hints over many messages: all but those on the cells of payloads, and the load
-//! of the floor with which a read ends. An append takes two that its caller does not count: the exchange that begins its message, and
-//! the store of the length.
+//! How many atomic steps calls take on headers and hints over many messages. Not counted: the steps on the cells of
+//! payloads, and the load of the floor with which a read ends. An append takes two more that its caller does not
+//! count: the compare-and-swap that begins its message, and the store of its length.
 
 ghost use Rattle.std.specs.Prelude.{◌≡◌};
 ghost use Rattle.cq_words.specs.Values.{IsOf};
@@ -53,7 +53,7 @@ fn a_read_by_index_takes_few_steps(rt: HostRuntime) -> Result<(), Fail> {
     Ok(())
 }
 
-/// The steps of so many reads forwards by a new caller, one behind the other.
+/// Returns the steps of this many reads forwards by a new caller, one after the other.
 fn forward_steps(alloc: Global, queue: &Queue, caller: &mut Caller, count: u32) -> Result<u64, Fail>
     requires { IsOf queue.now caller.old }
     ensures { IsOf queue.now caller.new }
@@ -101,13 +101,13 @@ fn a_read_behind_the_last_one_takes_one_step(rt: HostRuntime) -> Result<(), Fail
 
 #[test]
 fn a_read_over_an_index_table_takes_three_steps(rt: HostRuntime) -> Result<(), Fail> {
-    // An index table stands before each 4,096th message.
+    // An index table comes before each 4,096th message.
     let wanted = [4_096, 8_192, 28_672];
     assert!(rt; most_steps_of_forward_reads(rt.alloc(), &wanted)? <= 3);
     Ok(())
 }
 
-/// The steps of so many reads backwards from the end on by a new caller, and of its way to the end.
+/// Returns the steps of this many reads backwards from the end on by a new caller, and of its way to the end.
 fn backward_steps(
     alloc: Global,
     queue: &Queue,
@@ -168,7 +168,7 @@ fn reads_backwards_without_hints_look_at_two_headers_a_message(
     Ok(())
 }
 
-/// The steps of so many appends to a new queue by one caller.
+/// Returns the steps of this many appends to a new queue by one caller.
 fn append_steps(alloc: Global, count: u32) -> Result<u64, Fail> {
     let (queue, caller) = new_queue(alloc)?;
     let steps = append_all(&queue, caller, count)?.steps();
@@ -199,7 +199,7 @@ fn an_append_behind_a_new_table_takes_six_steps(rt: HostRuntime) -> Result<(), F
     Ok(())
 }
 
-/// The steps of an append by a caller that was just split off, behind so many messages.
+/// Returns the steps of an append by a caller that was just split off, after this many messages.
 fn new_append_steps(alloc: Global, count: u32) -> Result<u64, Fail> {
     let (queue, caller) = new_queue(alloc)?;
     let mut caller = append_all(&queue, caller, count)?;
@@ -216,7 +216,7 @@ fn most_new_append_steps(alloc: Global, sequences: &[u32]) -> Result<u64, Fail> 
     Ok(most)
 }
 
-/// Three of them find the place, where more than one message stands.
+/// Three of them find the place, if there is more than one message.
 #[test]
 fn an_append_by_a_new_caller_takes_eight_steps(rt: HostRuntime) -> Result<(), Fail> {
     let sequences = [2, 15, 16, 17, 4_095, 4_097, 4_112, 29_984, 29_999];

@@ -10,8 +10,8 @@ use crate::claiming::has_place;
 use cq_chain::Walker;
 use cq_words::{Caller, Queue};
 
-/// Claims the first header of the first slot for a message of at most so many bytes, where one fits a cycle that has none.
-/// Answers the header that was found.
+/// Claims the first header of the first slot for a message of at most this many bytes, if one fits an empty cycle.
+/// Returns the header that was found.
 pub fn claim_first(queue: &Queue, caller: &mut Caller, room: u32) -> Option<u32>
     requires of { IsOf queue.now caller.old }
     requires idle { caller.old.view.claim ≡ None }

@@ -1,8 +1,10 @@
-//! Tests of single steps on the shared words, of how many steps calls take, and of callers that are lost between any two steps.
+//! Tests of single atomic steps on the shared words, of how many steps calls take, and of callers that are lost
+//! between any two steps.
 //!
-//! A call of this crate makes the steps of an appender's call one by one, on the shared words, and ends before the step that
-//! its `Steps` do not hold any more: its caller is dropped there. What is left then is stopped by a caller that made no step.
-//! An append begins with a look here, which an appender behind its own last message leaves out: a look leaves nothing behind.
+//! Each call of this crate makes the steps of an appender's call one by one, on the shared words. It stops when its
+//! `Steps` are used up, and its caller is dropped there, as that of a thread that dies. A caller that has made no
+//! step then stops the queue. An append begins here with a load of the tail header, which an appender right after its
+//! own last message leaves out. The load changes nothing.
 #![tactic(auto)]
 
 #[cfg(test)]

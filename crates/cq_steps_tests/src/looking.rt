@@ -1,4 +1,4 @@
-//! Looks at the header where a walk stands.
+//! Loads of the header where a walk is.
 ghost use Rattle.std.specs.Prelude.{◌≡◌};
 ghost use Rattle.cq_shown.specs.Plans.{settings_in};
 ghost use Rattle.cq_walks.specs.Trails.{IsTrail};
@@ -7,7 +7,7 @@ ghost use Rattle.cq_words.specs.Values.{IsOf};
 use cq_walks::Trail;
 use cq_words::{Ask, Caller, Queue};
 
-/// A look at the header at which a trail stands, which adds no call. Answers its 32 bits. One atomic load.
+/// Loads the header at which a trail is, which adds no event. Returns its 32 bits. One atomic load.
 pub fn look(queue: &Queue, caller: &mut Caller, trail: &Trail) -> u32
     requires of { IsOf queue.now caller.old }
     requires trail { IsTrail (settings_in queue.now.plan) caller.old.view trail.now }

@@ -15,7 +15,7 @@ use std::test::Fail;
 /// How many messages the queues have.
 pub const COUNT: u32 = 30_000;
 
-/// One message in so many has an entry.
+/// One message in this many has an entry.
 pub const SPACING: u32 = 16;
 
 /// One cycle in which all messages fit.
@@ -31,7 +31,7 @@ pub fn new_queue(alloc: Global) -> Result<(Queue, Caller), Fail>
     Ok(Queue::create(alloc, config(alloc)?, 0)?)
 }
 
-/// Appends so many messages at moment 0.
+/// Appends this many messages at moment 0.
 pub fn append_all(queue: &Queue, caller: Caller, count: u32) -> Result<Caller, Fail>
     requires of { IsOf queue.now caller }
     requires idle { caller.view.claim ≡ None }

@@ -42,7 +42,7 @@ fn starts_among_many(alloc: Global, wanted: &[u32]) -> Result<Vec<u32>, Fail> {
     starts(alloc, &queue, &mut caller, wanted)
 }
 
-/// Fails where walks begin elsewhere than wanted.
+/// Fails if walks do not begin where wanted.
 fn expect_starts(starts: &[u32], want: &[u32]) -> Result<(), Fail> {
     if starts == want {
         return Ok(());
@@ -66,7 +66,7 @@ fn walks_begin_at_the_last_message(rt: HostRuntime) -> Result<(), Fail> {
     expect_starts(starts.as_slice(), &[29_999, 29_999, 29_999])
 }
 
-/// Where walks begin in a cycle that was opened again with three messages, behind which one was appended.
+/// Returns where walks begin in a cycle that was opened again with three messages, after which one was appended.
 fn starts_behind_others(alloc: Global, wanted: &[u32]) -> Result<Vec<u32>, Fail> {
     let config = config_of(alloc, Shape::new(64, 8, 1)?, 1)?;
     let contents = contents_of(alloc, &[(0, &["a", "b", "c"])], &[0])?;

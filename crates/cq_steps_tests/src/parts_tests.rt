@@ -36,7 +36,7 @@ fn put_part(queue: &Queue, appender: Appender, bytes: &[u8], size: usize) -> Res
     }
 }
 
-/// The same behind "a", which it appends first.
+/// The same after "a", which it appends first.
 fn put_behind(queue: &Queue, caller: Caller, bytes: &[u8], size: usize) -> Result<(), Fail>
     requires of { IsOf queue.now caller }
     requires idle { caller.view.claim ≡ None }
@@ -46,7 +46,8 @@ fn put_behind(queue: &Queue, caller: Caller, bytes: &[u8], size: usize) -> Resul
     Ok(put_part(queue, appender, bytes, size)?)
 }
 
-/// What is left of a queue whose appender was lost once these bytes of a message behind "a" were put, in pieces of this size.
+/// Adds what is left of a queue whose appender was lost once these bytes of a message after "a" were put, in pieces
+/// of this size.
 fn push_left_of_parts(
     alloc: Global,
     bytes: &[u8],
@@ -59,7 +60,7 @@ fn push_left_of_parts(
     push_left(alloc, MEASURES, &queue.stop(other), left)
 }
 
-/// What is told otherwise than wanted, where the appender is lost after each number of bytes.
+/// Returns what differs from what is wanted, if the appender is lost after each number of bytes.
 fn missed_parts(alloc: Global, size: usize) -> Result<String, Fail> {
     let mut missed = String::new(alloc);
     for count in 0..TEXT.len() + 1 {
@@ -81,9 +82,9 @@ fn a_message_of_which_a_part_is_put_is_lost(rt: HostRuntime) -> Result<(), Fail>
     Ok(())
 }
 
-/// A message that is given up behind others, and at each of whose steps in turn its caller is lost.
+/// A message that is given up after others. Its caller is lost at each step in turn.
 struct GiveUp {
-    /// How many messages stand before.
+    /// How many messages are there before.
     count: u32,
     /// The message.
     text: &'static str,
@@ -93,7 +94,7 @@ struct GiveUp {
     left: &'static str,
 }
 
-/// Three cells and the header, behind the meta-data of the first message, a message, and a full table.
+/// Three cells and the header: after the meta-data of the first message, after a message, and after a full table.
 static GIVEN_UP: [GiveUp; 3] = [
     GiveUp {
         count: 0,
@@ -115,7 +116,7 @@ static GIVEN_UP: [GiveUp; 3] = [
     },
 ];
 
-/// What is answered or left otherwise than wanted, where the caller is lost after each number of steps.
+/// Returns the results and remains that differ from what is wanted, if the caller is lost after each number of steps.
 fn missed_of(alloc: Global, given: &GiveUp) -> Result<String, Fail> {
     let mut missed = String::new(alloc);
     let lost = Lost {

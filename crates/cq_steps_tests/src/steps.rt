@@ -8,7 +8,7 @@ pub struct Steps {
 }
 
 impl Steps {
-    /// Counts the step that comes next. Answers none where no step is left: the caller is lost before it.
+    /// Counts the step that comes next. Returns `None` if no step is left: the caller is lost before it.
     pub fn next(&mut self) -> Option<()>
         ensures made { IfSome result (λ u. self.new.left + 1 ≡ self.old.left) }
         ensures lost { (result ≡ None) ↔ (self.old.left ≡ 0) }

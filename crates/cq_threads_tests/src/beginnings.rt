@@ -17,7 +17,7 @@ fn has_first(few: &[Message], more: &[Message]) -> bool {
     true
 }
 
-/// Whether a cycle may have become another list: the same cycle, with more messages where it may still grow.
+/// Whether a cycle may have become another list: the same cycle, with more messages if it may still grow.
 fn may_become(list: &CycleList, later: &CycleList, may_grow: bool) -> bool {
     let messages = list.messages.as_slice();
     let others = later.messages.as_slice();
@@ -26,7 +26,7 @@ fn may_become(list: &CycleList, later: &CycleList, may_grow: bool) -> bool {
         && (may_grow || messages.len() == others.len())
 }
 
-/// Whether these cycles are how later ones begin: all but the last one stand there as they are, and the last one with more
+/// Whether later cycles begin with these: all except the last one are the same there, and the last one has more
 /// messages, or the same.
 pub fn is_beginning(lists: &[CycleList], later: &[CycleList]) -> bool {
     for (place, list) in lists.iter().enumerate() {
@@ -42,7 +42,7 @@ pub fn is_beginning(lists: &[CycleList], later: &[CycleList]) -> bool {
     true
 }
 
-/// Whether these cycles are how later ones begin, where there are any.
+/// Whether later cycles begin with these, if there are any.
 pub fn is_some_beginning(lists: &Option<Vec<CycleList>>, later: &[CycleList]) -> bool {
     match lists {
         Some(lists) => is_beginning(lists.as_slice(), later),

@@ -1,4 +1,4 @@
-//! Threads beside a message that was begun, and beside a cycle that begins.
+//! Threads concurrently with a message that was begun, and with a cycle that begins.
 
 ghost use Rattle.std.specs.Prelude.{◌≡◌, None};
 ghost use Rattle.cq_words.specs.Values.{IsOf};
@@ -81,7 +81,7 @@ fn reads_nothing(alloc: Global, queue: &Queue, tailer: &mut Tailer) -> Result<bo
     Ok(matches!(tailer.next(alloc, queue)?, Found::NotYet))
 }
 
-/// The index of "hello", where that was read.
+/// Returns the index of "hello", if that was read.
 fn index_of_hello(found: &Found) -> Option<u64> {
     match found {
         Found::Message(index, message) => {
@@ -94,7 +94,7 @@ fn index_of_hello(found: &Found) -> Option<u64> {
     }
 }
 
-/// The index of "hello", where that is read.
+/// Returns the index of "hello", if that is read.
 fn read_hello(alloc: Global, queue: &Queue, tailer: &mut Tailer) -> Result<Option<u64>, AllocError>
     requires { IsOf queue.now tailer.old.caller }
 {
@@ -104,14 +104,14 @@ fn read_hello(alloc: Global, queue: &Queue, tailer: &mut Tailer) -> Result<Optio
 /// Whether no message was there while "hello" was begun, and the index of "hello" once it was completed.
 type Beside = Result<(bool, Option<u64>), AllocError>;
 
-/// What a reader beside "hello" finds.
+/// Returns what a reader finds concurrently with "hello".
 fn read_beside(alloc: Global, queue: &Queue, tailer: &mut Tailer, stage: &AtomicU64) -> Beside
     requires { IsOf queue.now tailer.old.caller }
 {
     if !has_come(stage, BEGUN) {
         return Ok((false, None));
     }
-    // The writer goes on also where there was no memory.
+    // The writer goes on even if the reader is out of memory.
     let looked = reads_nothing(alloc, queue, tailer);
     stage.store(SEEN, Ordering::SeqCst);
     let is_nothing = looked?;
@@ -121,7 +121,7 @@ fn read_beside(alloc: Global, queue: &Queue, tailer: &mut Tailer, stage: &Atomic
     Ok((is_nothing, read_hello(alloc, queue, tailer)?))
 }
 
-/// What the writer of "hello" and a reader beside it answer. Answers `AllocError` where no thread could be made.
+/// Returns what the writer of "hello" and a concurrent reader return, or `AllocError` if no thread could be made.
 fn beside_claim<R: Threads + Wait + Sync>(
     rt: &R,
     alloc: Global,
@@ -215,7 +215,7 @@ fn both_roll<R: Threads + Wait + Sync>(
     )
 }
 
-/// What a stopped queue holds, where both appended.
+/// Gives what a stopped queue holds, if both appended.
 fn held_text(alloc: Global, appended: (bool, bool), stopped: &Stopped) -> Result<String, Fail> {
     if appended != (true, true) {
         return Ok(String::from_str(alloc, "refused")?);

@@ -1,4 +1,4 @@
-//! Snapshots beside two threads that append over several cycles.
+//! Snapshots concurrently with two threads that append over several cycles.
 
 ghost use Rattle.cq_words.specs.Values.{IsOf};
 
@@ -19,10 +19,10 @@ use std::thread::{Threads, join};
 /// How many days the threads append over.
 const DAYS: u32 = 4;
 
-/// How many snapshots are taken beside them.
+/// How many snapshots are taken meanwhile.
 const SNAPSHOTS: u32 = 40;
 
-/// Takes a snapshot. Answers it, or none where the one before it does not begin it.
+/// Takes a snapshot. Returns it, or `None` if it does not begin with the one before it.
 pub(crate) fn next_snapshot(
     alloc: Global,
     queue: &Queue,
@@ -43,7 +43,7 @@ pub(crate) fn next_snapshot(
     }
 }
 
-/// Takes snapshots, as long as each one begins the next. Answers the last one, or none where one does not.
+/// Takes snapshots, as long as each one begins the next. Returns the last one, or `None` if one does not.
 fn take_snapshots(alloc: Global, queue: &Queue, mut tailer: Tailer) -> Option<Vec<CycleList>>
     requires { IsOf queue.now tailer.caller }
 {
@@ -57,7 +57,7 @@ fn take_snapshots(alloc: Global, queue: &Queue, mut tailer: Tailer) -> Option<Ve
     Some(last)
 }
 
-/// Whether each writer appended all its messages, and the last snapshot that was taken beside them.
+/// Whether each writer appended all its messages, and the last snapshot that was taken concurrently with them.
 fn snapshots_beside<R: Threads + Wait + Sync>(
     rt: &R,
     alloc: Global,

@@ -1,6 +1,6 @@
-//! Tests of the calls of one queue by threads beside one another: what they append, read, take, drop and snapshot.
+//! Tests of the calls of one queue by threads that run concurrently: what they append, read, take, drop and snapshot.
 //!
-//! They are proved apart from the calls, so that these go on side by side.
+//! They are proved apart from the calls, so that both proofs can run at the same time.
 #![tactic(auto)]
 
 #[cfg(test)]

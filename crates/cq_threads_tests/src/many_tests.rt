@@ -1,4 +1,4 @@
-//! Four threads that append, beside others that read or take, while cycles begin.
+//! Four threads that append, concurrently with others that read or take, while cycles begin.
 
 ghost use Rattle.cq_words.specs.Values.{IsOf};
 
@@ -93,7 +93,7 @@ fn count_of(tally: &mut Tally, writer: u8, index: u64) {
         .wrapping_add(u64::from(writer));
 }
 
-/// Counts a message, where it is the next one of its writer. Answers whether it is.
+/// Counts a message, if it is the next one of its writer. Returns whether it is.
 fn is_counted(tally: &mut Tally, message: &[u8], index: u64) -> bool {
     let Some(writer) = message.first() else {
         return false;
@@ -197,7 +197,7 @@ fn is_rising(indexes: &[u64]) -> bool {
     true
 }
 
-/// How many indexes stand in just one of two rising lists, from the least on up to one that stands in both.
+/// Returns how many indexes are in just one of two rising lists, from the least on up to one that is in both.
 fn count_once(one: &[u64], two: &[u64]) -> u32 {
     let mut a = 0usize;
     let mut b = 0usize;
@@ -251,7 +251,7 @@ enum Outcome {
     Taken(Vec<u64>),
 }
 
-/// Does a job beside others, of which those that take count together.
+/// Does a job concurrently with others. Those that take count together.
 fn done<R: Wait>(rt: &R, alloc: Global, job: Job, count: &AtomicU64) -> Outcome {
     match job {
         Job::Append(mut shared, writer) => {
@@ -269,7 +269,7 @@ fn done<R: Wait>(rt: &R, alloc: Global, job: Job, count: &AtomicU64) -> Outcome 
     }
 }
 
-/// What comes of jobs that are done beside one another.
+/// Returns the results of jobs that run concurrently.
 fn outcomes<R: Threads + Wait + Sync>(
     rt: &R,
     alloc: Global,
@@ -307,7 +307,7 @@ fn push_takers(queue: &mut SharedQueue, jobs: &mut Vec<Job>) -> Result<(), Alloc
     Ok(())
 }
 
-/// Four writers beside four readers of a new queue.
+/// Four writers and four readers of a new queue.
 fn writers_and_readers(alloc: Global) -> Result<Vec<Job>, Fail> {
     let mut queue = SharedQueue::new(alloc, config(alloc)?)?;
     let mut jobs = Vec::new(alloc);
@@ -316,7 +316,7 @@ fn writers_and_readers(alloc: Global) -> Result<Vec<Job>, Fail> {
     Ok(jobs)
 }
 
-/// Four writers beside two takers of a new queue.
+/// Four writers and two takers of a new queue.
 fn writers_and_takers(alloc: Global) -> Result<Vec<Job>, Fail> {
     let mut queue = SharedQueue::new(alloc, config(alloc)?)?;
     let mut jobs = Vec::new(alloc);
@@ -352,7 +352,7 @@ fn count_alike(outcomes: &[Outcome]) -> u32 {
     count
 }
 
-/// Whether two takers behind four writers took all messages, each just once.
+/// Whether two takers took all messages of four writers, each just once.
 fn are_taken_once(outcomes: &[Outcome]) -> bool {
     match (outcomes.get(4), outcomes.get(5)) {
         (Some(Outcome::Taken(one)), Some(Outcome::Taken(two))) => {

@@ -1,4 +1,4 @@
-//! Messages that tell who wrote them, and in which order.
+//! Messages that say who wrote them, and in which order.
 
 ghost use Rattle.std.specs.Prelude.{◌≡◌, ◌↔◌, [], ◌∷◌, IsTrue};
 

@@ -1,4 +1,4 @@
-//! A thread that puts its messages in parts, beside one that reads them.
+//! A thread that puts its messages in parts, concurrently with one that reads them.
 
 ghost use Rattle.std.specs.Prelude.{◌≡◌, IfSome, None};
 ghost use Rattle.cq_words.specs.Values.{IsOf};
@@ -81,7 +81,7 @@ enum Met {
     Whole,
     /// No message yet.
     Nothing,
-    /// Another message, or want of memory.
+    /// Another message, or out of memory.
     Other,
 }
 
@@ -121,7 +121,7 @@ fn count_whole(alloc: Global, queue: &Queue, tailer: &mut Tailer) -> u32
     count
 }
 
-/// Whether all messages were written, and how many were read whole and in order beside that.
+/// Whether all messages were written, and how many were meanwhile read whole and in order.
 fn write_and_read<R: Threads + Sync>(
     rt: &R,
     alloc: Global,

@@ -83,8 +83,8 @@ fn drop_all(queue: &Queue, mut tailer: Tailer, done: &AtomicU64) -> bool
     false
 }
 
-/// Takes snapshots until the writers are done, as long as each one begins the next. Answers the last one that was taken beside
-/// them, or none where one does not begin the next.
+/// Takes snapshots until the writers are done, as long as each one begins the next. Returns the last one that was
+/// taken meanwhile, or `None` if one does not begin the next.
 fn copy_all(
     alloc: Global,
     queue: &Queue,
@@ -106,7 +106,7 @@ fn copy_all(
     None
 }
 
-/// What one took beside one that dropped, and whether the floor never fell.
+/// Returns what one took concurrently with one that dropped, and whether the floor never fell.
 fn take_and_drop<R: Threads + Sync>(
     rt: &R,
     alloc: Global,
@@ -129,7 +129,7 @@ fn take_and_drop<R: Threads + Sync>(
     )
 }
 
-/// What the writers answer, and the last snapshot that was taken beside them.
+/// Returns the results of the writers, and the last snapshot that was taken meanwhile.
 fn append_and_copy<R: Threads + Wait + Sync>(
     rt: &R,
     alloc: Global,
@@ -160,7 +160,7 @@ fn append_and_copy<R: Threads + Wait + Sync>(
 struct Shared {
     /// Whether each of the writers appended all its messages.
     appended: (bool, bool),
-    /// The last snapshot, or none where one did not begin the next.
+    /// The last snapshot, or `None` if one did not begin the next.
     last: Option<Vec<CycleList>>,
     /// The indexes of the messages that were taken, in turn.
     taken: Vec<u64>,
@@ -168,7 +168,7 @@ struct Shared {
     rises: bool,
 }
 
-/// The writers and the one that takes snapshots, beside the one that takes and the one that drops.
+/// Runs the writers and the one that takes snapshots, concurrently with the one that takes and the one that drops.
 fn run<R: Threads + Wait + Sync>(
     rt: &R,
     alloc: Global,
@@ -200,8 +200,8 @@ fn run<R: Threads + Wait + Sync>(
     }
 }
 
-/// Whether these are the indexes of all messages, each once and in order, but for those that were dropped before: some that are
-/// the last ones of a cycle below the floor.
+/// Whether these are the indexes of all messages, each once and in order, except those that were dropped before: some
+/// that are the last ones of a cycle below the floor.
 fn are_all(contents: &Contents, taken: &[u64]) -> bool {
     let mut next = 0usize;
     for list in contents.lists.as_slice() {
@@ -225,9 +225,12 @@ fn are_all(contents: &Contents, taken: &[u64]) -> bool {
     next == taken.len()
 }
 
-/// What five callers saw beside what the stopped queue held: whether each of the writers appended all its messages, whether the
-/// floor never fell and where it stood, whether all that was not dropped was taken once, and whether each snapshot began the next
-/// one, and the last one what the queue held.
+/// Compares what five callers saw with what the stopped queue held. It says:
+///
+/// - whether each of the writers appended all its messages;
+/// - whether the floor never fell, and what it was;
+/// - whether all that was not dropped was taken once;
+/// - whether each snapshot began the next one, and the last one what the queue held.
 fn shared_text(alloc: Global, shared: &Shared, contents: &Contents) -> Result<String, Fail> {
     let all = are_all(contents, shared.taken.as_slice());
     let begins = is_some_beginning(&shared.last, contents.lists.as_slice());
@@ -264,7 +267,7 @@ fn share<R: Threads + Wait + Sync>(
     )
 }
 
-/// What five callers of a new queue saw beside what the stopped queue held.
+/// Compares what five callers of a new queue saw with what the stopped queue held.
 fn new_queue_text<R: Threads + Wait + Sync>(rt: &R, alloc: Global) -> Result<String, Fail> {
     let config = config_of(alloc, Shape::new(4_096, 64, 1)?, DAYS)?;
     let (queue, mut caller) = Queue::create(alloc, config, 0)?;
@@ -284,7 +287,7 @@ fn five_callers_share_a_queue(rt: HostRuntime) -> Result<(), Fail> {
     Ok(())
 }
 
-/// Cycles, the floor, indexes that were taken, and whether these are all but for those that were dropped before.
+/// Cycles, the floor, indexes that were taken, and whether these are all except those that were dropped before.
 static TAKEN: [(Cycles, u32, &[u64], bool); 8] = [
     (&[(0, &["a", "b"])], 0, &[0, 1], true),
     (
@@ -294,7 +297,8 @@ static TAKEN: [(Cycles, u32, &[u64], bool); 8] = [
         true,
     ),
     (&[(0, &["a", "b"]), (1, &["c"])], 1, &[4_294_967_296], true),
-    // One that was not dropped is missing, one was taken twice, one is none, and one comes behind one that was dropped.
+    // One that was not dropped is missing, one was taken twice, one is no index of a message, and one comes after one
+    // that was dropped.
     (&[(0, &["a", "b"])], 0, &[0], false),
     (&[(0, &["a", "b"])], 0, &[0, 0, 1], false),
     (&[(0, &["a"])], 0, &[0, 1], false),
@@ -307,7 +311,7 @@ static TAKEN: [(Cycles, u32, &[u64], bool); 8] = [
     (&[(0, &["a"]), (1, &["b"])], 1, &[4_294_967_296, 0], false),
 ];
 
-/// Whether these are the indexes of all messages of these cycles but for those that were dropped before.
+/// Whether these are the indexes of all messages of these cycles except those that were dropped before.
 fn are_all_of(alloc: Global, cycles: Cycles, floor: u32, taken: &[u64]) -> Result<bool, Fail> {
     let mut contents = contents_of(alloc, cycles, &[])?;
     contents.floor = floor;
