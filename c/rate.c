@@ -1,8 +1,8 @@
-/* How many messages a second one thread appends and reads through the library: a line of JSON for each figure, as the program
- * cq_bench prints them for the same calls.
+/* How many messages per second one thread appends and reads through the library: a line of JSON for each figure, as
+ * the program cq_bench prints them for the same calls.
  *
- * The words of the command line are the cases, or both of them where there is none. REPS and CQ_SHAPE are as for cq_bench, and so
- * is each line that is printed, but for the name "c".
+ * The arguments are the cases, or both of them if there is none. REPS and CQ_SHAPE are as for cq_bench, and so is
+ * each line that is printed, except for the name "c".
  */
 #define _POSIX_C_SOURCE 199309L
 #include "linnetshelf.h"
@@ -20,7 +20,7 @@ static unsigned repetitions = 3;
 static const uint32_t PAYLOADS[] = {8, 64, 256, 1024};
 static unsigned char message[1024], room[1024];
 
-/* Nanoseconds of a clock that only goes on. */
+/* Nanoseconds of a monotonic clock. */
 static uint64_t now(void) {
     struct timespec time;
     clock_gettime(CLOCK_MONOTONIC, &time);
@@ -48,7 +48,7 @@ static linnetshelf_handle new_queue(void) {
     return queue;
 }
 
-/* Appends until the cycle is full, and answers how many messages that were. */
+/* Appends until the cycle is full, and returns how many messages that were. */
 static uint32_t append_all(linnetshelf_handle *queue, uint32_t length) {
     uint32_t count = 0, status;
     while ((status = linnetshelf_append(queue, 0, message, length).status) == LINNETSHELF_DONE) count++;
@@ -56,7 +56,7 @@ static uint32_t append_all(linnetshelf_handle *queue, uint32_t length) {
     return count;
 }
 
-/* Reads until no message has come, each into the room, and answers how many there were. */
+/* Reads until no message has come, each into the buffer, and returns how many there were. */
 static uint32_t read_all(linnetshelf_handle *queue) {
     uint32_t count = 0, status;
     while ((status = linnetshelf_next(queue, room, sizeof room).status) == LINNETSHELF_DONE) count++;
@@ -64,7 +64,7 @@ static uint32_t read_all(linnetshelf_handle *queue) {
     return count;
 }
 
-/* Messages a second that are appended to a new queue, or read from a full one. */
+/* Messages per second that are appended to a new queue, or read from a full one. */
 static double rate(uint32_t length, bool is_append) {
     linnetshelf_handle queue = new_queue();
     uint64_t start = now();
@@ -78,7 +78,7 @@ static double rate(uint32_t length, bool is_append) {
     return count * 1e9 / (double)(end - start);
 }
 
-/* Measures a case. Answers whether there is one of that name. */
+/* Measures a case. Returns whether there is one of that name. */
 static bool measure(const char *name) {
     bool is_append = !strcmp(name, "append_by_call");
     if (!is_append && strcmp(name, "read_into")) return false;

@@ -1,26 +1,33 @@
 #!/usr/bin/env python3
 """Hurts folders of cq while commands work on them: docs/hurt_folder.py [MODE..] [--runs N] [--seed N] [--room DIR].
 
-The modes, all five where none is named:
+The modes, all five if none is named:
 
-kills   N times (100 where it is not given) a `write` that rolls or not, a `take` or a `drop` is killed at a random moment.
-device  `write`, `take` and `drop` on a device that is full at every step: a small tmpfs, which root may mount, with room for k more
-        pages, or k more files, for each k from 0 until the command is done; and on a full standard output.
-calls   each call of the system that the same commands make on their folder fails in turn with EIO and with ENOSPC, and the command is
-        killed there. It needs strace (apt-get install strace).
-beside  N times two `write` at once, N times two `take` at once, and 7 * N times a `read` beside a `write` that rolls.
-migrate N times a `migrate` of a folder of version 1 with several images is killed at a random moment, and each of its calls of the
-        system fails, or is killed, as in the mode calls. Behind that `read` has to print what the folder holds, or to name an image
-        of version 2 in a folder of version 1; `migrate` once more leaves the files that one without a fault leaves.
+kills   N times (100 if it is not given) a `write` that rolls or not, a `take` or a `drop` is killed at a random moment.
+device  `write`, `take` and `drop` on a device that is full at every step: a small tmpfs, which root may mount, with space
+        for k more pages, or k more files, for each k from 0 until the command is done; and on a full standard output.
+calls   Each system call that the same commands make on their folder fails in turn with EIO and with ENOSPC, and the
+        command is killed there. It needs strace (apt-get install strace).
+beside  N times two `write` at once, N times two `take` at once, and 7 * N times a `read` at the same time as a `write`
+        that rolls.
+migrate N times a `migrate` of a folder of version 1 with several images is killed at a random moment, and each of its
+        system calls fails, or is killed, as in the mode calls. After that `read` has to print what the folder holds, or
+        to name an image of version 2 in a folder of version 1; `migrate` once more leaves the files that one without a
+        fault leaves.
 
-Behind each of the first four the folder is looked at: `read` and `check` have to answer what the queue below answers with all of the command
-or nothing of it, `queue.cqc` has to say so too behind the next command that is alone in the folder, with no file left that is none
-of a queue's, and then a `write` and a `read` have to be done. The queue below is written after docs/FORMATS.md and shares nothing
-with the program. What a command answered has to agree with what was done.
+The folder is checked after each of the first four:
 
-The folders stand in DIR, or where temporary files do; a real disk is worth more there than memory. CQ names the program; where it is
-not set, it is crates/cq/out/cq, which the launcher ./cq builds. The status is 0 where all is as said, 1 where something was
-wrong, and 2 where a mode could not be tried.
+- `read` and `check` have to print what the queue below gives with all of the command or nothing of it.
+- After the next command that is alone in the folder, `queue.cqc` has to say so too, and no file may be left that is none
+  of a queue's.
+- Then a `write` and a `read` have to be done.
+
+The queue below is written after docs/FORMATS.md and shares nothing with the program. What a command reported has to agree
+with what was done.
+
+The folders are in DIR, or where temporary files are; a real disk is a better test there than memory. CQ names the
+program; if it is not set, it is crates/cq/out/cq, which the launcher ./cq builds. The status is 0 if all is as said, 1 if
+something was wrong, and 2 if a mode could not be tried.
 """
 import argparse
 import collections
@@ -42,7 +49,7 @@ CALLS = {"statx", "openat", "flock", "getdents64", "read", "write", "fsync", "cl
 
 
 class Queue:
-    """What a folder holds: the messages of each cycle, the floor, and the position of the name `reader`; with its version."""
+    """What a folder holds: the messages of each cycle, the floor, the position of the name `reader`, and its version."""
 
     def __init__(self, version=2):
         self.lists, self.floor, self.position = {}, 0, 0
@@ -107,7 +114,7 @@ class Queue:
         return queue
 
     def done(self, command):
-        """The queue behind a command, and what the command prints."""
+        """The queue after a command, and what the command prints."""
         queue, last = copy.deepcopy(self), max(self.lists, default=0)
         kind, number, lines = command
         if kind == "write":
@@ -148,7 +155,7 @@ class Tried:
         self.counts, self.wrong, self.untried = collections.Counter(), [], []
 
     def words(self, folder, command):
-        """The words of a command on a folder, and its input."""
+        """The arguments of a command on a folder, and its input."""
         kind, number, lines = command
         if kind == "write":
             return [self.program, "write", folder, str(number * DAY)], b"".join(line + b"\n" for line in lines)
@@ -159,7 +166,7 @@ class Tried:
         return [self.program, "take", folder, "reader"], b""
 
     def run(self, folder, command, front=(), **how):
-        """What a command answers: its status, what it printed, and what it said is wrong."""
+        """What a command gives: its status, what it printed, and what it said is wrong."""
         words, given = self.words(folder, command)
         done = subprocess.run([*front, *words], input=given, stderr=subprocess.PIPE, check=False, **{"stdout": subprocess.PIPE, **how})
         return done.returncode, done.stdout, done.stderr
@@ -177,7 +184,7 @@ class Tried:
             assert self.run(folder, ("write", cycle, texts))[0] == 0
 
     def side(self, folder, old, new, what):
-        """Which of two queues a folder holds, by those who only read and then behind a command that is alone there."""
+        """Which of two queues a folder holds, by those who only read and then after a command that is alone there."""
         read, check = self.asked("read", folder), self.asked("check", folder)
         self.asked("take", folder, "nobody")
         held = held_in(folder)
@@ -190,7 +197,7 @@ class Tried:
         return None
 
     def judge(self, folder, old, command, answer, what):
-        """Looks at a folder behind a command that was hurt, and answers what it holds."""
+        """Checks a folder after a command that was hurt, and returns what it holds."""
         new, text = old.done(command)
         queue = self.side(folder, old, new, what)
         if queue is None:
@@ -249,7 +256,7 @@ def kind_of(queue, command):
 
 
 def killed_at(tried, folder, command, moment):
-    """What a command answers that is killed at a moment, if there is one and it has not ended by then, and how long it took."""
+    """What a command gives that is killed at a moment (if given, and if it has not ended by then), and how long it took."""
     words, given = tried.words(folder, command)
     begun = time.monotonic()
     process = subprocess.Popen(words, stdin=subprocess.PIPE, stdout=subprocess.PIPE, stderr=subprocess.PIPE)
@@ -296,7 +303,7 @@ def some_states():
 
 
 def try_full(tried, place, command, room, how):
-    """A command on a device with so much room behind what its folder takes. Answers whether it was done."""
+    """A command on a device with this much space after what its folder takes. Returns whether it was done."""
     queue, _ = some_states()
     if command[0] == "drop":
         queue.lists[1] = [b"second"]
@@ -321,7 +328,7 @@ def try_full(tried, place, command, room, how):
 
 
 def fill(place, room, how):
-    """Leaves room for so many pages or files."""
+    """Leaves space for this many pages or files."""
     state = os.statvfs(place)
     if how == "of files":
         for number in range(state.f_ffree - room):
@@ -362,14 +369,14 @@ def try_device(tried, _runs):
 
 
 def traced(tried, folder, command, log):
-    """The calls of a command, each with how many of its name there were, from the first one on its folder on."""
+    """The system calls of a command, each with how many of its name there were, from the first one on its folder on."""
     tried.run(folder, command, front=["strace", "-o", log])
     counts, found, is_there = collections.Counter(), [], False
     with open(log, encoding="utf-8", errors="replace") as file:
         for line in file:
             name = line.split("(")[0]
             counts[name] += 1
-            # The words of the command name the folder too.
+            # The arguments of the command name the folder too.
             is_there = is_there or folder in line and name != "execve"
             if is_there and name in CALLS:
                 found.append((name, counts[name]))
@@ -377,7 +384,7 @@ def traced(tried, folder, command, log):
 
 
 def try_calls(tried, _runs):
-    """Each call of the system failing in turn, and a kill there."""
+    """Each system call failing in turn, and a kill there."""
     if shutil.which("strace") is None:
         tried.untried.append("calls: strace is not there (apt-get install strace)")
         return
@@ -393,7 +400,7 @@ def try_calls(tried, _runs):
 
 
 def hurt_calls(tried, ready, folder, command, log, what):
-    """What a command answers on a copy of a folder where one of its calls of the system fails or is killed, for each of them."""
+    """What a command gives on a copy of a folder of which one system call fails or is killed, for each of them."""
     shutil.copytree(ready, folder)
     found = traced(tried, folder, command, log)
     shutil.rmtree(folder)
@@ -412,7 +419,7 @@ def hurt_calls(tried, ready, folder, command, log, what):
 
 
 def both(tried, folder, one, two):
-    """What two commands answer that are begun at once."""
+    """What two commands give that are begun at once."""
     begun = []
     for command in (one, two):
         words, given = tried.words(folder, command)
@@ -422,7 +429,7 @@ def both(tried, folder, one, two):
 
 
 def try_two(tried, one, two, what):
-    """Two commands at once: what both answer has to be what they answer in one of their orders."""
+    """Two commands at once: what both give has to be what they give in one of their orders."""
     folder, queue = os.path.join(tried.room, "beside"), Queue()
     queue.lists[0] = [b"first", b"second", b"third"]
     tried.made(folder, queue)
@@ -442,7 +449,7 @@ def try_two(tried, one, two, what):
 
 
 def try_readers(tried, reads):
-    """Reads beside a writer that begins a cycle each time: each has to give a beginning of what is written."""
+    """Reads at the same time as a writer that begins a cycle each time: each has to give a beginning of what is written."""
     done = 0
     while done < reads:
         folder = os.path.join(tried.room, "readers")
@@ -501,11 +508,11 @@ def put(folder, queue):
 
 
 def judge_migration(tried, folder, queue, answer, what):
-    """Looks at a folder behind a `migrate` that was hurt, and at what one more makes of it."""
+    """Checks a folder after a `migrate` that was hurt, and what one more makes of it."""
     status, printed, said = answer
     new = queue.migrated()
     held = held_in(folder)
-    # Once its record stands a save is done, and the next command that writes finishes what it left.
+    # Once its record is there a save is done, and the next command that writes finishes what it left.
     is_saved = held == new.files() or "queue.save" in held
     if status not in (0, 1, -9, 137) or printed or status == 0 and (said or not is_saved):
         tried.wrong.append(f"{what}: {status} {printed!r} {said!r}")
@@ -524,7 +531,7 @@ def judge_migration(tried, folder, queue, answer, what):
 
 
 def try_migrations(tried, runs):
-    """Kills `migrate` at random moments, and has each of its calls fail."""
+    """Kills `migrate` at random moments, and has each of its system calls fail."""
     folder, command, times, killed = os.path.join(tried.room, "migrated"), ("migrate", 0, []), [], 0
     while killed < runs:
         queue = some_old_queue(tried.dice)

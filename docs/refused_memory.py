@@ -1,25 +1,29 @@
 #!/usr/bin/env python3
 """Refuses each growth of memory in turn: docs/refused_memory.py [tests CRATE.. | buffers], of cq's commands, or of tests.
 
-For each command below and each k, from 1 until nothing is refused any more, the command is run on a copy of its folder with the
-k-th growth refused. It has to answer `cq: want of memory` with status 1, print nothing and leave the folder as it was, or to
-give the answer that it gives with all memory, and leave the folder so, where it can do without what was refused, as `race` can
-without a thread; and that within a minute. The folder is compared behind a `take` of a name that is none: as any command that is
-alone there, it finishes a save whose record stands.
+For each command below and each k, from 1 until nothing is refused any more, the command is run on a copy of its folder
+with the k-th growth refused. Within a minute it has to do one of these:
 
-With the word tests, the tests of the crates are run so, one at a time in an empty folder for their files, as `rt test` left them
-in crates/CRATE/out/CRATE_tests. Each test has to pass with all memory; with a growth refused it has to say want of memory, by the
-name that the refused call gives it, or to pass, within a minute. Where it compares the answers of its calls with those that are
-wanted, the first other one has to say so: no answer before it changed, and none came in its place. A test of folders of the
-system says so too where a save that found no memory leaves renames to the next command, which does them. A test that says
-anything else, hangs or dies of another signal is wrong. Left out are the tests of THREADS below.
+- print `cq: want of memory` as its fault with status 1, print nothing else and leave the folder as it was;
+- give the result that it gives with all memory, and leave the folder so, if it can do without what was refused, as `race`
+  can without a thread.
 
-With the word buffers, nothing is refused, and growths are counted: two tests of cq_calls_tests make the same calls, except that
-after a read backwards one reads a single message into a buffer, and the other 1,299 of them. Reads into a buffer allocate
-nothing, so both have to grow memory equally often.
+The folder is compared after a `take` of a name that is none: as any command that is alone there, it finishes a save whose
+record is there.
 
-A library in front of the C library's malloc, calloc, realloc and aligned_alloc refuses; it is compiled by cc. CQ names the
-program; where it is not set, it is crates/cq/out/cq, which the launcher ./cq builds. The status is 0 where all is as said.
+With the word tests, the tests of the crates are run so, one at a time in an empty folder for their files, as `rt test`
+left them in crates/CRATE/out/CRATE_tests. Each test has to pass with all memory. With a growth refused it has to say that
+memory was refused, by the name that the refused call gives it, or to pass, within a minute. If it compares what its calls
+return with what is wanted, the first other result has to say so: no result before it changed, and none came in its place.
+A test of folders of the system says so too if a save that got no memory leaves renames to the next command, which does
+them. A test that says anything else, hangs or dies of another signal is wrong. Left out are the tests of THREADS below.
+
+With the word buffers, nothing is refused, and growths are counted: two tests of cq_calls_tests make the same calls,
+except that after a read backwards one reads a single message into a buffer, and the other 1,299 of them. Reads into a
+buffer allocate nothing, so both have to grow memory equally often.
+
+A library in front of the C library's malloc, calloc, realloc and aligned_alloc refuses; it is compiled by cc. CQ names
+the program; if it is not set, it is crates/cq/out/cq, which the launcher ./cq builds. The status is 0 if all is as said.
 """
 import collections
 import itertools
@@ -93,8 +97,8 @@ OLD = {
 
 RACED = b"writer 0: 3 in order\nwriter 1: 3 in order\nreader 0: 6 read\nreader 1: 6 read\n"
 
-# What was done to the folder before, or put into it, the bytes that are kept of the image, the command and its input, and its
-# answer: what it prints with status 0, or its status, what it prints and what it says is wrong.
+# What was done to the folder before, or put into it, the bytes that are kept of the image, the command and its input,
+# and its result: what it prints with status 0, or its status, what it prints and what it says is wrong.
 ROWS = [
     ([], None, (["echo"], b"hello\nworld\n"), b"0 hello\n1 world\n"),
     ([], None, (["echo"], b"hello\n\nworld\n"), (1, b"", b"cq: line 2: BadRoom\n")),
@@ -124,7 +128,8 @@ ROWS = [
 ]
 WANT = b"cq: want of memory\n"
 
-# Threads of these ask for memory as their schedule has it, and say of a call without memory that it gave no message.
+# The threads of these allocate in an order that depends on scheduling, and report of a call without memory that it
+# gave no message.
 THREADS = ["filling_tests", "growing_tests", "many_tests", "parts_tests", "sharing_tests", "thread_tests"]
 
 # The tests that read one message into a buffer, and all of them.
@@ -133,14 +138,14 @@ BUFFERS = [
     "allocating_tests::all_messages_are_read_into_a_room_after_a_read_backwards",
 ]
 
-# How a test ends that failed, or whose comparison did, and how its text names want of memory.
+# How a test ends that failed, or whose comparison failed, and how its text names the refusal of memory.
 FAILED, STOPPED = 101, -6
 WANTS = re.compile(rb"\b(AllocError|AllocFailed|OutOfMemory|want of memory)\b")
 COMPARED = re.compile(rb'  left: "(.*)"\n right: "(.*)"\n', re.S)
 
 
 def run(program, words, given, folder, more=None):
-    """What a command answers over a folder: its status, what it printed and what it said is wrong."""
+    """What a command gives over a folder: its status, what it printed and what it said is wrong."""
     environment = dict(os.environ, **(more or {}))
     words = [folder if word == "D" else word for word in words]
     try:
@@ -203,7 +208,7 @@ def try_row(program, shim, room, row):
 
 
 def is_refused(said):
-    """Whether the first answer that is not the wanted one says want of memory."""
+    """Whether the first result that is not the wanted one says that memory was refused."""
     compared = COMPARED.search(said)
     if compared is None:
         return False

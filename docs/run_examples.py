@@ -1,18 +1,19 @@
 #!/usr/bin/env python3
 """Runs the examples of the documents: docs/run_examples.py [PROGRAM].
 
-PROGRAM is the program cq: crates/cq/out/cq, which the launcher ./cq builds, where none is given. The documents are README.md,
-docs/CLI.md, docs/GUIDE.md and docs/CALLING.md. The word at the start of a fenced block says what is done with it:
+PROGRAM is the program cq: crates/cq/out/cq, which the launcher ./cq builds, if none is given. The documents are
+README.md, docs/CLI.md, docs/GUIDE.md and docs/CALLING.md. The word at the start of a fenced block says what is done with
+it:
 
-console  A line that begins with `$ ` is a command, and the lines up to the next one are what it prints, on standard output and
-         standard error together. The blocks of a document are run in order in one new folder, where `./cq` is the program.
-         `$ echo $?` prints the status of the command before it.
-rust     The lines are in a file of crates/cq_callers/src, one after the other, but for spaces at their start.
+console  A line that begins with `$ ` is a command, and the lines up to the next one are what it prints, on standard
+         output and standard error together. The blocks of a document are run in order in one new folder, where `./cq` is
+         the program. `$ echo $?` prints the status of the command before it.
+rust     The lines are in a file of crates/cq_callers/src, one after the other, except for spaces at their start.
 c        The lines are in c/example.c in the same way. c/run compiles and runs that file.
 
-Blocks with another word or none are not looked at: what builds or proves is in a block `sh`, or in one without a word.
+Blocks with another word or none are skipped: what builds or proves is in a block `sh`, or in one without a word.
 
-The last line is `N wrong`, and the status is 0 where N is 0, and else 1. A document without an example is wrong too.
+The last line is `N wrong`. The status is 0 if N is 0, and otherwise 1. A document without an example is wrong too.
 """
 import argparse
 import pathlib
@@ -56,7 +57,7 @@ def commands_of(first, lines):
 
 
 def run(command, folder, status):
-    """What a command prints and its status, behind a command with this status."""
+    """What a command prints and its status, after a command with this status."""
     done = subprocess.run(
         ["sh", "-c", f"(exit {status})\n{command}"], cwd=folder, stdin=subprocess.DEVNULL, stdout=subprocess.PIPE,
         stderr=subprocess.STDOUT, env={"PATH": "/usr/bin:/bin", "LC_ALL": "C", "TZ": "UTC"}, timeout=120, check=False)
@@ -64,7 +65,7 @@ def run(command, folder, status):
 
 
 def is_in(lines, pattern):
-    """Whether these lines are in a file of this pattern, one after the other, but for spaces at their start."""
+    """Whether these lines are in a file of this pattern, one after the other, except for spaces at their start."""
     wanted = "\n".join(line.strip() for line in lines)
     texts = ("\n".join(line.strip() for line in path.read_text().splitlines()) for path in TOP.glob(pattern))
     return any(f"\n{wanted}\n" in f"\n{text}\n" for text in texts)

@@ -1,4 +1,4 @@
-/* Each call once and more, on one thread: what it answers, and what it refuses. */
+/* Each call once and more, on one thread: what it returns, and what it refuses. */
 #include "check.h"
 #include <stdlib.h>
 
@@ -100,7 +100,8 @@ static void messages_are_appended_and_read(void) {
     linnetshelf_destroy(queue);
 }
 
-/* A room that is too small for a message whose cycle was dropped: reads and takes go on, or answer that nothing is there. */
+/* A buffer that is too small for a message whose cycle was dropped: reads and takes go on, or return that nothing
+ * is there. */
 static void a_small_room_passes_over_what_was_dropped(void) {
     linnetshelf_handle queue = queue_of("reader\n", 0);
     char room[1] = {'.'};
@@ -213,7 +214,7 @@ static void endpoints_end_in_each_order(void) {
     }
 }
 
-/* What one endpoint has seen of the end, the other has once they met; both stay where they read. */
+/* What one endpoint has seen of the end, the other has seen once they met; both stay where they read. */
 static void endpoints_meet(void) {
     linnetshelf_handle one = queue_of("reader", 0), two = {0}, three = {0};
     char room[8];
@@ -276,7 +277,7 @@ static void a_queue_is_saved_and_opened(void) {
     linnetshelf_append(&queue, 5 * DAY, "two", 3);
     linnetshelf_append(&queue, 6 * DAY, "three", 5);
     CHECK(linnetshelf_take(&queue, "other", 5, room, sizeof room).status == STATUS(DONE));
-    CHECK(linnetshelf_drop_before(&queue, 6).status == STATUS(NOT_SEEN)); /* it appended there, and did not look */
+    CHECK(linnetshelf_drop_before(&queue, 6).status == STATUS(NOT_SEEN)); /* it appended there, and loaded no end */
     CHECK(linnetshelf_to_end(&queue).index == (6ull << 32) + 1);
     CHECK(linnetshelf_drop_before(&queue, 6).status == STATUS(DONE));
     CHECK(linnetshelf_split(&queue, &other) == STATUS(DONE));

@@ -1,5 +1,6 @@
-"""A folder of the program cq is opened through the library, and what the library saves is a folder of the program: the second
-argument is the program."""
+"""A folder of the program cq is opened through the library, and what the library saves is a folder of the program.
+
+The second argument is the program."""
 import ctypes
 import datetime
 import pathlib

@@ -1,5 +1,5 @@
-/* The structs of the header have the sizes and places that the library's have: the library reads each field of settings where the
- * header has it, and an answer holds what the library told. */
+/* The structs of the header have the sizes and places that those of the library have. The library reads each field
+ * of settings where the header has it, and an answer holds what the library returned. */
 #include "check.h"
 #include <stddef.h>
 
@@ -16,7 +16,7 @@ _Static_assert(offsetof(linnetshelf_answer, index) == 0, "index");
 _Static_assert(offsetof(linnetshelf_answer, length) == 8, "length");
 _Static_assert(offsetof(linnetshelf_answer, status) == 12, "status");
 
-/* The library tells of its own structs, in the order of the header. */
+/* The library gives the sizes of its own structs, in the order of the header. */
 int main(void) {
     static const size_t wanted[] = {
         sizeof(linnetshelf_handle), sizeof(linnetshelf_settings), sizeof(linnetshelf_answer)};

@@ -1,5 +1,5 @@
-/* Nothing is left of a queue once its last endpoint is ended, and each allocation that is refused in turn is answered, and leaves
- * nothing behind. malloc, realloc and free are counted here: link with --wrap for each. */
+/* Nothing is left of a queue once its last endpoint is ended. Each allocation that is refused in turn is reported,
+ * and leaves nothing allocated. malloc, realloc and free are counted here: link with --wrap for each. */
 #include "check.h"
 #include <stdlib.h>
 
@@ -8,7 +8,7 @@ void *__real_realloc(void *at, size_t size);
 void __real_free(void *at);
 
 static long blocks;     /* that are not freed */
-static long left = -1;  /* how many allocations succeed before one is refused; all do where it is negative */
+static long left = -1;  /* how many allocations succeed before one is refused; all do if it is negative */
 
 static int is_refused(void) {
     return left >= 0 && left-- == 0;
@@ -31,8 +31,8 @@ void __wrap_free(void *at) {
     __real_free(at);
 }
 
-/* Makes a queue, uses it, stops it, and opens it again; answers whether all was done. Where memory is refused it ends what there
- * is. */
+/* Makes a queue, uses it, stops it, and opens it again. Returns whether all was done. If memory is refused it ends
+ * what there is. */
 static int use_queue(void) {
     linnetshelf_handle queue = {0}, other = {0}, saved = {0}, again = {0};
     static char image[65536];

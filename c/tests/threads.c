@@ -1,5 +1,5 @@
-/* Four threads append and read, each by an endpoint of its own: each reads the messages of all, every one once and in the order in
- * which its thread appended it. The argument says how many messages a thread appends. */
+/* Four threads append and read, each by an endpoint of its own. Each reads the messages of all, every one once and
+ * in the order in which its thread appended it. The argument says how many messages a thread appends. */
 #include "check.h"
 #include <pthread.h>
 #include <sched.h>
@@ -16,7 +16,7 @@ struct worker {
     uint32_t read;
 };
 
-/* Reads a message, where one has come. */
+/* Reads a message, if one has come. */
 static int read_one(struct worker *self) {
     uint32_t message[2];
     linnetshelf_answer answer = linnetshelf_next(&self->endpoint, message, sizeof message);
@@ -28,7 +28,7 @@ static int read_one(struct worker *self) {
     return 1;
 }
 
-/* Appends a message at the moment that its number gives it, or a cycle later where that one is full. */
+/* Appends a message at the moment that its number gives it, or a cycle later if that one is full. */
 static void append_one(struct worker *self, uint32_t k) {
     uint32_t message[2] = {self->number, k};
     uint64_t moment = (uint64_t)k * CYCLES / each * DAY;

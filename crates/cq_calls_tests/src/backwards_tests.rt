@@ -1,4 +1,4 @@
-//! Cycles of many messages that are read backwards, beside an appender.
+//! Cycles of many messages that are read backwards, while an appender goes on.
 
 ghost use Rattle.std.specs.Prelude.{◌≡◌, None};
 ghost use Rattle.cq_words.specs.Values.{IsOf};
@@ -14,7 +14,7 @@ use std::test::Fail;
 /// How many messages are appended to each cycle.
 const EACH: u32 = 1300;
 
-/// Behind so many messages the tailer turns and reads the last one again, and another message is appended.
+/// After this many messages the tailer turns and reads the last one again, and another message is appended.
 const BETWEEN: u32 = 50;
 
 /// A message that was read: its index, and its number.
@@ -204,7 +204,7 @@ fn back_text(alloc: Global, queue: &Queue, mut caller: Caller) -> Result<String,
     ways_text(alloc, queue, &mut appender, &mut tailer)
 }
 
-/// The same of a new queue whose index has an entry for each so many messages.
+/// The same of a new queue whose index has an entry for one message in this many.
 fn new_queue_text(alloc: Global, spacing: u32) -> Result<String, Fail> {
     let config = config_of(alloc, Shape::new(16384, 256, spacing)?, 4)?;
     let (queue, caller) = Queue::create(alloc, config, 0)?;

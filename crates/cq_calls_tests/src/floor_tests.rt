@@ -1,4 +1,4 @@
-//! Cycles that were dropped: what reads, takes and moves answer then, and what is kept.
+//! Cycles that were dropped: what reads, takes and moves return then, and what is kept.
 use crate::lives::{End, Life, Start, assert_lives};
 use crate::queues::Call;
 use cq_fixtures::DAY;
@@ -84,7 +84,7 @@ fn moves_and_takes_pass_over_cycles_that_were_dropped(rt: HostRuntime) -> Result
     assert_lives(&rt, rt.alloc(), &MOVED)
 }
 
-/// A message that is begun before a cycle is dropped and completed behind it, with snapshots around that.
+/// A message that is begun before a cycle is dropped and completed after it, with snapshots around that.
 static COPIED: [Life; 1] = [Life {
     cycles: 4,
     start: Start::New(0),

@@ -57,7 +57,7 @@ static WITH_AND_WITHOUT: [Life; 3] = [
         answers: "1 b; 4294967297 e; 0 a; Never; NotYet; moved; 2 c; 4294967296 d; end 4294967298; NotYet; \
             turned; 4294967297 e; 4294967296 d; 2 c; moved; 0 a; BeforeStart; ",
     },
-    // Messages with entries stand behind some without.
+    // Messages with entries come after some without.
     Life {
         cycles: 4,
         start: Start::Held(&[(0, &["a", "b", "c"])], &[0]),

@@ -1,4 +1,4 @@
-//! The images of snapshots that are taken beside a message that was begun, and the printed text of their records.
+//! The images of snapshots that are taken while a message is begun, and the printed text of their records.
 use crate::lives::Start;
 use crate::queues::{Call, Fixture};
 use cq_chain::fits_all;
@@ -42,7 +42,8 @@ fn push_read(
     Ok(out.push_str(if ended { "] ended\n" } else { "] open\n" })?)
 }
 
-/// What the images of these cycles are read as, the last one open and the others ended, and then the records of the last one.
+/// What the images of these cycles are read as, the last one open and the others ended, and then the records of the
+/// last one.
 fn push_images(
     alloc: Global,
     shape: Shape,
@@ -61,14 +62,14 @@ fn push_images(
     Ok(())
 }
 
-/// Calls behind which a message is begun in the last of two cycles.
+/// Calls after which a message is begun in the last of two cycles.
 const BESIDE_A_CLAIM: &[Call] = &[
     Call::Append(0, "a"),
     Call::Append(5 * DAY, "b"),
     Call::Begin(0, 1),
 ];
 
-/// What these calls of a queue answer, and the images of a snapshot behind them.
+/// What these calls of a queue return, and the images of a snapshot after them.
 fn push_imaged(
     alloc: Global,
     shape: Shape,
@@ -89,7 +90,7 @@ fn push_imaged_of_new(alloc: Global, calls: &[Call], out: &mut String) -> Result
     push_imaged(alloc, shape, &mut fixture, calls, out)
 }
 
-/// What is answered to these calls, what the images are read as, and the records of the last one.
+/// What these calls return, what the images are read as, and the records of the last one.
 const READ_BACK: &str = "0; 21474836480; begun; 0[a;] ended\n5[b;] open\n\
 00000000 40000024 store 2 5 8 1 64 0 86400000\n00000028 40000020 top 76 0 0 0 0 0 0 0\n\
 0000004c 40000020 table 0 112 0 0 0 0 0 0 0\n00000070 00000001 data 0 62\n";

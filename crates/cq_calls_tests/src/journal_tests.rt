@@ -10,7 +10,7 @@ use std::alloc::{AllocError, Global};
 use std::process::Abort;
 use std::test::Fail;
 
-/// The first moment behind the last one that there is.
+/// The first moment after the last one that there is.
 const TOO_LATE: u64 = 253_402_300_800_000;
 
 /// "a" in cycle 0, none in cycle 5, "b" and "c" in cycle 9.
@@ -45,11 +45,11 @@ struct Row {
     start: Start,
     /// What is done with it.
     work: Work,
-    /// What is answered, and what it holds then.
+    /// What is returned, and what it holds then.
     answers: &'static str,
 }
 
-/// What a writer answers when it appends these bytes at a moment.
+/// What a writer returns when it appends these bytes at a moment.
 fn push_append(
     writer: &mut JournalWriter,
     moment: u64,
@@ -62,7 +62,7 @@ fn push_append(
     }
 }
 
-/// What a writer answers when it appends each of these at its moment.
+/// What a writer returns when it appends each of these at its moment.
 fn push_appends(
     writer: &mut JournalWriter,
     appends: &[(u64, &[u8])],
@@ -83,7 +83,7 @@ fn push_found(found: &Option<(Index, Message)>, out: &mut String) -> Result<(), 
     }
 }
 
-/// What a reader answers to a call.
+/// What a call of a reader returns.
 fn push_answer(
     alloc: Global,
     reader: &mut JournalReader,
@@ -99,7 +99,7 @@ fn push_answer(
     }
 }
 
-/// What a reader answers to these calls in turn.
+/// What these calls of a reader return in turn.
 fn push_answers(
     alloc: Global,
     reader: &mut JournalReader,
@@ -113,7 +113,7 @@ fn push_answers(
     Ok(())
 }
 
-/// What a journal answers to these appends, and what it holds then.
+/// What these appends to a journal return, and what it holds then.
 fn push_written(
     alloc: Global,
     journal: Journal,
@@ -125,7 +125,7 @@ fn push_written(
     push_contents(alloc, &writer.into_contents(alloc)?, out)
 }
 
-/// What a reader answers to these calls, and what its journal holds then.
+/// What these calls of a reader return, and what its journal holds then.
 fn push_read(
     alloc: Global,
     mut reader: JournalReader,
@@ -137,7 +137,7 @@ fn push_read(
 }
 
 impl Row {
-    /// What is answered in the journal and what it holds then, or why there is no journal.
+    /// What the calls in the journal return and what it holds then, or why there is no journal.
     fn push_done(&self, alloc: Global, out: &mut String) -> Result<(), Fail> {
         let config = small_config(alloc, self.cycles)?;
         match self.start.journal(alloc, config) {
@@ -152,7 +152,7 @@ impl Row {
     }
 }
 
-/// Works in each of these journals, and compares what is answered.
+/// Works in each of these journals, and compares what is returned.
 fn assert_rows(rt: &impl Abort, alloc: Global, rows: &[Row]) -> Result<(), Fail> {
     for row in rows {
         let mut answers = String::new(alloc);
@@ -283,8 +283,8 @@ static HELD: [Row; 10] = [
         work: Work::Write(&[]),
         answers: "BadContents",
     },
-    // The store record, the top table and one index table take 28 cells, and 8 messages of 3 cells 24. A ninth one has another
-    // index table of 9 cells before it, and none is left that could be kept.
+    // The store record, the top table and one index table take 28 cells, and 8 messages of 3 cells 24. A ninth one
+    // has another index table of 9 cells before it, and none is left that could be kept.
     Row {
         cycles: 4,
         start: Start::Held(&[(0, EIGHT)], &[0]),
@@ -335,7 +335,7 @@ static READ: [Row; 6] = [
         ),
         answers: "38654705665 c; 38654705664 b; 0 a; none; 0[a;] 5[] 9[b;c;] at [0]",
     },
-    // Nothing is behind the end.
+    // Nothing is after the end.
     Row {
         cycles: 4,
         start: THREE_UNREAD,

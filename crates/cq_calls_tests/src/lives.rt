@@ -1,4 +1,4 @@
-//! Lives of queues: how they begin, their calls, and their ends, beside what is answered.
+//! Lives of queues: how they begin, their calls, and their ends, with what is returned.
 
 use crate::queues::{Call, Fixture};
 use cq_fixtures::{Cycles, contents_of, contents_text, small_config};
@@ -50,7 +50,7 @@ fn reopened(alloc: Global, config: Config, contents: &Contents) -> Result<Fixtur
     Ok(Fixture::new(queue, caller))
 }
 
-/// What is looked at behind the calls of a queue.
+/// What is checked after the calls of a queue.
 #[derive(Clone, Copy)]
 pub enum End {
     /// Nothing.
@@ -63,7 +63,7 @@ pub enum End {
     Cells(u32),
     /// What these cells of its first cycle hold once a caller stopped it that met no other, and its write position.
     Published(&'static [u32]),
-    /// What these calls answer once it was stopped and opened again.
+    /// What these calls return once it was stopped and opened again.
     Reopened(&'static [Call]),
 }
 
@@ -75,14 +75,14 @@ pub struct Life {
     pub start: Start,
     /// Calls of it, in turn.
     pub calls: &'static [Call],
-    /// What is looked at behind them.
+    /// What is checked after them.
     pub end: End,
-    /// What is answered to all this.
+    /// What all this returns.
     pub answers: &'static str,
 }
 
 impl Life {
-    /// What is answered from its start to its end, or why there is no queue.
+    /// What is returned from its start to its end, or why there is no queue.
     fn push_answers(&self, alloc: Global, out: &mut String) -> Result<(), Fail> {
         match self.start.queue(alloc, small_config(alloc, self.cycles)?) {
             Ok(fixture) => self.push_life(alloc, fixture, out),
@@ -90,13 +90,13 @@ impl Life {
         }
     }
 
-    /// What is answered to its calls, and at its end.
+    /// What its calls return, and what is checked at its end.
     fn push_life(&self, alloc: Global, mut fixture: Fixture, out: &mut String) -> Result<(), Fail> {
         fixture.answers(alloc, self.calls, out)?;
         self.push_end(alloc, fixture, out)
     }
 
-    /// What is looked at behind the calls.
+    /// What is checked after the calls.
     fn push_end(&self, alloc: Global, fixture: Fixture, out: &mut String) -> Result<(), Fail> {
         match self.end {
             End::Dropped => Ok(()),
@@ -114,7 +114,7 @@ impl Life {
         Ok(reopened(alloc, small_config(alloc, self.cycles)?, &contents)?)
     }
 
-    /// What calls answer of the queue once it was stopped and opened again.
+    /// What calls of the queue return once it was stopped and opened again.
     fn push_again(
         &self,
         alloc: Global,
@@ -139,7 +139,7 @@ pub fn push_contents(alloc: Global, contents: &Contents, out: &mut String) -> Re
     Ok(out.push_str(text.as_str())?)
 }
 
-/// The cells of the first slot that are not 0, from this one on, each behind its number.
+/// The cells of the first slot that are not 0, from this one on, each after its number.
 fn push_cells(stopped: &Stopped, from: u32, out: &mut String) -> Result<(), Fail> {
     let cells = stopped.config().layout().cells();
     for k in from..cells {
@@ -148,7 +148,7 @@ fn push_cells(stopped: &Stopped, from: u32, out: &mut String) -> Result<(), Fail
     Ok(())
 }
 
-/// A cell behind its number, where it is not 0.
+/// A cell after its number, if it is not 0.
 fn push_cell(k: u32, cell: u32, out: &mut String) -> Result<(), AllocError> {
     if cell == 0 {
         return Ok(());
@@ -168,7 +168,7 @@ fn push_published(stopped: &Stopped, cells: &[u32], out: &mut String) -> Result<
     write!(out, "at {}", stopped.write_position(0))
 }
 
-/// Lives through each of these, and compares what is answered.
+/// Lives through each of these, and compares what is returned.
 pub fn assert_lives(rt: &impl Abort, alloc: Global, lives: &[Life]) -> Result<(), Fail> {
     for life in lives {
         let mut answers = String::new(alloc);

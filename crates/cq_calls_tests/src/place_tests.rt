@@ -8,7 +8,7 @@ use std::test::Fail;
 const NEVER: u64 = 18_446_744_073_709_551_615;
 
 static REFUSED: [Life; 3] = [
-    // The room is tested first, and then the moment.
+    // The maximum length is checked first, and then the moment.
     Life {
         cycles: 1,
         start: Start::New(0),
@@ -54,7 +54,7 @@ fn no_message_is_begun_that_has_no_place(rt: HostRuntime) -> Result<(), Fail> {
 }
 
 static CYCLES: [Life; 2] = [
-    // A message goes into the current cycle where its moment's is past.
+    // A message goes into the current cycle if its moment's is past.
     Life {
         cycles: 4,
         start: Start::New(0),
@@ -69,7 +69,7 @@ static CYCLES: [Life; 2] = [
         end: End::StoppedBeside,
         answers: "0; cycle 5; begun; put; 21474836480; 38654705664; 0[a;] 5[b;] 9[c;] at [0]",
     },
-    // An appender goes on from where it was, behind what others appended since.
+    // An appender goes on from where it was, after what others appended since.
     Life {
         cycles: 4,
         start: Start::New(0),

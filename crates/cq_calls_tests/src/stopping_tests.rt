@@ -6,7 +6,7 @@ use cq_image::image;
 use std::alloc::Global;
 use std::test::Fail;
 
-/// "hello", and seven bytes of another message, beside which nobody else appends.
+/// "hello", and seven bytes of another message, during which no other caller appends.
 const BEGUN_BEHIND_HELLO: &[Call] = &[
     Call::Append(0, "hello"),
     Call::Begin(0, 12),

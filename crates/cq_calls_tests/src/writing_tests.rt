@@ -22,7 +22,7 @@ static FILLED: [Life; 3] = [
         end: End::StoppedBeside,
         answers: "begun; put; put; put; put; put; put; 0; 1; 0[hello, world!!!!;x;] at [0]",
     },
-    // No more go in than there is room for.
+    // No more bytes go in than fit.
     Life {
         cycles: 4,
         start: Start::New(0),
@@ -125,7 +125,7 @@ static BESIDE: [Life; 2] = [
         end: End::StoppedBeside,
         answers: "begun; Busy; put; Busy; 0; 1; 2; 0[hello;b;c;] at [0]",
     },
-    // One that was dropped is in no list, nor is any behind it.
+    // One that was dropped is in no list, nor is any after it.
     Life {
         cycles: 4,
         start: Start::New(0),

@@ -199,8 +199,8 @@ fn goes_on_where_images_are_of_version_2(rt: HostRuntime) -> Result<(), Fail> {
     expect_each(rt.alloc(), &MIXED)
 }
 
-/// A cycle has at most 1,048,576 cells, and all cycles have at most 4,194,304. With three cells more they are within these limits,
-/// or no file changes and the folder is read as before.
+/// A cycle has at most 1,048,576 cells, and all cycles have at most 4,194,304. With three cells more they are within
+/// these limits, or no file changes and the folder is read as before.
 static LIMITS: [(&[Step], &str); 6] = [
     (
         &[

@@ -19,7 +19,7 @@ use std::sync::Wait;
 use std::test::Fail;
 use std::thread::Threads;
 
-/// A message that was answered, as text.
+/// A message that was returned, as text.
 fn answer_text(alloc: Global, answer: Option<(Index, Message)>) -> Result<String, Fail> {
     match answer {
         Some((index, message)) => message_text(alloc, index, &message),
@@ -55,7 +55,7 @@ fn a_message_is_sent_by_an_endpoint(rt: HostRuntime) -> Result<(), Fail> {
     expect_text(answer_text(alloc, read)?, "0 hello")
 }
 
-/// What an endpoint reads next into a room of so many bytes.
+/// What an endpoint reads next into a buffer of this many bytes.
 fn push_read_in(
     alloc: Global,
     endpoint: &mut Endpoint,
@@ -69,7 +69,7 @@ fn push_read_in(
     }
 }
 
-/// What an endpoint that appended a message reads into rooms of so many bytes, one after the other.
+/// What an endpoint that appended a message reads into buffers of these lengths in bytes, one after the other.
 fn rooms_text(alloc: Global, endpoint: &mut Endpoint, sizes: &[usize]) -> Result<String, Fail> {
     let _index = endpoint.append(0, b"hello")?;
     let mut out = String::new(alloc);
@@ -103,7 +103,8 @@ fn endpoints_work_in_threads(rt: HostRuntime) -> Result<(), Fail> {
     expect(one && two, "both threads append and read")
 }
 
-/// What two threads and a caller that puts bytes make of a queue: whether each thread appended, and the index that comes then.
+/// What two threads and a caller that puts bytes make of a queue: whether each thread appended, and the index that
+/// comes then.
 fn appended<R: Threads + Wait + Sync>(
     rt: &R,
     queue: &Queue,

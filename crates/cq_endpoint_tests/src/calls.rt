@@ -1,4 +1,4 @@
-//! Calls of endpoints, and what they answer, as text. What a call answers is put behind the text `out`.
+//! Calls of endpoints, and what they return, as text. What a call returns is put after the text `out`.
 use cq_cycle::Index;
 use cq_endpoint::{At, Direction, Endpoint, Found, Sought, Take};
 use cq_fixtures::{lists_text, message_text};
@@ -14,7 +14,7 @@ pub enum Call {
     Append(u64, &'static str),
     /// Begins the cycle of a moment.
     Advance(u64),
-    /// Begins a message of at most so many bytes at moment 0.
+    /// Begins a message of at most this many bytes at moment 0.
     Begin(u32),
     /// Puts this text into the message that was begun.
     Put(&'static str),
@@ -48,7 +48,7 @@ pub enum Call {
     Snapshot,
 }
 
-/// An answer that is shown as it is.
+/// A result that is shown as it is.
 fn push_shown<T: Debug>(answer: &T, out: &mut String) -> Result<(), AllocError> {
     write!(out, "{answer:?}")
 }
@@ -118,7 +118,7 @@ fn push_taken<E: Debug>(
     }
 }
 
-/// What the move of a name answers.
+/// What the move of a name returns.
 fn push_sought<E: Debug>(answer: &Result<Sought, E>, out: &mut String) -> Result<(), AllocError> {
     match answer {
         Ok(sought) => push_shown(sought, out),
@@ -127,7 +127,7 @@ fn push_sought<E: Debug>(answer: &Result<Sought, E>, out: &mut String) -> Result
 }
 
 impl Call {
-    /// What a call that appends answers.
+    /// What a call returns that appends.
     fn push_appending(self, endpoint: &mut Endpoint, out: &mut String) -> Result<(), AllocError> {
         match self {
             Call::Append(moment, text) => {
@@ -144,7 +144,7 @@ impl Call {
         }
     }
 
-    /// What a call answers that moves the endpoint.
+    /// What a call returns that moves the endpoint.
     fn push_moving(self, endpoint: &mut Endpoint, out: &mut String) -> Result<(), AllocError> {
         match self {
             Call::MoveTo(index) => push_shown(&endpoint.move_to(Index::of_value(index)), out),
@@ -161,7 +161,7 @@ impl Call {
         }
     }
 
-    /// What a call answers that drops cycles or asks for a name.
+    /// What a call returns that drops cycles or asks for a name.
     fn push_naming(self, endpoint: &mut Endpoint, out: &mut String) -> Result<(), AllocError> {
         match self {
             Call::DropBefore(cycle) => {
@@ -173,7 +173,7 @@ impl Call {
         }
     }
 
-    /// What a call answers that reads.
+    /// What a call returns that reads.
     fn push_reading(
         self,
         alloc: Global,
@@ -194,7 +194,7 @@ impl Call {
         }
     }
 
-    /// What this call of an endpoint answers.
+    /// What this call of an endpoint returns.
     pub fn push_answer(
         self,
         alloc: Global,

@@ -16,13 +16,14 @@ enum Who {
     Second,
 }
 
-/// A new queue with four cycles of 64 cells, each of a day, and the name "reader": calls of its endpoints, and what they answer.
+/// A new queue with four cycles of 64 cells, each of a day, and the name "reader": calls of its endpoints, and what
+/// they return.
 struct Life {
     calls: &'static [(Who, Call)],
     answers: &'static str,
 }
 
-/// What the calls of two endpoints answer.
+/// What the calls of two endpoints return.
 fn push_calls(
     alloc: Global,
     calls: &[(Who, Call)],
@@ -70,7 +71,7 @@ fn push_end(
     }
 }
 
-/// What the calls answer, and what is left once the last endpoint stopped the queue.
+/// What the calls return, and what is left once the last endpoint stopped the queue.
 fn push_life(alloc: Global, calls: &[(Who, Call)], out: &mut String) -> Result<(), Fail> {
     let (mut first, mut second) = two_endpoints(alloc)?;
     push_calls(alloc, calls, &mut first, &mut second, out)?;
@@ -146,7 +147,7 @@ Refused(Busy); EmptyMessage; Ok(()); Err(NoRoom); Ok(()); NotYet; 0; 0 hello; 1;
         ],
         answers: "Ok(()); Ok(()); Ok(()); 0; Ok(()); Ok(()); 0[a;] at [0]",
     },
-    // A name is taken by, asked for and moved; none is moved behind what was seen.
+    // A name is taken by, asked for and moved; none is moved past what was seen.
     Life {
         calls: &[
             (Who::First, Call::Append(0, "a")),
@@ -166,7 +167,7 @@ Refused(Busy); EmptyMessage; Ok(()); Err(NoRoom); Ok(()); NotYet; 0; 0 hello; 1;
         answers: "0; 1; 0 a; 1 b; NotYet; NoSuchName; 2; NoSuchName; Moved(2); Done; NotSeen; NoSuchName; NotSeen; \
 0[a;b;] at [1]",
     },
-    // Cycles begin, and old ones are dropped where the endpoint has seen a later one.
+    // Cycles begin, and old ones are dropped if the endpoint has seen a later one.
     Life {
         calls: &[
             (Who::First, Call::Append(0, "a")),
@@ -222,7 +223,7 @@ fn fault_of_contents(alloc: Global) -> Result<Option<CreateError>, Fail> {
     Ok(Endpoint::open(alloc, small_config(alloc, 4)?, &contents).err())
 }
 
-/// Why no queue is created behind the last moment.
+/// Why no queue is created after the last moment.
 fn fault_of_moment(alloc: Global) -> Result<Option<CreateError>, Fail> {
     Ok(Endpoint::create(alloc, small_config(alloc, 4)?, u64::MAX).err())
 }

@@ -63,7 +63,8 @@ fn a_message_that_is_begun_stays_so_over_a_meeting(rt: HostRuntime) -> Result<()
     expect_text(completed(rt.alloc())?, "Ok(()); 0; 0 hello")
 }
 
-/// The ends that a tailer and another one that is split off it have seen, before and behind a note that an appender gave.
+/// The ends that a tailer and another one that is split off it have seen, before and after a note that an appender
+/// gave.
 fn noted_ends(
     queue: &Queue,
     appender: &mut Appender,

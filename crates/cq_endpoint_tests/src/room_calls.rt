@@ -1,4 +1,4 @@
-//! Calls of endpoints that read into rooms, and what they answer, as text: the answer, and then the whole room.
+//! Calls of endpoints that read into buffers, and what they return, as text: the result, and then the whole buffer.
 use crate::calls::Call;
 use cq_cycle::Index;
 use cq_endpoint::{AtInto, Endpoint, FoundInto, TakeInto};
@@ -6,16 +6,16 @@ use std::alloc::{AllocError, Global};
 use std::fmt::Debug;
 use std::test::Fail;
 
-/// A call of an endpoint, of which some are given a room of so many dots.
+/// A call of an endpoint; some are given a buffer of this many dots.
 #[derive(Clone, Copy)]
 pub enum Step {
     /// A call without one.
     Plain(Call),
-    /// Reads the next message into a room.
+    /// Reads the next message into a buffer.
     NextInto(usize),
-    /// Reads the message at an index into a room.
+    /// Reads the message at an index into a buffer.
     ReadAtInto(u64, usize),
-    /// Takes a message by a name into a room.
+    /// Takes a message by a name into a buffer.
     TakeInto(&'static str, usize),
 }
 
@@ -51,14 +51,14 @@ fn push_taken<E: Debug>(taken: &Result<TakeInto, E>, out: &mut String) -> Result
     }
 }
 
-/// A room, behind what was answered.
+/// A buffer, after what was returned.
 fn push_room(room: &[u8], out: &mut String) -> Result<(), Fail> {
     let text = str::from_utf8(room)?;
     Ok(write!(out, " [{text}]")?)
 }
 
 impl Step {
-    /// What a read into a room answers.
+    /// What a read into a buffer returns.
     fn push_read(
         self,
         endpoint: &mut Endpoint,
@@ -75,7 +75,7 @@ impl Step {
         }
     }
 
-    /// What this call of an endpoint answers.
+    /// What this call of an endpoint returns.
     pub fn push_answer(
         self,
         alloc: Global,

@@ -7,14 +7,16 @@ use cq_fixtures::{DAY, expect_text};
 use std::alloc::Global;
 use std::test::Fail;
 
-/// A new queue with four cycles of 64 cells, each of a day, and the name "reader": calls of its endpoint, and what they answer.
+/// A new queue with four cycles of 64 cells, each of a day, and the name "reader": calls of its endpoint, and what
+/// they return.
 struct Rooms {
     steps: &'static [Step],
     answers: &'static str,
 }
 
 static ROOMS: [Rooms; 6] = [
-    // Rooms that are too small, of the very length, and longer, both ways. Where there was no room, it reads the same again.
+    // Buffers that are too small, of the very length, and longer, both ways. If the buffer was too small, it reads
+    // the same again.
     Rooms {
         steps: &[
             Step::Plain(Call::Append(0, "hello")),
@@ -38,7 +40,7 @@ static ROOMS: [Rooms; 6] = [
         answers: "0; 1; 2; NoRoom 5 [....]; NoRoom 5 []; 0 5 [hello]; 1 2 [ab....]; 2 4 [four]; NotYet [...]; turned; \
 NoRoom 4 [...]; 2 4 [four...]; NoRoom 2 [.]; (2, 3); 1 2 [ab]; 0 5 [hello....]; BeforeStart [..]; ",
     },
-    // What stands at an index.
+    // What is at an index.
     Rooms {
         steps: &[
             Step::Plain(Call::Append(0, "hello")),
@@ -55,7 +57,8 @@ NoRoom 4 [...]; 2 4 [four...]; NoRoom 2 [.]; (2, 3); 1 2 [ab]; 0 5 [hello....]; 
         ],
         answers: "0; NoRoom 5 [....]; 5 [hello]; 5 [hello...]; NotYet [..]; 1; Never [..]; 4294967296; 1; Gone [hello]; Gone [..]; ",
     },
-    // Where the message that comes first was dropped, the room may have bytes of it behind those of the one that is read.
+    // If the message that comes first was dropped, the buffer may have bytes of it after those of the one that is
+    // read.
     Rooms {
         steps: &[
             Step::Plain(Call::Append(0, "hello")),
@@ -72,7 +75,7 @@ NoRoom 4 [...]; 2 4 [four...]; NoRoom 2 [.]; (2, 3); 1 2 [ab]; 0 5 [hello....]; 
         answers: "0; 4294967296; 4294967297; 1; start; 4294967296 1 [cello..]; NotYet [.......]; turned; 4294967296 1 [c]; \
 BeforeStart [hello.]; ",
     },
-    // A room that is too small for a message whose cycle was dropped: reads go on, or answer that nothing is there.
+    // A buffer that is too small for a message whose cycle was dropped: reads go on, or return that nothing is there.
     Rooms {
         steps: &[
             Step::Plain(Call::Append(0, "hello")),
@@ -119,7 +122,7 @@ BeforeStart [hello.]; ",
         answers: "0; 1; 4294967296; 4294967297; 4294967298; turned; 4294967297 cd; 4294967296 1 [c.]; 1 2 [ab]; 0 1 [a.]; \
 BeforeStart [..]; ",
     },
-    // Where there is no room, the name stays.
+    // If the buffer is too small, the name stays.
     Rooms {
         steps: &[
             Step::TakeInto("reader", 4),
@@ -135,7 +138,7 @@ BeforeStart [..]; ",
     },
 ];
 
-/// What the calls of an endpoint answer.
+/// What the calls of an endpoint return.
 fn answers_of(alloc: Global, steps: &[Step], endpoint: &mut Endpoint) -> Result<String, Fail> {
     let mut out = String::new(alloc);
     for step in steps {
@@ -168,8 +171,8 @@ fn append_longer(endpoint: &mut Endpoint) -> Result<(), AppendFault> {
     Ok(())
 }
 
-/// The lengths that an endpoint reads backwards into one room, of as many messages as a cycle holds, with places that are kept and
-/// that are not.
+/// The lengths that an endpoint reads backwards into one buffer, of as many messages as a cycle holds, with places
+/// that are kept and that are not.
 fn lengths_of(alloc: Global, endpoint: &mut Endpoint) -> Result<String, Fail> {
     append_longer(endpoint)?;
     let _end = endpoint.to_end();

@@ -90,8 +90,8 @@ fn count_of(lists: &[CycleList]) -> usize {
     count
 }
 
-/// Whether each writer appended all its messages, whether the last snapshot began what the queue held once it was stopped, and how
-/// many cycles and messages that had.
+/// Whether each writer appended all its messages, whether the last snapshot began what the queue held once it was
+/// stopped, and how many cycles and messages that had.
 fn held_text(
     alloc: Global,
     all: (bool, bool),

@@ -1,5 +1,5 @@
-//! Five callers of one queue over 16 cycles, each in a thread of its own: two append, one takes messages, one drops old cycles, and
-//! one takes snapshots without end.
+//! Five callers of one queue over 16 cycles, each in a thread of its own: two append, one takes messages, one drops
+//! old cycles, and one takes snapshots without end.
 
 ghost use Rattle.std.specs.Prelude.{◌≡◌, None};
 ghost use Rattle.cq_words.specs.Values.{IsOf};
