@@ -33,7 +33,7 @@ fn message_of(number: u32) -> ([u8; 12], usize) {
     )
 }
 
-/// Appends a message of this number at a moment. Answers whether it was not refused.
+/// Appends a message of this number at a moment. Returns whether it was not refused.
 fn append(queue: &Queue, appender: &mut Appender, moment: u64, number: u32) -> bool
     requires { IsOf queue.now appender.old }
     ensures { IsOf queue.now appender.new }
@@ -45,7 +45,7 @@ fn append(queue: &Queue, appender: &mut Appender, moment: u64, number: u32) -> b
     }
 }
 
-/// Appends the messages of days 0, 1 and 5, each of which begins a cycle, and begins the cycle of day 6. Answers whether
+/// Appends the messages of days 0, 1 and 5, each of which begins a cycle, and begins the cycle of day 6. Returns whether
 /// none was refused.
 fn append_all(queue: &Queue, appender: &mut Appender) -> bool
     requires { IsOf queue.now appender.old }
@@ -126,7 +126,7 @@ fn turns(
     Ok(forwards == Some(last) && backwards == Some(last))
 }
 
-/// Behind each 50th message that was read backwards, reads it again and appends another. Answers whether all is well.
+/// After each 50th message that was read backwards, reads it again and appends another. Returns whether all is well.
 fn is_well_between(
     alloc: Global,
     queue: &Queue,

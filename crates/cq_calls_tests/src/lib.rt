@@ -1,6 +1,6 @@
 //! Tests of the calls together: what appenders write and tailers read of one queue, across cycles and a stop.
 //!
-//! They are proved apart from the calls, so that these go on side by side.
+//! They are proved apart from the calls, so that both proofs can run at the same time.
 #![tactic(auto)]
 
 #[cfg(test)]

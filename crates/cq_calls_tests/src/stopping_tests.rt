@@ -14,7 +14,7 @@ const BEGUN_BEHIND_HELLO: &[Call] = &[
     Call::AppendAndRead("x"),
 ];
 
-/// The same, where the other message is dropped first.
+/// The same, but the other message is dropped first.
 const DROPPED_BEHIND_HELLO: &[Call] = &[
     Call::Append(0, "hello"),
     Call::Begin(0, 12),

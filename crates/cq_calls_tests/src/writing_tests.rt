@@ -109,7 +109,7 @@ fn messages_are_given_up(rt: HostRuntime) -> Result<(), Fail> {
 }
 
 static BESIDE: [Life; 2] = [
-    // Nobody else appends before a message that was begun is completed.
+    // No other caller appends before a message that was begun is completed.
     Life {
         cycles: 4,
         start: Start::New(0),

@@ -51,7 +51,7 @@ fn push_missed_rows(
     Ok(())
 }
 
-/// Behind these steps, each command in turn writes what the table wants.
+/// After these steps, each command in turn writes what the table wants.
 fn expect_outside(
     alloc: Global,
     before: &'static [Step],

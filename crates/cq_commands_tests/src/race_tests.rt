@@ -196,7 +196,7 @@ struct MeetingGate {
     one: AtomicU64,
 }
 
-/// Raises a flag, and looks for another one. Answers whether it came.
+/// Raises a flag, and looks for another one. Returns whether it came.
 fn meets(own: &AtomicU64, other: &AtomicU64) -> bool {
     own.store(1, Ordering::SeqCst);
     for _ in 0..TURNS {

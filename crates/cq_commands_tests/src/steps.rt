@@ -196,7 +196,7 @@ fn put_old<F: Folder>(
     put(alloc, folder, "queue.cqc", text.as_bytes())
 }
 
-/// Words, each in memory of its own.
+/// Arguments, each in memory of its own.
 fn texts(alloc: Global, words: &[&str]) -> Result<Vec<String>, AllocError> {
     let mut texts = Vec::new(alloc);
     for word in words {
@@ -272,7 +272,7 @@ fn step_of(command: Unprinted) -> Step {
     }
 }
 
-/// So many copies of a byte.
+/// This many copies of a byte.
 fn copies(alloc: Global, byte: u8, count: usize) -> Result<Vec<u8>, AllocError> {
     vec![in alloc; byte; count]
 }

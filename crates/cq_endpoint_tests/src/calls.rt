@@ -34,11 +34,11 @@ pub enum Call {
     Seek(&'static str, u64, u64),
     /// Asks for the position of a name.
     Position(&'static str),
-    /// Goes to an index.
+    /// Moves to an index.
     MoveTo(u64),
-    /// Goes to the start.
+    /// Moves to the start.
     ToStart,
-    /// Goes to the end.
+    /// Moves to the end.
     ToEnd,
     /// Turns this way.
     Turn(Direction),

@@ -1,5 +1,5 @@
-//! Tests of endpoints: their calls in turn, reads into rooms, endpoints that meet, endpoints in threads, and the last one of a
-//! queue; and of the callers that `docs/CALLING.md` shows.
+//! Tests of endpoints, and of the callers that `docs/CALLING.md` shows. They make calls in turn and read into
+//! buffers. Endpoints meet, run in threads, and one is the last of its queue.
 #![tactic(auto)]
 
 #[cfg(test)]

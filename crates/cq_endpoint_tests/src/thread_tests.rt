@@ -13,7 +13,7 @@ const EACH: u32 = 200;
 /// How often a thread tries before it gives up.
 const TURNS: u32 = 100_000_000;
 
-/// Appends a message as soon as no other thread writes. Answers whether it was appended.
+/// Appends a message as soon as no other thread writes. Returns whether it was appended.
 fn append_one(endpoint: &mut Endpoint, bytes: &[u8]) -> bool {
     for _ in 0..TURNS {
         match endpoint.append(0, bytes) {
@@ -25,7 +25,7 @@ fn append_one(endpoint: &mut Endpoint, bytes: &[u8]) -> bool {
     false
 }
 
-/// Reads the next message as soon as it is there. Answers whether one was read.
+/// Reads the next message as soon as it is there. Returns whether one was read.
 fn read_one(alloc: Global, endpoint: &mut Endpoint) -> bool {
     for _ in 0..TURNS {
         let Ok(found) = endpoint.next(alloc) else {
@@ -40,7 +40,7 @@ fn read_one(alloc: Global, endpoint: &mut Endpoint) -> bool {
     false
 }
 
-/// Appends all messages of a thread, and reads those of both. Answers how many reads and appends were done.
+/// Appends all messages of a thread, and reads those of both. Returns how many reads and appends were done.
 fn work(alloc: Global, mut endpoint: Endpoint) -> u32 {
     let mut done = 0u32;
     for _ in 0..EACH {

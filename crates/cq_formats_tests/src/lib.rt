@@ -1,7 +1,7 @@
-//! Tests of the formats: headers, cells and shapes, times and names, settings, the cells of a cycle, and the files of a
-//! queue.
+//! Tests of the formats: headers, cells and shapes, times and names, settings, the cells of a cycle, and the files of
+//! a queue.
 //!
-//! They are proved apart from what they test, so that both go on side by side.
+//! They are proved apart from what they test, so that both proofs can run at the same time.
 #![tactic(auto)]
 
 #[cfg(test)]

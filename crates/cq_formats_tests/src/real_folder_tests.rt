@@ -34,7 +34,7 @@ enum Step {
     Count,
     /// Enters, together with others or alone.
     Begin(Access),
-    /// Goes out.
+    /// Leaves.
     End,
     /// Says whether another that opens the folder could enter, together with others or alone.
     Try(Access),
@@ -147,7 +147,7 @@ where
     Ok(format!(in rt.alloc(); "{said} (put off, as for want of memory)")?)
 }
 
-/// Whether what is wanted is said at a step in the folder at a path once a command has come in alone.
+/// Whether what is wanted is said at a step in the folder at a path once a command has entered alone.
 fn is_put_off<R, F>(
     rt: &R,
     path: &str,
@@ -260,7 +260,7 @@ fn put_long<R: Files + AllocGlobal>(rt: &R, path: &str, number: usize) -> Result
     put(rt, path, name.as_str(), "")
 }
 
-/// What is said in place of a call that only a command makes that has come in, or is alone.
+/// What is said in place of a call that only a command makes that has entered, or is alone.
 fn outside(alloc: Global) -> Result<String, Fail> {
     Ok(String::from_str(alloc, "outside")?)
 }
@@ -552,7 +552,7 @@ fn a_file_keeps_its_mode(rt: HostRuntime) -> Result<(), Fail> {
     expect_steps(&rt, "mode", &MODE)
 }
 
-/// Nobody else comes in while a command is alone in the folder, and only others that read while one reads.
+/// No other command enters while one is alone in the folder, and only others that read while one reads.
 static HELD: [(Step, &str); 32] = [
     (Step::Try(Access::Alone), "free"),
     (Step::Begin(Access::Alone), ""),

@@ -26,8 +26,8 @@ use std::test::Fail;
 const MEASURES: Measures = (64, 8, 1);
 
 impl Call<'_> {
-    /// The step that publishes after this many messages. It publishes the message of one byte, or is the last of four
-    /// steps, which ends the cycle before.
+    /// The step that others see, after this many messages. It publishes the message of one byte, or is the last of four
+    /// steps, such as the one that ends the cycle before.
     fn shows(self, layout: Layout, count: u32) -> u32
         ensures { result ≤ 2 ^ 31 }
     {
@@ -429,7 +429,7 @@ static BESIDE_FIRST: [Beside; 4] = [
 ];
 
 impl Beside {
-    /// What has to be returned if the publishing step was made, or was not.
+    /// What has to be returned if the step that others see was made, or was not.
     fn wanted(&self, is_shown: bool) -> &'static str {
         if is_shown { self.behind } else { self.before }
     }

@@ -26,7 +26,7 @@ const SEEN: u64 = 2;
 /// The stage at which it was completed.
 const COMPLETED: u64 = 3;
 
-/// Waits for a stage. Answers whether it came.
+/// Waits for a stage. Returns whether it came.
 fn has_come(stage: &AtomicU64, wanted: u64) -> bool {
     for _ in 0..TURNS {
         if stage.load(Ordering::SeqCst) == wanted {
@@ -37,7 +37,7 @@ fn has_come(stage: &AtomicU64, wanted: u64) -> bool {
     false
 }
 
-/// Puts "hello" into a message and completes it. Answers its index.
+/// Puts "hello" into a message and completes it. Returns its index.
 fn complete_hello(queue: &Queue, mut writing: Writing) -> Option<u64>
     requires { IsOf queue.now writing.caller }
 {
@@ -50,7 +50,7 @@ fn complete_hello(queue: &Queue, mut writing: Writing) -> Option<u64>
     }
 }
 
-/// Completes "hello" once the other thread has looked for it. Answers its index.
+/// Completes "hello" once the other thread has looked for it. Returns its index.
 fn complete_later(queue: &Queue, writing: Writing, stage: &AtomicU64) -> Option<u64>
     requires { IsOf queue.now writing.caller }
 {
@@ -63,7 +63,7 @@ fn complete_later(queue: &Queue, writing: Writing, stage: &AtomicU64) -> Option<
     index
 }
 
-/// Begins "hello", and completes it once the other thread has looked for it. Answers its index.
+/// Begins "hello", and completes it once the other thread has looked for it. Returns its index.
 fn write_hello(queue: &Queue, appender: Appender, stage: &AtomicU64) -> Option<u64>
     requires { IsOf queue.now appender }
 {
@@ -179,7 +179,7 @@ fn reader_beside_claim(rt: HostRuntime) -> Result<(), Fail> {
     Ok(())
 }
 
-/// Appends a message at a moment. Answers whether it was not refused.
+/// Appends a message at a moment. Returns whether it was not refused.
 fn append_at<R: Wait>(
     rt: &R,
     queue: &Queue,

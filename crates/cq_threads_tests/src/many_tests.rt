@@ -30,7 +30,7 @@ fn message_of(writer: u8, number: u32) -> [u8; 3] {
     [writer, bytes[2], bytes[3]]
 }
 
-/// The moment of a message: the days of a writer rise from 0 to 7, and every other message lies up to two days earlier.
+/// The moment of a message: the days of a writer rise from 0 to 7, and every other message is up to two days earlier.
 fn moment_of(number: u32) -> u64 {
     let day = u64::from(number) * 8 / u64::from(EACH) % 8;
     if number % 2 == 0 {
@@ -39,7 +39,7 @@ fn moment_of(number: u32) -> u64 {
     day.saturating_sub(2) * DAY
 }
 
-/// Appends all messages of a writer. Answers whether none was refused.
+/// Appends all messages of a writer. Returns whether none was refused.
 fn append_all<R: Wait>(rt: &R, queue: &Queue, appender: &mut Appender, writer: u8) -> bool
     requires { IsOf queue.now appender.old }
     ensures { IsOf queue.now appender.new }
@@ -110,7 +110,7 @@ fn is_all(tally: &Tally) -> bool {
     tally.read == [EACH; 4]
 }
 
-/// Counts what was read, if it is a message. Answers whether all is well.
+/// Counts what was read, if it is a message. Returns whether all is well.
 fn is_read(found: &Result<Found, AllocError>, tally: &mut Tally) -> bool {
     match found {
         Ok(Found::Message(index, message)) => {
@@ -124,7 +124,7 @@ fn is_read(found: &Result<Found, AllocError>, tally: &mut Tally) -> bool {
     }
 }
 
-/// Reads the next message, if there is one. Answers whether all is well.
+/// Reads the next message, if there is one. Returns whether all is well.
 fn read_next(alloc: Global, queue: &Queue, tailer: &mut Tailer, tally: &mut Tally) -> bool
     requires { IsOf queue.now tailer.old.caller }
     ensures { IsOf queue.now tailer.new.caller }
@@ -151,7 +151,7 @@ fn config(alloc: Global) -> Result<Config, Fail> {
     config_of(alloc, Shape::new(262_144, 256, 1)?, 8)
 }
 
-/// Keeps the index of what was taken, if it is a message. Answers whether it is.
+/// Keeps the index of what was taken, if it is a message. Returns whether it is.
 fn is_kept(take: &Result<Take, TakeFault>, taken: &mut Vec<u64>) -> bool {
     match take {
         Ok(Take::Taken(index, _message)) => taken.push(index.value()).is_ok(),
@@ -159,7 +159,7 @@ fn is_kept(take: &Result<Take, TakeFault>, taken: &mut Vec<u64>) -> bool {
     }
 }
 
-/// Takes the next message, if there is one, and keeps its index. Answers whether it did.
+/// Takes the next message, if there is one, and keeps its index. Returns whether it did.
 pub fn take_next(alloc: Global, queue: &Queue, tailer: &mut Tailer, taken: &mut Vec<u64>) -> bool
     requires { IsOf queue.now tailer.old.caller }
     ensures { IsOf queue.now tailer.new.caller }

@@ -61,7 +61,7 @@ fn write_message(queue: &Queue, appender: Appender, byte: u8) -> Option<Appender
     }
 }
 
-/// Writes all messages. Answers whether none was refused.
+/// Writes all messages. Returns whether none was refused.
 fn write_messages(queue: &Queue, first: Appender) -> bool
     requires { IsOf queue.now first }
 {

@@ -25,7 +25,7 @@ use std::thread::{Threads, join, yield_now};
 /// How many days the writers append over, each day a cycle.
 const DAYS: u32 = 16;
 
-/// How often a thread looks whether the writers are done, before it gives up.
+/// How often a thread checks whether the writers are done, before it gives up.
 const TURNS: u32 = 100_000_000;
 
 /// Whether each of two writers appended all its messages. Says that they are done.
@@ -61,7 +61,7 @@ fn take_all(alloc: Global, queue: &Queue, mut tailer: Tailer, done: &AtomicU64) 
     taken
 }
 
-/// Drops all cycles but the last three until the writers are done. Answers whether the floor never fell.
+/// Drops all cycles but the last three until the writers are done. Returns whether the floor never fell.
 fn drop_all(queue: &Queue, mut tailer: Tailer, done: &AtomicU64) -> bool
     requires { IsOf queue.now tailer.caller }
 {

@@ -98,8 +98,8 @@ pub extern "C" fn linnetshelf_move_to(handle: &mut Handle, index: u64) -> u32
     }
 }
 
-/// Drops the cycles below this one: from then on no read or take of any caller returns their messages. Returns the
-/// floor, the oldest cycle that reads return.
+/// Drops the cycles below this one: reads and takes of all callers skip them from then on. Returns the floor, the
+/// oldest cycle that reads return.
 #[unsafe(no_mangle)]
 pub extern "C" fn linnetshelf_drop_before(handle: &mut Handle, cycle: u32) -> Answer
     ensures { OnEndpoint handle.old.held handle.new.held (result ≡ plain WrongKind) (λ old new.
