@@ -217,7 +217,7 @@ linnetshelf_answer linnetshelf_to_end(linnetshelf_handle *endpoint);
 linnetshelf_answer linnetshelf_cursor(linnetshelf_handle *endpoint);
 
 /* Drops the cycles before this one: from now on reads, moves and takes of all endpoints skip them. Returns the floor, the
- * oldest cycle that reads return. No memory is freed. NOT_SEEN: the cycle is above that of the end which this endpoint has
+ * cycle below which all are skipped. No memory is freed. NOT_SEEN: the cycle is above that of the end which this endpoint has
  * seen; linnetshelf_to_end sees it. */
 linnetshelf_answer linnetshelf_drop_before(linnetshelf_handle *endpoint, uint32_t cycle);
 
@@ -260,7 +260,7 @@ linnetshelf_answer linnetshelf_saved_image(linnetshelf_handle *saved, uint32_t k
 /* Returns the position of the `k`th name, from 0, as `index`. NO_SUCH_PLACE. */
 linnetshelf_answer linnetshelf_saved_position(linnetshelf_handle *saved, uint32_t k);
 
-/* Returns the floor, the oldest cycle that reads return, as `index`. */
+/* Returns the floor, below which reads skip all cycles, as `index`. */
 linnetshelf_answer linnetshelf_saved_floor(linnetshelf_handle *saved);
 
 /* Hands out a queue of no cycle, to which what was saved is added. BAD_SETTINGS, OUT_OF_MEMORY. */

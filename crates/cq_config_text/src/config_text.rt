@@ -21,7 +21,7 @@ const LINE_BEHIND_HEAD: u64 = 8;
 pub struct SavedConfig {
     pub config: Config,
     pub positions: Vec<u64>,
-    /// The floor: the oldest cycle that reads return.
+    /// The floor: reads skip all cycles below this one.
     pub floor: u32,
 }
 

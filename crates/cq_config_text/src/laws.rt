@@ -20,7 +20,7 @@ pub fn a_configuration_has_its_text()
         (codes "cq 1\nroll daily\nepoch 0\ncells 64\ncount 8\nspacing 1\ncycles 4\nname reader 0\n") ≡ None }
 {}
 
-/// The text of that queue if its floor is 20005, the oldest cycle that reads return.
+/// The text of that queue if its floor is 20005.
 pub fn a_floor_has_its_line()
     ensures text { config_text (settings_of (layout_in First (measures 64 8 1)) 4 Daily 0 (codes "reader" ∷ [])) (0 ∷ []) 20005
         ≡ codes "cq 1\nroll daily\nepoch 0\ncells 64\ncount 8\nspacing 1\ncycles 4\nfloor 20005\nname reader 0\n" }

@@ -1,5 +1,5 @@
-//! The text of the file `queue.cqc`. It keeps the settings of a queue, the positions of its tailers, and its floor: the
-//! oldest cycle that reads return. This crate reads and writes the text, and knows no folder.
+//! The text of the file `queue.cqc`. It keeps the settings of a queue, the positions of its tailers, and its floor, below
+//! which reads skip all cycles. This crate reads and writes the text, and knows no folder.
 //!
 //! | item | what it is for |
 //! |---|---|

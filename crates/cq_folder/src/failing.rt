@@ -29,7 +29,8 @@ pub struct FailingCall {
 }
 
 impl<F: Folder> FailingFolder<F> {
-    /// Makes a folder whose call with this number fails and does nothing. With number 0 none fails.
+    /// Makes a folder whose call with this number fails and does nothing, except that a `begin` that fails ends the
+    /// command that was in the folder. With number 0 none fails.
     pub fn new(folder: F, number: u64) -> Self
         ensures folder { result.folder ≡ folder }
         ensures call { result.failing.calls_left ≡ number }

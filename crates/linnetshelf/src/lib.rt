@@ -1,10 +1,10 @@
 //! The calls of the library for C, and for any language that calls as C does.
 //!
-//! A call is given a handle, and returns the number of a `Status`, alone or in an `Answer`. It has no preconditions,
-//! except that two endpoints that meet are of one queue. Its contract says of what the handle holds what the contract
-//! of the call that it wraps says, in `cq_endpoint` or `cq_saved`. `c/linnetshelf.h` describes the calls for people.
-//! All calls are memory-safe and terminate. A handle that holds something else than the call is for is left as it is,
-//! and the status is `WrongKind`.
+//! Most calls are given a handle, and return the number of a `Status`, alone or in an `Answer`. They have no
+//! preconditions, except that two endpoints that meet are of one queue. The contract of each says of what the handle
+//! holds what the contract of the call that it wraps says, in `cq_endpoint` or `cq_saved`. `c/linnetshelf.h` describes
+//! the calls for people. A handle that holds something else than the call is for is left as it is, and the status is
+//! `WrongKind`.
 //!
 //! | calls | what they are for |
 //! |---|---|

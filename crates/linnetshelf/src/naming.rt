@@ -38,6 +38,7 @@ fn position(endpoint: &mut Endpoint, name: &[u8]) -> Result<u64, NoSuchName>
 ///
 /// - `Moved`: the name is elsewhere and was not moved; the answer has its position.
 /// - `NotSeen`: `to` is after the end that the endpoint has seen.
+/// - `NoSuchName`: the queue declares no such name.
 #[unsafe(no_mangle)]
 pub extern "C" fn linnetshelf_seek(handle: &mut Handle, name: &[u8], from: u64, to: u64) -> Answer
     ensures { OnEndpoint handle.old.held handle.new.held (result ≡ plain WrongKind) (λ old new.

@@ -16,7 +16,8 @@ use cq_cycle::Index;
 use cq_endpoint::{Direction, Endpoint};
 use cq_handle::{Handle, Held};
 
-/// Returns the gap between messages at which the endpoint reads: the next message has this index or a later one.
+/// Returns the gap between messages at which the endpoint reads: the next message forwards has this index or
+/// a later one.
 #[unsafe(no_mangle)]
 pub extern "C" fn linnetshelf_cursor(handle: &mut Handle) -> Answer
     ensures { OnEndpoint handle.old.held handle.new.held (result ≡ plain WrongKind) (λ old new.
@@ -98,8 +99,10 @@ pub extern "C" fn linnetshelf_move_to(handle: &mut Handle, index: u64) -> u32
     }
 }
 
-/// Drops the cycles below this one: reads and takes of all callers skip them from then on. Returns the floor, the
-/// oldest cycle that reads return.
+/// Drops the cycles below this one: reads and takes of all callers skip them from then on. Returns the floor,
+/// below which all cycles are skipped.
+///
+/// - `NotSeen`: the cycle is above that of the end that the endpoint has seen.
 #[unsafe(no_mangle)]
 pub extern "C" fn linnetshelf_drop_before(handle: &mut Handle, cycle: u32) -> Answer
     ensures { OnEndpoint handle.old.held handle.new.held (result ≡ plain WrongKind) (λ old new.

@@ -16,6 +16,7 @@ use cq_handle::{Handle, Held};
 /// Reads the next message in the endpoint's direction into a buffer. Returns its index and its length, and moves
 /// after it, or backwards before it.
 ///
+/// - `NotYet`, `BeforeStart`: there is no such message.
 /// - `NoRoom`: the buffer has fewer bytes. The answer has the length, and nothing is read.
 #[unsafe(no_mangle)]
 pub extern "C" fn linnetshelf_next(handle: &mut Handle, room: &mut [u8]) -> Answer
@@ -30,6 +31,7 @@ pub extern "C" fn linnetshelf_next(handle: &mut Handle, room: &mut [u8]) -> Answ
 
 /// Reads the message with this index into a buffer. Returns its length, and the endpoint stays where it is.
 ///
+/// - `NotYet`, `Never`, `Gone`: no message is there that reads return.
 /// - `NoRoom`: the buffer has fewer bytes. The answer has the length, and nothing is read.
 #[unsafe(no_mangle)]
 pub extern "C" fn linnetshelf_read_at(handle: &mut Handle, index: u64, room: &mut [u8]) -> Answer
@@ -47,6 +49,8 @@ pub extern "C" fn linnetshelf_read_at(handle: &mut Handle, index: u64, room: &mu
 
 /// Takes the next message of a name into a buffer. Returns its index and its length.
 ///
+/// - `NotYet`: no message has come for it.
+/// - `NoSuchName`: the queue declares no such name.
 /// - `NoRoom`: the buffer has fewer bytes. The answer has the length, and nothing is taken.
 /// - `Moved`: another endpoint has moved the name meanwhile. The answer has the position that was found, and nothing
 ///   is taken.

@@ -195,7 +195,9 @@ fn number_answer(said: Result<u64, NoSuchPlace>) -> Answer
 
 /// Copies the image of cycle `k`, counted from 0, to the front of a buffer. Returns its length.
 ///
+/// - `NoSuchPlace`: there are fewer cycles.
 /// - `NoRoom`: the buffer is smaller. The answer has the length, and nothing is copied.
+/// - `OutOfMemory`: out of memory. Nothing is copied.
 #[unsafe(no_mangle)]
 pub extern "C" fn linnetshelf_saved_image(
     alloc: Global,
@@ -310,7 +312,7 @@ pub extern "C" fn linnetshelf_saved_set_position(
     status.number()
 }
 
-/// Returns the floor: the oldest cycle that reads return.
+/// Returns the floor: reads skip all cycles below this one.
 #[unsafe(no_mangle)]
 pub extern "C" fn linnetshelf_saved_floor(handle: &mut Handle) -> Answer
     ensures { OnSaved handle.old.held handle.new.held (result ≡ plain WrongKind) (λ old new.
@@ -322,7 +324,7 @@ pub extern "C" fn linnetshelf_saved_floor(handle: &mut Handle) -> Answer
     }
 }
 
-/// Sets the floor: the oldest cycle that reads return.
+/// Sets the floor: reads skip all cycles below this one.
 #[unsafe(no_mangle)]
 pub extern "C" fn linnetshelf_saved_set_floor(handle: &mut Handle, floor: u32) -> u32
     ensures { OnSaved handle.old.held handle.new.held (result ≡ number WrongKind) (λ old new.
