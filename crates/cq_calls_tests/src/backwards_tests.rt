@@ -4,7 +4,7 @@ ghost use Rattle.std.specs.Prelude.{◌≡◌, None};
 ghost use Rattle.cq_words.specs.Values.{IsOf};
 
 use cq_append::Appender;
-use cq_fixtures::{DAY, config_of};
+use cq_fixtures::{DAY, config_of, expect_text};
 use cq_layout::Shape;
 use cq_tail::{Direction, Found, Tailer};
 use cq_words::{Caller, Queue};
@@ -214,8 +214,10 @@ fn new_queue_text(alloc: Global, spacing: u32) -> Result<String, Fail> {
 #[test]
 fn what_is_read_forwards_is_read_backwards(rt: HostRuntime) -> Result<(), Fail> {
     for spacing in [1, 16, 256] {
-        let text = new_queue_text(rt.alloc(), spacing)?;
-        assert_eq!(rt; text.as_str(), "true 3900 3900 BeforeStart");
+        expect_text(
+            new_queue_text(rt.alloc(), spacing)?,
+            "true 3900 3900 BeforeStart",
+        )?;
     }
     Ok(())
 }

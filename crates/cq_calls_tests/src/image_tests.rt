@@ -1,15 +1,15 @@
 //! The images of snapshots that are taken while a message is begun, and the printed text of their records.
-use crate::lives::Start;
+use crate::lives::{Start, assert_text};
 use crate::queues::{Call, Fixture};
 use cq_chain::fits_all;
 use cq_cycle::Roll;
-use cq_fixtures::{DAY, small_config};
+use cq_fixtures::{DAY, config_of};
 use cq_image::{ImageRead, image, read};
 use cq_layout::Shape;
-use cq_model::CycleList;
+use cq_model::{CycleList, Message};
 use cq_origin::layout_of;
 use cq_text::dump_text;
-use std::alloc::Global;
+use std::alloc::{AllocError, Global};
 use std::test::Fail;
 
 /// The image of a cycle of a queue whose cycles are days.
@@ -25,7 +25,26 @@ fn image_of(alloc: Global, shape: Shape, list: &CycleList, ended: bool) -> Resul
     Ok(image(alloc, list.cycle, shape, Roll::Daily, 0, messages, ended)?)
 }
 
-/// What an image is read as: its messages in brackets, and its mark.
+/// Messages as text, each with a semicolon after it.
+fn push_texts(messages: &[Message], out: &mut String) -> Result<(), AllocError> {
+    for message in messages {
+        out.push_str(str::from_utf8(message.as_slice()).unwrap_or("no text"))?;
+        out.push_str(";")?;
+    }
+    Ok(())
+}
+
+/// What was read of an image: its messages in brackets, and its mark.
+fn push_image(cycle: u32, image: &ImageRead, out: &mut String) -> Result<(), AllocError> {
+    write!(out, "{cycle}[")?;
+    push_texts(image.messages.as_slice(), out)?;
+    if image.ended {
+        return out.push_str("] ended\n");
+    }
+    out.push_str("] open\n")
+}
+
+/// What an image is read as.
 fn push_read(
     alloc: Global,
     shape: Shape,
@@ -33,13 +52,36 @@ fn push_read(
     bytes: &[u8],
     out: &mut String,
 ) -> Result<(), Fail> {
-    let ImageRead { messages, ended } = read(alloc, cycle, shape, Roll::Daily, 0, bytes)?;
-    write!(out, "{cycle}[")?;
-    for message in messages.as_slice() {
-        out.push_str(str::from_utf8(message.as_slice())?)?;
-        out.push_str(";")?;
+    let image = read(alloc, cycle, shape, Roll::Daily, 0, bytes)?;
+    Ok(push_image(cycle, &image, out)?)
+}
+
+/// The records of an image as text.
+fn push_records(
+    alloc: Global,
+    shape: Shape,
+    cycle: u32,
+    bytes: &[u8],
+    out: &mut String,
+) -> Result<(), Fail> {
+    let records = dump_text(alloc, cycle, shape, Roll::Daily, 0, bytes)?;
+    Ok(out.push_str(str::from_utf8(records.as_slice())?)?)
+}
+
+/// What the image of a cycle is read as, and its records if it is the last one, which is open.
+fn push_cycle(
+    alloc: Global,
+    shape: Shape,
+    list: &CycleList,
+    is_last: bool,
+    out: &mut String,
+) -> Result<(), Fail> {
+    let bytes = image_of(alloc, shape, list, !is_last)?;
+    push_read(alloc, shape, list.cycle, bytes.as_slice(), out)?;
+    if is_last {
+        return push_records(alloc, shape, list.cycle, bytes.as_slice(), out);
     }
-    Ok(out.push_str(if ended { "] ended\n" } else { "] open\n" })?)
+    Ok(())
 }
 
 /// What the images of these cycles are read as, the last one open and the others ended, and then the records of the
@@ -51,13 +93,7 @@ fn push_images(
     out: &mut String,
 ) -> Result<(), Fail> {
     for (place, list) in lists.iter().enumerate() {
-        let is_last = place + 1 == lists.len();
-        let bytes = image_of(alloc, shape, list, !is_last)?;
-        push_read(alloc, shape, list.cycle, bytes.as_slice(), out)?;
-        if is_last {
-            let records = dump_text(alloc, list.cycle, shape, Roll::Daily, 0, bytes.as_slice())?;
-            out.push_str(str::from_utf8(records.as_slice())?)?;
-        }
+        push_cycle(alloc, shape, list, place + 1 == lists.len(), out)?;
     }
     Ok(())
 }
@@ -84,9 +120,8 @@ fn push_imaged(
 
 /// The same of a new queue.
 fn push_imaged_of_new(alloc: Global, calls: &[Call], out: &mut String) -> Result<(), Fail> {
-    let config = small_config(alloc, 4)?;
-    let shape = config.shape();
-    let mut fixture = Start::New(0).queue(alloc, config)?;
+    let shape = Shape::new(64, 8, 1)?;
+    let mut fixture = Start::New(0).queue(alloc, config_of(alloc, shape, 4)?)?;
     push_imaged(alloc, shape, &mut fixture, calls, out)
 }
 
@@ -99,6 +134,6 @@ const READ_BACK: &str = "0; 21474836480; begun; 0[a;] ended\n5[b;] open\n\
 fn a_snapshot_beside_a_claim_has_images(rt: HostRuntime) -> Result<(), Fail> {
     let mut text = String::new(rt.alloc());
     push_imaged_of_new(rt.alloc(), BESIDE_A_CLAIM, &mut text)?;
-    assert_eq!(rt; text.as_str(), READ_BACK);
+    assert_text(&rt, text.as_str(), READ_BACK);
     Ok(())
 }

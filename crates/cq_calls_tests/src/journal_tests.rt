@@ -1,5 +1,5 @@
 //! Queues whose opener is their only caller.
-use crate::lives::{Start, push_contents};
+use crate::lives::{Start, assert_text, push_contents};
 use crate::queues::{push_message, push_number};
 use cq_cycle::Index;
 use cq_fixtures::{Cycles, DAY, small_config};
@@ -152,17 +152,23 @@ impl Row {
     }
 }
 
+/// Works in this journal, and compares what is returned.
+fn assert_row(rt: &impl Abort, alloc: Global, row: &Row) -> Result<(), Fail> {
+    let mut answers = String::new(alloc);
+    row.push_done(alloc, &mut answers)?;
+    assert_text(rt, answers.as_str(), row.answers);
+    Ok(())
+}
+
 /// Works in each of these journals, and compares what is returned.
 fn assert_rows(rt: &impl Abort, alloc: Global, rows: &[Row]) -> Result<(), Fail> {
     for row in rows {
-        let mut answers = String::new(alloc);
-        row.push_done(alloc, &mut answers)?;
-        assert_eq!(rt; answers.as_str(), row.answers);
+        assert_row(rt, alloc, row)?;
     }
     Ok(())
 }
 
-static APPENDED: [Row; 4] = [
+static APPENDED: [Row; 6] = [
     // The cycle of the moment, or the last one.
     Row {
         cycles: 4,
@@ -190,35 +196,25 @@ static APPENDED: [Row; 4] = [
         work: Work::Write(&[(3 * DAY, &[65; 256])]),
         answers: "CycleFull; 0[] 3[] at [0]",
     },
+    // Appends go on where a journal was opened again.
+    Row {
+        cycles: 4,
+        start: Start::Held(THREE_CYCLES, &[1]),
+        work: Work::Write(&[(9 * DAY, b"x")]),
+        answers: "38654705666; 0[a;] 5[] 9[b;c;x;] at [1]",
+    },
+    // No journal begins after the last moment.
+    Row {
+        cycles: 1,
+        start: Start::New(TOO_LATE),
+        work: Work::Write(&[]),
+        answers: "BadMoment",
+    },
 ];
 
 #[test]
 fn messages_are_appended(rt: HostRuntime) -> Result<(), Fail> {
     assert_rows(&rt, rt.alloc(), &APPENDED)
-}
-
-static OPENED_AGAIN: [Row; 1] = [Row {
-    cycles: 4,
-    start: Start::Held(THREE_CYCLES, &[1]),
-    work: Work::Write(&[(9 * DAY, b"x")]),
-    answers: "38654705666; 0[a;] 5[] 9[b;c;x;] at [1]",
-}];
-
-#[test]
-fn appends_go_on_where_a_journal_was_opened_again(rt: HostRuntime) -> Result<(), Fail> {
-    assert_rows(&rt, rt.alloc(), &OPENED_AGAIN)
-}
-
-static TOO_LATE_TO_BEGIN: [Row; 1] = [Row {
-    cycles: 1,
-    start: Start::New(TOO_LATE),
-    work: Work::Write(&[]),
-    answers: "BadMoment",
-}];
-
-#[test]
-fn no_journal_begins_after_the_last_moment(rt: HostRuntime) -> Result<(), Fail> {
-    assert_rows(&rt, rt.alloc(), &TOO_LATE_TO_BEGIN)
 }
 
 /// As many messages as fit into a cycle.

@@ -23,10 +23,7 @@ impl Start {
     /// A queue of this configuration that begins so.
     pub fn queue(self, alloc: Global, config: Config) -> Result<Fixture, CreateError> {
         match self {
-            Start::New(moment) => {
-                let (queue, caller) = Queue::create(alloc, config, moment)?;
-                Ok(Fixture::new(queue, caller))
-            }
+            Start::New(moment) => created(alloc, config, moment),
             Start::Held(cycles, positions) => {
                 reopened(alloc, config, &contents_of(alloc, cycles, positions)?)
             }
@@ -42,6 +39,12 @@ impl Start {
             }
         }
     }
+}
+
+/// A new queue of this configuration.
+fn created(alloc: Global, config: Config, moment: u64) -> Result<Fixture, CreateError> {
+    let (queue, caller) = Queue::create(alloc, config, moment)?;
+    Ok(Fixture::new(queue, caller))
 }
 
 /// A queue of this configuration that is opened again with contents.
@@ -82,9 +85,9 @@ pub struct Life {
 }
 
 impl Life {
-    /// What is returned from its start to its end, or why there is no queue.
-    fn push_answers(&self, alloc: Global, out: &mut String) -> Result<(), Fail> {
-        match self.start.queue(alloc, small_config(alloc, self.cycles)?) {
+    /// What is returned from its start to its end, or why there is no queue of this configuration.
+    fn push_answers(&self, alloc: Global, config: Config, out: &mut String) -> Result<(), Fail> {
+        match self.start.queue(alloc, config) {
             Ok(fixture) => self.push_life(alloc, fixture, out),
             Err(refusal) => Ok(write!(out, "{refusal}")?),
         }
@@ -98,13 +101,22 @@ impl Life {
 
     /// What is checked after the calls.
     fn push_end(&self, alloc: Global, fixture: Fixture, out: &mut String) -> Result<(), Fail> {
+        let stopped = match self.end {
+            End::Dropped => return Ok(()),
+            End::StoppedBeside | End::Published(_) => fixture.stop_beside(),
+            End::Stopped | End::Cells(_) | End::Reopened(_) => fixture.stop(),
+        };
+        self.push_stopped(alloc, &stopped, out)
+    }
+
+    /// What is checked of the queue that was stopped.
+    fn push_stopped(&self, alloc: Global, stopped: &Stopped, out: &mut String) -> Result<(), Fail> {
         match self.end {
             End::Dropped => Ok(()),
-            End::Stopped => push_held(alloc, &fixture.stop(), out),
-            End::StoppedBeside => push_held(alloc, &fixture.stop_beside(), out),
-            End::Cells(from) => push_cells(&fixture.stop(), from, out),
-            End::Published(cells) => Ok(push_published(&fixture.stop_beside(), cells, out)?),
-            End::Reopened(calls) => self.push_again(alloc, &fixture.stop(), calls, out),
+            End::Stopped | End::StoppedBeside => push_held(alloc, stopped, out),
+            End::Cells(from) => push_cells(stopped, from, out),
+            End::Published(cells) => Ok(push_published(stopped, cells, out)?),
+            End::Reopened(calls) => self.push_again(alloc, stopped, calls, out),
         }
     }
 
@@ -168,12 +180,28 @@ fn push_published(stopped: &Stopped, cells: &[u32], out: &mut String) -> Result<
     write!(out, "at {}", stopped.write_position(0))
 }
 
+/// Lives through this one in a queue of this configuration, and compares what is returned.
+pub fn assert_life(
+    rt: &impl Abort,
+    alloc: Global,
+    config: Config,
+    life: &Life,
+) -> Result<(), Fail> {
+    let mut answers = String::new(alloc);
+    life.push_answers(alloc, config, &mut answers)?;
+    assert_text(rt, answers.as_str(), life.answers);
+    Ok(())
+}
+
+/// Compares what is returned with what is wanted.
+pub fn assert_text(rt: &impl Abort, answers: &str, want: &str) {
+    assert_eq!(rt; answers, want);
+}
+
 /// Lives through each of these, and compares what is returned.
 pub fn assert_lives(rt: &impl Abort, alloc: Global, lives: &[Life]) -> Result<(), Fail> {
     for life in lives {
-        let mut answers = String::new(alloc);
-        life.push_answers(alloc, &mut answers)?;
-        assert_eq!(rt; answers.as_str(), life.answers);
+        assert_life(rt, alloc, small_config(alloc, life.cycles)?, life)?;
     }
     Ok(())
 }

@@ -7,7 +7,7 @@ use std::test::Fail;
 /// A moment in no cycle.
 const NEVER: u64 = 18_446_744_073_709_551_615;
 
-static REFUSED: [Life; 3] = [
+static PLACES: [Life; 5] = [
     // The maximum length is checked first, and then the moment.
     Life {
         cycles: 1,
@@ -46,14 +46,6 @@ static REFUSED: [Life; 3] = [
         end: End::StoppedBeside,
         answers: "begun; given up; NoCycleLeft; begun; put; 21474836480; 0[] 5[a;] at [0]",
     },
-];
-
-#[test]
-fn no_message_is_begun_that_has_no_place(rt: HostRuntime) -> Result<(), Fail> {
-    assert_lives(&rt, rt.alloc(), &REFUSED)
-}
-
-static CYCLES: [Life; 2] = [
     // A message goes into the current cycle if its moment's is past.
     Life {
         cycles: 4,
@@ -89,6 +81,6 @@ static CYCLES: [Life; 2] = [
 ];
 
 #[test]
-fn messages_go_behind_those_of_others(rt: HostRuntime) -> Result<(), Fail> {
-    assert_lives(&rt, rt.alloc(), &CYCLES)
+fn messages_go_to_their_places(rt: HostRuntime) -> Result<(), Fail> {
+    assert_lives(&rt, rt.alloc(), &PLACES)
 }

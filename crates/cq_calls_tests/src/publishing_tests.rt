@@ -5,7 +5,8 @@ use std::test::Fail;
 
 const HELLO: Call = Call::Append(0, "hello");
 
-static APPENDED: [Life; 4] = [
+static PUBLISHED: [Life; 8] = [
+    // Each message is published.
     Life {
         cycles: 1,
         start: Start::New(0),
@@ -45,14 +46,7 @@ static APPENDED: [Life; 4] = [
         end: End::Published(&[11, 20]),
         answers: "begun; put; 0; 76 112 at 481036337152",
     },
-];
-
-#[test]
-fn each_message_is_published(rt: HostRuntime) -> Result<(), Fail> {
-    assert_lives(&rt, rt.alloc(), &APPENDED)
-}
-
-static NOT_APPENDED: [Life; 2] = [
+    // A message that is not completed is not.
     Life {
         cycles: 1,
         start: Start::New(0),
@@ -67,18 +61,7 @@ static NOT_APPENDED: [Life; 2] = [
         end: End::Published(&[11, 20]),
         answers: "begun; put; given up; 0 0 at 0",
     },
-];
-
-#[test]
-fn a_message_that_is_not_completed_is_not_published(rt: HostRuntime) -> Result<(), Fail> {
-    assert_lives(&rt, rt.alloc(), &NOT_APPENDED)
-}
-
-/// One byte, nine times.
-const HELD: Start = Start::Held(&[(0, &["a", "a", "a", "a", "a", "a", "a", "a", "a"])], &[0]);
-
-// No entry of the messages that were there is filled in, so that the table is found by a walk.
-static BEHIND_OTHERS: [Life; 2] = [
+    // A table without entries is found.
     Life {
         cycles: 1,
         start: HELD,
@@ -96,6 +79,11 @@ static BEHIND_OTHERS: [Life; 2] = [
 ];
 
 #[test]
-fn a_table_without_entries_is_found(rt: HostRuntime) -> Result<(), Fail> {
-    assert_lives(&rt, rt.alloc(), &BEHIND_OTHERS)
+fn each_complete_message_is_published(rt: HostRuntime) -> Result<(), Fail> {
+    assert_lives(&rt, rt.alloc(), &PUBLISHED)
 }
+
+/// One byte, nine times.
+const HELD: Start = Start::Held(&[(0, &["a", "a", "a", "a", "a", "a", "a", "a", "a"])], &[0]);
+
+// No entry of the messages that were there is filled in, so that the table is found by a walk.

@@ -4,7 +4,7 @@ use crate::queues::Call;
 use cq_fixtures::DAY;
 use std::test::Fail;
 
-static SNAPSHOTS: [Life; 4] = [
+static SNAPSHOTS: [Life; 5] = [
     // No message yet.
     Life {
         cycles: 4,
@@ -53,31 +53,25 @@ static SNAPSHOTS: [Life; 4] = [
         end: End::Dropped,
         answers: "0 a; 0[a;b;] ; at 1; 1 b; NotYet; ",
     },
+    // A snapshot that memory was refused to leaves all as it was: the next one gives the same, and the message is completed.
+    Life {
+        cycles: 4,
+        start: Start::New(0),
+        calls: &[
+            Call::Append(0, "a"),
+            Call::Append(5 * DAY, "b"),
+            Call::Begin(0, 1),
+            Call::SnapshotAgain,
+            Call::Put("c"),
+            Call::Complete,
+            Call::SnapshotAgain,
+        ],
+        end: End::Dropped,
+        answers: "0; 21474836480; begun; 0[a;] 5[b;] ; put; 21474836481; 0[a;] 5[b;c;] ; ",
+    },
 ];
 
 #[test]
 fn snapshots_give_all_complete_messages(rt: HostRuntime) -> Result<(), Fail> {
     assert_lives(&rt, rt.alloc(), &SNAPSHOTS)
-}
-
-static AROUND: [Life; 1] = [Life {
-    cycles: 4,
-    start: Start::New(0),
-    calls: &[
-        Call::Append(0, "a"),
-        Call::Append(5 * DAY, "b"),
-        Call::Begin(0, 1),
-        Call::SnapshotAgain,
-        Call::Put("c"),
-        Call::Complete,
-        Call::SnapshotAgain,
-    ],
-    end: End::Dropped,
-    answers: "0; 21474836480; begun; 0[a;] 5[b;] ; put; 21474836481; 0[a;] 5[b;c;] ; ",
-}];
-
-/// A snapshot that memory was refused to leaves all as it was: the next one gives the same, and the message is completed.
-#[test]
-fn a_claim_is_completed_behind_a_snapshot(rt: HostRuntime) -> Result<(), Fail> {
-    assert_lives(&rt, rt.alloc(), &AROUND)
 }

@@ -23,7 +23,8 @@ const DROPPED_BEHIND_HELLO: &[Call] = &[
     Call::AppendAndRead("x"),
 ];
 
-static BEGUN: [Life; 4] = [
+static KEPT: [Life; 8] = [
+    // What others completed is kept.
     Life {
         cycles: 4,
         start: Start::New(0),
@@ -52,24 +53,43 @@ static BEGUN: [Life; 4] = [
         end: End::Reopened(&[Call::Append(0, "x")]),
         answers: "0; begun; put; dropped; Busy, 0 hello; 1; ",
     },
+    // Cycles without messages are kept.
+    Life {
+        cycles: 4,
+        start: Start::New(0),
+        calls: &[Call::Advance(5 * DAY)],
+        end: End::Stopped,
+        answers: "cycle 5; 0[] 5[] at [0]",
+    },
+    // What a queue was opened with is kept.
+    Life {
+        cycles: 4,
+        start: Start::Held(&[(0, &["hello", "ab"]), (5, &[]), (9, &["z"])], &[1]),
+        calls: &[],
+        end: End::Stopped,
+        answers: "0[hello;ab;] 5[] 9[z;] at [1]",
+    },
+    // A queue without cycles is refused.
+    Life {
+        cycles: 4,
+        start: Start::Held(&[], &[0]),
+        calls: &[],
+        end: End::Dropped,
+        answers: "BadContents",
+    },
+    // A new queue has the cycle of its moment.
+    Life {
+        cycles: 4,
+        start: Start::New(5 * DAY),
+        calls: &[],
+        end: End::Stopped,
+        answers: "5[] at [0]",
+    },
 ];
 
 #[test]
-fn a_stopped_queue_keeps_what_others_completed(rt: HostRuntime) -> Result<(), Fail> {
-    assert_lives(&rt, rt.alloc(), &BEGUN)
-}
-
-static WITHOUT_MESSAGES: [Life; 1] = [Life {
-    cycles: 4,
-    start: Start::New(0),
-    calls: &[Call::Advance(5 * DAY)],
-    end: End::Stopped,
-    answers: "cycle 5; 0[] 5[] at [0]",
-}];
-
-#[test]
-fn cycles_without_messages_are_kept(rt: HostRuntime) -> Result<(), Fail> {
-    assert_lives(&rt, rt.alloc(), &WITHOUT_MESSAGES)
+fn a_stopped_queue_keeps_what_is_complete(rt: HostRuntime) -> Result<(), Fail> {
+    assert_lives(&rt, rt.alloc(), &KEPT)
 }
 
 /// The image of a cycle without messages that has ended, or that has not.
@@ -89,43 +109,4 @@ fn cycles_without_messages_have_images(rt: HostRuntime) -> Result<(), Fail> {
         expect_row(bytes.as_slice() == want, u64::from(cycle))?;
     }
     Ok(())
-}
-
-static OPENED_AGAIN: [Life; 1] = [Life {
-    cycles: 4,
-    start: Start::Held(&[(0, &["hello", "ab"]), (5, &[]), (9, &["z"])], &[1]),
-    calls: &[],
-    end: End::Stopped,
-    answers: "0[hello;ab;] 5[] 9[z;] at [1]",
-}];
-
-#[test]
-fn a_stopped_queue_keeps_what_it_was_opened_with(rt: HostRuntime) -> Result<(), Fail> {
-    assert_lives(&rt, rt.alloc(), &OPENED_AGAIN)
-}
-
-static WITHOUT_CYCLES: [Life; 1] = [Life {
-    cycles: 4,
-    start: Start::Held(&[], &[0]),
-    calls: &[],
-    end: End::Dropped,
-    answers: "BadContents",
-}];
-
-#[test]
-fn a_queue_without_cycles_is_refused(rt: HostRuntime) -> Result<(), Fail> {
-    assert_lives(&rt, rt.alloc(), &WITHOUT_CYCLES)
-}
-
-static LATER: [Life; 1] = [Life {
-    cycles: 4,
-    start: Start::New(5 * DAY),
-    calls: &[],
-    end: End::Stopped,
-    answers: "5[] at [0]",
-}];
-
-#[test]
-fn a_new_queue_has_the_cycle_of_its_moment(rt: HostRuntime) -> Result<(), Fail> {
-    assert_lives(&rt, rt.alloc(), &LATER)
 }

@@ -3,7 +3,7 @@ use crate::lives::{End, Life, Start, assert_lives};
 use crate::queues::Call;
 use std::test::Fail;
 
-static FILLED: [Life; 3] = [
+static WRITTEN: [Life; 8] = [
     // Bytes are put in pieces that end within cells and at their ends.
     Life {
         cycles: 4,
@@ -50,14 +50,6 @@ static FILLED: [Life; 3] = [
         end: End::StoppedBeside,
         answers: "begun; EmptyMessage; put; 0; 0[a;] at [0]",
     },
-];
-
-#[test]
-fn messages_are_filled_and_completed(rt: HostRuntime) -> Result<(), Fail> {
-    assert_lives(&rt, rt.alloc(), &FILLED)
-}
-
-static GIVEN_UP: [Life; 3] = [
     // The next message is whole in the place of one that was longer.
     Life {
         cycles: 4,
@@ -101,14 +93,6 @@ static GIVEN_UP: [Life; 3] = [
         end: End::StoppedBeside,
         answers: "begun; given up; begun; put; 0; 0[a;] at [0]",
     },
-];
-
-#[test]
-fn messages_are_given_up(rt: HostRuntime) -> Result<(), Fail> {
-    assert_lives(&rt, rt.alloc(), &GIVEN_UP)
-}
-
-static BESIDE: [Life; 2] = [
     // No other caller appends before a message that was begun is completed.
     Life {
         cycles: 4,
@@ -141,6 +125,6 @@ static BESIDE: [Life; 2] = [
 ];
 
 #[test]
-fn a_message_that_was_begun_keeps_others_out(rt: HostRuntime) -> Result<(), Fail> {
-    assert_lives(&rt, rt.alloc(), &BESIDE)
+fn messages_are_filled_and_completed_or_given_up(rt: HostRuntime) -> Result<(), Fail> {
+    assert_lives(&rt, rt.alloc(), &WRITTEN)
 }
