@@ -1,5 +1,5 @@
 //! What the commands do and print.
-use crate::steps::{DAY, Step, expect, said_at, said_by};
+use crate::steps::{DAY, Step, expect, push_said_apart, said_by};
 use crate::streams::said;
 use crate::word_tests::words_of;
 use cq_command_line::parse;
@@ -40,11 +40,6 @@ static KEPT: [(Step, &str); 11] = [
     ),
 ];
 
-#[test]
-fn keeps_what_was_written(rt: HostRuntime) -> Result<(), Fail> {
-    expect(rt.alloc(), &KEPT)
-}
-
 static ROLLED: [(Step, &str); 8] = [
     (Step::Queue(2), ""),
     (Step::Write(0, b"a\n"), "0000000000000000\n"),
@@ -62,11 +57,6 @@ static ROLLED: [(Step, &str); 8] = [
         "19700101.cqi: 1 messages, ended\n19700106.cqi: 3 messages, open\n",
     ),
 ];
-
-#[test]
-fn rolls_once_for_all_lines(rt: HostRuntime) -> Result<(), Fail> {
-    expect(rt.alloc(), &ROLLED)
-}
 
 /// With "a" in cycle 0, and "b", "c" and "d" in cycle 5.
 static READ: [(Step, &str); 11] = [
@@ -104,11 +94,6 @@ static READ: [(Step, &str); 11] = [
     ),
 ];
 
-#[test]
-fn reads_forwards_and_backwards(rt: HostRuntime) -> Result<(), Fail> {
-    expect(rt.alloc(), &READ)
-}
-
 static NO_INDEX: [(Step, &str); 9] = [
     (Step::Queue(2), ""),
     (Step::Write(0, b"a\n"), "0000000000000000\n"),
@@ -121,11 +106,6 @@ static NO_INDEX: [(Step, &str); 9] = [
     (Step::Read(false, Some("+000000000000000")), "cq: BadIndex"),
 ];
 
-#[test]
-fn takes_no_other_index(rt: HostRuntime) -> Result<(), Fail> {
-    expect(rt.alloc(), &NO_INDEX)
-}
-
 static BEGUN: [(Step, &str); 5] = [
     (Step::Queue(4), ""),
     (Step::Write(2 * DAY, b""), ""),
@@ -135,7 +115,9 @@ static BEGUN: [(Step, &str); 5] = [
 ];
 
 #[test]
-fn begins_a_cycle_without_lines(rt: HostRuntime) -> Result<(), Fail> {
+fn keeps_what_was_written_and_rolls(rt: HostRuntime) -> Result<(), Fail> {
+    expect(rt.alloc(), &KEPT)?;
+    expect(rt.alloc(), &ROLLED)?;
     expect(rt.alloc(), &BEGUN)
 }
 
@@ -158,7 +140,9 @@ static DUMPED: [(Step, &str); 7] = [
 ];
 
 #[test]
-fn dumps_records(rt: HostRuntime) -> Result<(), Fail> {
+fn reads_and_dumps_what_is_kept(rt: HostRuntime) -> Result<(), Fail> {
+    expect(rt.alloc(), &READ)?;
+    expect(rt.alloc(), &NO_INDEX)?;
     expect(rt.alloc(), &DUMPED)
 }
 
@@ -188,9 +172,9 @@ fn ran_and_checked<F: Folder>(
     folder: &mut F,
     order: &Order,
 ) -> Result<String, FolderFault> {
-    let ran = ran(alloc, folder, order)?;
-    let checked = said_at(alloc, folder, &Step::Check)?;
-    Ok(format!(in alloc; "{ran}|{checked}")?)
+    let mut said = ran(alloc, folder, order)?;
+    push_said_apart(alloc, folder, &Step::Check, &mut said)?;
+    Ok(said)
 }
 
 /// What an order writes after these steps, and what `check` says then.

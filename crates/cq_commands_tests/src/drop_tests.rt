@@ -37,11 +37,6 @@ static RETAINED: [(Step, &str); 12] = [
     (Step::Read(false, None), "cq: BadContents"),
 ];
 
-#[test]
-fn passes_over_old_days(rt: HostRuntime) -> Result<(), Fail> {
-    expect(rt.alloc(), &RETAINED)
-}
-
 /// With "a" in cycle 0, "b" in cycle 5, and "c" in cycle 7.
 static RAISED: [(Step, &str); 21] = [
     (Step::Queue(4), ""),
@@ -88,11 +83,6 @@ static RAISED: [(Step, &str); 21] = [
     ),
 ];
 
-#[test]
-fn raises_the_floor_and_never_lowers_it(rt: HostRuntime) -> Result<(), Fail> {
-    expect(rt.alloc(), &RAISED)
-}
-
 static NOTHING: [(Step, &str); 4] = [
     (Step::Queue(4), ""),
     (Step::Drop(0), "0\n"),
@@ -104,7 +94,9 @@ static NOTHING: [(Step, &str); 4] = [
 ];
 
 #[test]
-fn drops_nothing_where_nothing_is(rt: HostRuntime) -> Result<(), Fail> {
+fn raises_the_floor_and_never_lowers_it(rt: HostRuntime) -> Result<(), Fail> {
+    expect(rt.alloc(), &RETAINED)?;
+    expect(rt.alloc(), &RAISED)?;
     expect(rt.alloc(), &NOTHING)
 }
 

@@ -75,11 +75,6 @@ static THREE: [(&[Step], &str); 1] = [(
 19700101.cqi: 1 messages, ended\n19700102.cqi: 1 messages, ended\n19700103.cqi: 2 messages, open\n",
 )];
 
-#[test]
-fn answers_the_same_in_any_order(rt: HostRuntime) -> Result<(), Fail> {
-    expect_in_any_order(rt.alloc(), &THREE)
-}
-
 /// A folder of version 1 with two images becomes one of version 2.
 static MIGRATED: [(&[Step], &str); 1] = [(
     &[
@@ -96,7 +91,8 @@ static MIGRATED: [(&[Step], &str); 1] = [(
 )];
 
 #[test]
-fn migrates_in_any_order(rt: HostRuntime) -> Result<(), Fail> {
+fn answers_the_same_in_any_order(rt: HostRuntime) -> Result<(), Fail> {
+    expect_in_any_order(rt.alloc(), &THREE)?;
     expect_in_any_order(rt.alloc(), &MIGRATED)
 }
 

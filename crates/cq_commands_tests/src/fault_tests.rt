@@ -1,8 +1,8 @@
 //! Which fault is reported, and what the folder holds then.
 use crate::images::{HELLO, NINE};
 use crate::steps::{
-    DAY, Failing, MOST_BYTES, Step, Unprinted, expect, expect_each, expect_failing, said_anew,
-    said_at, said_by,
+    DAY, Failing, MOST_BYTES, Step, Unprinted, expect, expect_each, expect_failing,
+    push_said_apart, said_anew, said_at, said_by,
 };
 use cq_fixtures::expect_text;
 use cq_folder::{Folder, FolderFault, MemoryFolder};
@@ -20,11 +20,6 @@ static GOOD: [(Step, &str); 5] = [
 00000040 40000020 table 0 100 0 0 0 0 0 0 0\n00000064 00000005 data 0 68656c6c6f\n00000070 c0000000 end\n",
     ),
 ];
-
-#[test]
-fn checks_and_dumps_the_image(rt: HostRuntime) -> Result<(), Fail> {
-    expect(rt.alloc(), &GOOD)
-}
 
 /// Bytes of the image that are replaced from a place on, and what is wrong then.
 static WRONG: [(usize, &[u8], &str); 10] = [
@@ -69,7 +64,7 @@ fn tells_each_image_fault(rt: HostRuntime) -> Result<(), Fail> {
     Ok(())
 }
 
-static CUT: [(&[Step], &str); 3] = [
+static CUT: [(&[Step], &str); 6] = [
     (
         &[
             Step::OldQueue(4),
@@ -97,10 +92,45 @@ static CUT: [(&[Step], &str); 3] = [
         ],
         "19700101.cqi: 1 messages, open\n",
     ),
+    // Two faulty images, a bad name along with a faulty image, and a faulty image along with a wrong end. The
+    // images come before what the command itself was given, except an index that is none.
+    (
+        &[
+            Step::Queue(4),
+            Step::Put("19700102.cqi", b"x"),
+            Step::Put("19700101.cqi", b"yy"),
+            Step::Read(false, None),
+            Step::Write(u64::MAX, b"\n"),
+            Step::Read(false, Some("x")),
+        ],
+        "cq: 19700101.cqi: Cut at 0cq: 19700101.cqi: Cut at 0cq: BadIndex",
+    ),
+    (
+        &[
+            Step::Queue(4),
+            Step::Put("19700101.cqi", b"x"),
+            Step::Put("zzz.cqi", b""),
+            Step::Read(false, None),
+            Step::Write(u64::MAX, b"\n"),
+            Step::Read(false, Some("x")),
+        ],
+        "cq: zzz.cqi: bad cycle namecq: zzz.cqi: bad cycle namecq: BadIndex",
+    ),
+    (
+        &[
+            Step::Queue(4),
+            Step::Put("19700101.cqi", b""),
+            Step::Put("19700102.cqi", b"x"),
+            Step::Read(false, None),
+            Step::Write(u64::MAX, b"\n"),
+            Step::Read(false, Some("x")),
+        ],
+        "cq: 19700102.cqi: Cut at 0cq: 19700102.cqi: Cut at 0cq: BadIndex",
+    ),
 ];
 
 #[test]
-fn tells_where_an_image_is_cut(rt: HostRuntime) -> Result<(), Fail> {
+fn an_image_is_cut_or_has_two_faults(rt: HostRuntime) -> Result<(), Fail> {
     expect_each(rt.alloc(), &CUT)
 }
 
@@ -151,52 +181,10 @@ static OVER_2: [(Step, &str); 5] = [
 ];
 
 #[test]
-fn tells_what_fits_no_shape(rt: HostRuntime) -> Result<(), Fail> {
+fn checks_and_dumps_what_fits_the_shape(rt: HostRuntime) -> Result<(), Fail> {
+    expect(rt.alloc(), &GOOD)?;
     expect(rt.alloc(), &OVER)?;
     expect(rt.alloc(), &OVER_2)
-}
-
-/// Two faulty images, a bad name along with a faulty image, and a faulty image along with a wrong end. The images
-/// come before what the command itself was given, except an index that is none.
-static TWO: [(&[Step], &str); 3] = [
-    (
-        &[
-            Step::Queue(4),
-            Step::Put("19700102.cqi", b"x"),
-            Step::Put("19700101.cqi", b"yy"),
-            Step::Read(false, None),
-            Step::Write(u64::MAX, b"\n"),
-            Step::Read(false, Some("x")),
-        ],
-        "cq: 19700101.cqi: Cut at 0cq: 19700101.cqi: Cut at 0cq: BadIndex",
-    ),
-    (
-        &[
-            Step::Queue(4),
-            Step::Put("19700101.cqi", b"x"),
-            Step::Put("zzz.cqi", b""),
-            Step::Read(false, None),
-            Step::Write(u64::MAX, b"\n"),
-            Step::Read(false, Some("x")),
-        ],
-        "cq: zzz.cqi: bad cycle namecq: zzz.cqi: bad cycle namecq: BadIndex",
-    ),
-    (
-        &[
-            Step::Queue(4),
-            Step::Put("19700101.cqi", b""),
-            Step::Put("19700102.cqi", b"x"),
-            Step::Read(false, None),
-            Step::Write(u64::MAX, b"\n"),
-            Step::Read(false, Some("x")),
-        ],
-        "cq: 19700102.cqi: Cut at 0cq: 19700102.cqi: Cut at 0cq: BadIndex",
-    ),
-];
-
-#[test]
-fn tells_the_first_of_two_faults(rt: HostRuntime) -> Result<(), Fail> {
-    expect_each(rt.alloc(), &TWO)
 }
 
 /// A configuration that is none comes before a faulty image, and an index that is none before that.
@@ -209,11 +197,6 @@ static NO_CONFIG: [(Step, &str); 6] = [
     (Step::Dump("none"), "cq: queue.cqc: line 1"),
 ];
 
-#[test]
-fn tells_a_fault_of_the_configuration_first(rt: HostRuntime) -> Result<(), Fail> {
-    expect(rt.alloc(), &NO_CONFIG)
-}
-
 /// A file that is none comes before its name, and its name before what it holds.
 static NO_FILE: [(Step, &str); 4] = [
     (Step::Queue(4), ""),
@@ -221,11 +204,6 @@ static NO_FILE: [(Step, &str); 4] = [
     (Step::Dump("yyy.cqi"), "cq: no such file: yyy.cqi"),
     (Step::Dump("zzz.cqi"), "cq: zzz.cqi: bad cycle name"),
 ];
-
-#[test]
-fn tells_that_a_file_is_none_first(rt: HostRuntime) -> Result<(), Fail> {
-    expect(rt.alloc(), &NO_FILE)
-}
 
 static STREAMS: [(Step, &str); 5] = [
     (Step::Queue(1), ""),
@@ -339,11 +317,6 @@ fn refuses_settings(rt: HostRuntime) -> Result<(), Fail> {
 
 static NOWHERE: [(Step, &str); 1] = [(Step::Check, "cq: no queue here")];
 
-#[test]
-fn tells_where_no_queue_is(rt: HostRuntime) -> Result<(), Fail> {
-    expect(rt.alloc(), &NOWHERE)
-}
-
 /// A queue with "hello" in cycle 0 and "a" in cycle 1.
 const TWO_CYCLES: &[Step] = &[
     Step::Queue(4),
@@ -371,11 +344,6 @@ static FAILING_READ: Failing = Failing {
     writes: false,
 };
 
-#[test]
-fn read_passes_each_folder_fault_on(rt: HostRuntime) -> Result<(), Fail> {
-    expect_failing(rt.alloc(), &FAILING_READ)
-}
-
 static FAILING_CHECK: Failing = Failing {
     before: TWO_CYCLES,
     step: Step::Check,
@@ -383,11 +351,6 @@ static FAILING_CHECK: Failing = Failing {
     table: READER_FAULTS,
     writes: false,
 };
-
-#[test]
-fn check_passes_each_folder_fault_on(rt: HostRuntime) -> Result<(), Fail> {
-    expect_failing(rt.alloc(), &FAILING_CHECK)
-}
 
 static FAILING_DUMP: Failing = Failing {
     before: TWO_CYCLES,
@@ -409,7 +372,9 @@ static FAILING_DUMP: Failing = Failing {
 };
 
 #[test]
-fn dump_passes_each_folder_fault_on(rt: HostRuntime) -> Result<(), Fail> {
+fn readers_pass_each_folder_fault_on(rt: HostRuntime) -> Result<(), Fail> {
+    expect_failing(rt.alloc(), &FAILING_READ)?;
+    expect_failing(rt.alloc(), &FAILING_CHECK)?;
     expect_failing(rt.alloc(), &FAILING_DUMP)
 }
 
@@ -503,7 +468,10 @@ static REFUSED: [(Step, &str); 9] = [
 ];
 
 #[test]
-fn leaves_the_folder_after_a_refusal(rt: HostRuntime) -> Result<(), Fail> {
+fn the_first_fault_of_commands_is_said(rt: HostRuntime) -> Result<(), Fail> {
+    expect(rt.alloc(), &NO_CONFIG)?;
+    expect(rt.alloc(), &NO_FILE)?;
+    expect(rt.alloc(), &NOWHERE)?;
     expect(rt.alloc(), &REFUSED)
 }
 
@@ -572,10 +540,10 @@ fn said_beside(
 
 /// What `check`, `read` and `write` say over a folder, with a bar between.
 fn said_apart<F: Folder>(alloc: Global, folder: &mut F) -> Result<String, FolderFault> {
-    let checked = said_at(alloc, folder, &Step::Check)?;
-    let read = said_at(alloc, folder, &Step::Read(false, None))?;
-    let written = said_at(alloc, folder, &Step::Write(0, b""))?;
-    Ok(format!(in alloc; "{checked}|{read}|{written}")?)
+    let mut said = said_at(alloc, folder, &Step::Check)?;
+    push_said_apart(alloc, folder, &Step::Read(false, None), &mut said)?;
+    push_said_apart(alloc, folder, &Step::Write(0, b""), &mut said)?;
+    Ok(said)
 }
 
 #[test]

@@ -65,9 +65,9 @@ const OF_HOURS: &[u8] =
 const AT_10: &[u8] =
     b"cq 1\nroll daily\nepoch 0\ncells 64\ncount 8\nspacing 1\ncycles 4\nname reader 10\n";
 
-/// What stays: the floor and the positions, also one that no queue can have, messages that fill a cycle of 64 cells, images
-/// without messages, and files that are none of the queue's.
-static STAYS: [(&[Step], &str); 5] = [
+static STAYS: [(&[Step], &str); 9] = [
+    // What stays: the floor and the positions, also one that no queue can have, messages that fill a cycle of 64
+    // cells, images without messages, and files that are none of the queue's.
     (
         &[
             Step::Put("queue.cqc", OF_HOURS),
@@ -140,16 +140,8 @@ static STAYS: [(&[Step], &str); 5] = [
         "cq 2\nroll daily\nepoch 0\ncells 67\ncount 8\nspacing 1\ncycles 4\nname reader 0\n\
 cq 2\nroll daily\nepoch 0\ncells 67\ncount 8\nspacing 1\ncycles 4\nname reader 0\nx",
     ),
-];
-
-#[test]
-fn keeps_what_a_queue_holds(rt: HostRuntime) -> Result<(), Fail> {
-    expect_each(rt.alloc(), &STAYS)
-}
-
-/// An image of version 2 in a folder of version 1: with three cells more it is accepted, and otherwise its first
-/// fault is reported.
-static MIXED: [(&[Step], &str); 4] = [
+    // An image of version 2 in a folder of version 1: with three cells more it is accepted, and otherwise its
+    // first fault is reported.
     (
         &[
             Step::Init("daily", 0, 67, 4, &["reader"]),
@@ -195,8 +187,8 @@ static MIXED: [(&[Step], &str); 4] = [
 ];
 
 #[test]
-fn goes_on_where_images_are_of_version_2(rt: HostRuntime) -> Result<(), Fail> {
-    expect_each(rt.alloc(), &MIXED)
+fn keeps_what_a_queue_holds(rt: HostRuntime) -> Result<(), Fail> {
+    expect_each(rt.alloc(), &STAYS)
 }
 
 /// A cycle has at most 1,048,576 cells, and all cycles have at most 4,194,304. With three cells more they are within

@@ -35,6 +35,18 @@ fn said_outside(
     said(alloc, done, output.text.as_slice())
 }
 
+/// What the order that the arguments of a line are writes over a folder.
+fn line_said(
+    alloc: Global,
+    folder: &mut WatchedFolder<'_>,
+    is_entered: &Cell<bool>,
+    line: &str,
+    left: &[u8],
+) -> Result<String, Fail> {
+    let order = order_of(alloc, line)?;
+    Ok(said_outside(alloc, folder, is_entered, &order, left)?)
+}
+
 /// Adds to a text what commands say in turn other than the table wants, with the places.
 fn push_missed_rows(
     alloc: Global,
@@ -44,8 +56,7 @@ fn push_missed_rows(
     text: &mut String,
 ) -> Result<(), Fail> {
     for (place, &(words, input, want)) in table.iter().enumerate() {
-        let order = order_of(alloc, words)?;
-        let said = said_outside(alloc, folder, is_entered, &order, input)?;
+        let said = line_said(alloc, folder, is_entered, words, input)?;
         push_missed(alloc, text, place, said.as_str(), want)?;
     }
     Ok(())

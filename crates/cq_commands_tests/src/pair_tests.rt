@@ -72,8 +72,8 @@ const FAULTY_FIRST: &[Step] = &[
     Step::Put("19700102.cqi", b""),
 ];
 
-/// Of the folder, of `queue.cqc` and of the names of images.
-static OPENING: [Pair; 9] = [
+static OPENING: [Pair; 17] = [
+    // Of the folder, of `queue.cqc` and of the names of images.
     Pair {
         before: &[Step::Put("zzz.cqi", b"")],
         failing: 1,
@@ -147,15 +147,7 @@ static OPENING: [Pair; 9] = [
         step: Step::Read(false, None),
         want: "cq: zzz.cqi: bad cycle name",
     },
-];
-
-#[test]
-fn the_configuration_comes_before_the_images(rt: HostRuntime) -> Result<(), Fail> {
-    expect_first(rt.alloc(), &OPENING)
-}
-
-/// Of images, their ends, and what they hold together.
-static IMAGES: [Pair; 8] = [
+    // Of images, their ends, and what they hold together.
     Pair {
         before: &[
             Step::Queue(4),
@@ -234,12 +226,12 @@ static IMAGES: [Pair; 8] = [
 ];
 
 #[test]
-fn images_come_in_the_order_of_their_names(rt: HostRuntime) -> Result<(), Fail> {
-    expect_first(rt.alloc(), &IMAGES)
+fn the_configuration_comes_before_the_images(rt: HostRuntime) -> Result<(), Fail> {
+    expect_first(rt.alloc(), &OPENING)
 }
 
-/// Of `init`.
-static INIT: [Pair; 7] = [
+static INIT: [Pair; 19] = [
+    // Of `init`.
     Pair {
         before: &[Step::Queue(4)],
         failing: 1,
@@ -282,15 +274,7 @@ static INIT: [Pair; 7] = [
         step: Step::Init("daily", 0, 64, 0, &[]),
         want: "cq: BadConfig",
     },
-];
-
-#[test]
-fn init_tells_the_first(rt: HostRuntime) -> Result<(), Fail> {
-    expect_first(rt.alloc(), &INIT)
-}
-
-/// Of `check`: of the files of all images before what one holds.
-static CHECK: [Pair; 6] = [
+    // Of `check`: of the files of all images before what one holds.
     Pair {
         before: &[Step::Put("zzz.cqi", b"")],
         failing: 0,
@@ -339,15 +323,7 @@ static CHECK: [Pair; 6] = [
         step: Step::Unprinted(Unprinted::Check),
         want: "cq: write fault",
     },
-];
-
-#[test]
-fn check_tells_the_first(rt: HostRuntime) -> Result<(), Fail> {
-    expect_first(rt.alloc(), &CHECK)
-}
-
-/// Of `dump`.
-static DUMP: [Pair; 6] = [
+    // Of `dump`.
     Pair {
         before: &[Step::Put("queue.cqc", b"")],
         failing: 0,
@@ -393,12 +369,12 @@ static DUMP: [Pair; 6] = [
 ];
 
 #[test]
-fn dump_tells_the_first(rt: HostRuntime) -> Result<(), Fail> {
-    expect_first(rt.alloc(), &DUMP)
+fn init_check_and_dump_say_the_first(rt: HostRuntime) -> Result<(), Fail> {
+    expect_first(rt.alloc(), &INIT)
 }
 
-/// Of `read`.
-static READ: [Pair; 3] = [
+static READ: [Pair; 15] = [
+    // Of `read`.
     Pair {
         before: &[],
         failing: 1,
@@ -417,15 +393,7 @@ static READ: [Pair; 3] = [
         step: Step::Unprinted(Unprinted::Read),
         want: "cq: BadContents",
     },
-];
-
-#[test]
-fn read_tells_the_first(rt: HostRuntime) -> Result<(), Fail> {
-    expect_first(rt.alloc(), &READ)
-}
-
-/// Of `take`.
-static TAKE: [Pair; 3] = [
+    // Of `take`.
     Pair {
         before: TOO_MANY,
         failing: 0,
@@ -444,22 +412,7 @@ static TAKE: [Pair; 3] = [
         step: Step::Unprinted(Unprinted::Take),
         want: "cq: file fault: queue.cqc",
     },
-];
-
-#[test]
-fn take_tells_the_first(rt: HostRuntime) -> Result<(), Fail> {
-    expect_first(rt.alloc(), &TAKE)
-}
-
-/// More cycles than the settings of version 1 allow.
-const TOO_MANY_OLD: &[Step] = &[
-    Step::OldQueue(1),
-    Step::Put("19700101.cqi", ENDED),
-    Step::Put("19700102.cqi", b""),
-];
-
-/// Of a folder of version 1 that is to be changed: of `queue.cqc` before its version, and of all else after it.
-static OLD: [Pair; 9] = [
+    // Of a folder of version 1 that is to be changed: of `queue.cqc` before its version, and of all else after it.
     Pair {
         before: &[Step::OldQueue(4)],
         failing: 2,
@@ -517,9 +470,16 @@ static OLD: [Pair; 9] = [
 ];
 
 #[test]
-fn the_version_comes_behind_the_configuration(rt: HostRuntime) -> Result<(), Fail> {
-    expect_first(rt.alloc(), &OLD)
+fn read_and_take_say_the_first(rt: HostRuntime) -> Result<(), Fail> {
+    expect_first(rt.alloc(), &READ)
 }
+
+/// More cycles than the settings of version 1 allow.
+const TOO_MANY_OLD: &[Step] = &[
+    Step::OldQueue(1),
+    Step::Put("19700101.cqi", ENDED),
+    Step::Put("19700102.cqi", b""),
+];
 
 /// Of `migrate`, which minds no contents that a queue cannot hold.
 static MIGRATE: [Pair; 12] = [

@@ -387,6 +387,17 @@ pub fn push_said<F: Folder>(
     Ok(())
 }
 
+/// Adds a bar to a text, and after it what a step says.
+pub fn push_said_apart<F: Folder>(
+    alloc: Global,
+    folder: &mut F,
+    step: &Step,
+    text: &mut String,
+) -> Result<(), FolderFault> {
+    text.push_str("|")?;
+    Ok(text.push_str(said_at(alloc, folder, step)?.as_str())?)
+}
+
 /// What all these steps say over a new folder, one after the other.
 pub fn said_anew(alloc: Global, steps: &[Step]) -> Result<String, FolderFault> {
     let mut folder = MemoryFolder::new(alloc);

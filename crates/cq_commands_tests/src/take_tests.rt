@@ -22,11 +22,6 @@ static ONCE: [(Step, &str); 8] = [
     (Step::Take("nobody"), "cq: NoSuchName"),
 ];
 
-#[test]
-fn takes_each_message_once(rt: HostRuntime) -> Result<(), Fail> {
-    expect(rt.alloc(), &ONCE)
-}
-
 static NOTHING: [(Step, &str); 4] = [
     (Step::Queue(4), ""),
     (Step::Take("reader"), "not yet\n"),
@@ -36,11 +31,6 @@ static NOTHING: [(Step, &str); 4] = [
         "cq 2\nroll daily\nepoch 0\ncells 64\ncount 8\nspacing 1\ncycles 4\nname reader 0\n",
     ),
 ];
-
-#[test]
-fn takes_nothing_where_nothing_is(rt: HostRuntime) -> Result<(), Fail> {
-    expect(rt.alloc(), &NOTHING)
-}
 
 /// A queue of four cycles whose name is at position 1.
 const AT_1: &[u8] =
@@ -150,7 +140,9 @@ static TWO_NAMES: [(Step, &str); 18] = [
 ];
 
 #[test]
-fn takes_by_two_names_over_several_days(rt: HostRuntime) -> Result<(), Fail> {
+fn takes_each_message_once_by_a_name(rt: HostRuntime) -> Result<(), Fail> {
+    expect(rt.alloc(), &ONCE)?;
+    expect(rt.alloc(), &NOTHING)?;
     expect(rt.alloc(), &TWO_NAMES)
 }
 

@@ -58,9 +58,9 @@ const FLOOR_1: &[u8] =
 const AT_10: &[u8] =
     b"cq 1\nroll daily\nepoch 0\ncells 64\ncount 8\nspacing 1\ncycles 4\nname reader 10\n";
 
-/// What is read of version 1: messages that fit into no cycle of version 2, those at or above the floor, and none if
-/// no queue can hold what the images do.
-static READ: [(&[Step], &str); 4] = [
+static READ: [(&[Step], &str); 10] = [
+    // What is read of version 1: messages that fit into no cycle of version 2, those at or above the floor, and
+    // none if no queue can hold what the images do.
     (
         &[
             Step::OldQueue(4),
@@ -95,16 +95,8 @@ static READ: [(&[Step], &str); 4] = [
         ],
         "cq: BadContents",
     ),
-];
-
-#[test]
-fn reads_folders_of_version_1(rt: HostRuntime) -> Result<(), Fail> {
-    expect_each(rt.alloc(), &READ)
-}
-
-/// An image of version 2 in a folder of version 1, and one of version 1 in a folder of version 2: whole, and cut off
-/// after the first header.
-static OTHER: [(&[Step], &str); 4] = [
+    // An image of version 2 in a folder of version 1, and one of version 1 in a folder of version 2: whole, and
+    // cut off after the first header.
     (
         &[
             Step::Queue(4),
@@ -150,15 +142,7 @@ cq: 19700101.cqi: WrongStore at 0cq: 19700101.cqi: WrongStore at 0cq: 19700101.c
         ],
         "19700101.cqi: WrongStore at 0\ncq: images at fault",
     ),
-];
-
-#[test]
-fn takes_no_image_of_the_other_version(rt: HostRuntime) -> Result<(), Fail> {
-    expect_each(rt.alloc(), &OTHER)
-}
-
-/// An image without messages is the same in both versions.
-static SAME: [(&[Step], &str); 2] = [
+    // An image without messages is the same in both versions.
     (
         &[
             Step::OldQueue(4),
@@ -184,6 +168,6 @@ static SAME: [(&[Step], &str); 2] = [
 ];
 
 #[test]
-fn takes_an_image_without_messages(rt: HostRuntime) -> Result<(), Fail> {
-    expect_each(rt.alloc(), &SAME)
+fn reads_folders_and_images_of_either_version(rt: HostRuntime) -> Result<(), Fail> {
+    expect_each(rt.alloc(), &READ)
 }

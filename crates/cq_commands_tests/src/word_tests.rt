@@ -57,8 +57,8 @@ fn expect_help(alloc: Global, table: &[(&str, &str)]) -> Result<(), Fail> {
     Ok(())
 }
 
-/// Arguments of no command, of `echo` and of `cycle`, each line with what it is.
-static WORDS: [(&str, &str); 13] = [
+static WORDS: [(&str, &str); 32] = [
+    // Arguments of no command, of `echo` and of `cycle`, each line with what it is.
     ("cq|echo", "Echo"),
     ("another name|echo", "Echo"),
     ("cq", "requires a subcommand"),
@@ -78,15 +78,7 @@ static WORDS: [(&str, &str); 13] = [
     ),
     ("cq|cycle|daily|0x0|0", "invalid value '0x0'"),
     ("cq|cycle|daily|0|0|0", "unexpected argument '0'"),
-];
-
-#[test]
-fn parses_words(rt: HostRuntime) -> Result<(), Fail> {
-    expect(rt.alloc(), &WORDS)
-}
-
-/// Arguments of `init`, each line with what it is.
-static NEW_QUEUES: [(&str, &str); 10] = [
+    // Arguments of `init`, each line with what it is.
     (
         "cq|init|q|hourly|1|2|3|4|5",
         "Init { folder: \"q\", settings: InitSettings { roll: \"hourly\", epoch: 1, cells: 2, index_count: 3, \
@@ -117,11 +109,24 @@ static NEW_QUEUES: [(&str, &str); 10] = [
         "cq|init|--help",
         "Usage: cq init <DIR> <ROLL> <EPOCH> <CELLS> <COUNT> <SPACING> <CYCLES> [NAMES]...",
     ),
+    // Arguments of `race`, each line with what it is.
+    ("cq|race|1", "Race { messages: 1 }"),
+    ("cq|race|1000", "Race { messages: 1000 }"),
+    ("cq|race|007", "Race { messages: 7 }"),
+    ("cq|race|0", "invalid value '0' for '<MESSAGES>'"),
+    ("cq|race|1001", "invalid value '1001' for '<MESSAGES>'"),
+    (
+        "cq|race|4294967297",
+        "invalid value '4294967297' for '<MESSAGES>'",
+    ),
+    ("cq|race|ten", "invalid value 'ten' for '<MESSAGES>'"),
+    ("cq|race", "<MESSAGES>"),
+    ("cq|race|1|2", "unexpected argument '2'"),
 ];
 
 #[test]
-fn parses_the_words_of_a_new_queue(rt: HostRuntime) -> Result<(), Fail> {
-    expect(rt.alloc(), &NEW_QUEUES)
+fn parses_words(rt: HostRuntime) -> Result<(), Fail> {
+    expect(rt.alloc(), &WORDS)
 }
 
 /// Arguments of `read`, each line with what it is.
@@ -254,29 +259,8 @@ fn parses_the_words_of_other_commands(rt: HostRuntime) -> Result<(), Fail> {
     expect(rt.alloc(), &OTHERS)
 }
 
-/// Arguments of `race`, each line with what it is.
-static RACES: [(&str, &str); 9] = [
-    ("cq|race|1", "Race { messages: 1 }"),
-    ("cq|race|1000", "Race { messages: 1000 }"),
-    ("cq|race|007", "Race { messages: 7 }"),
-    ("cq|race|0", "invalid value '0' for '<MESSAGES>'"),
-    ("cq|race|1001", "invalid value '1001' for '<MESSAGES>'"),
-    (
-        "cq|race|4294967297",
-        "invalid value '4294967297' for '<MESSAGES>'",
-    ),
-    ("cq|race|ten", "invalid value 'ten' for '<MESSAGES>'"),
-    ("cq|race", "<MESSAGES>"),
-    ("cq|race|1|2", "unexpected argument '2'"),
-];
-
-#[test]
-fn parses_the_words_of_a_race(rt: HostRuntime) -> Result<(), Fail> {
-    expect(rt.alloc(), &RACES)
-}
-
-/// What the help of `race` says.
-static RACE_HELP: [(&str, &str); 4] = [
+static LIMITS: [(&str, &str); 28] = [
+    // What the help of `race` says.
     ("race", "Usage: cq race <MESSAGES>"),
     (
         "race",
@@ -289,15 +273,7 @@ static RACE_HELP: [(&str, &str); 4] = [
          the readers 0 and 1, where K is how many messages the reader read.\n",
     ),
     ("race", "Example:\n  cq race 1000\n"),
-];
-
-#[test]
-fn help_says_what_a_race_prints(rt: HostRuntime) -> Result<(), Fail> {
-    expect_help(rt.alloc(), &RACE_HELP)
-}
-
-/// What the help of `init` says of limits.
-static INIT_HELP: [(&str, &str); 9] = [
+    // What the help of `init` says of limits.
     (
         "init",
         " <DIR>       The folder of the queue, which is there already\n",
@@ -334,15 +310,7 @@ static INIT_HELP: [(&str, &str); 9] = [
         "init",
         " each of 1 to 32 bytes of A-Z, a-z, 0-9, '_', '-' and '.'\n",
     ),
-];
-
-#[test]
-fn help_names_the_limits_of_a_new_queue(rt: HostRuntime) -> Result<(), Fail> {
-    expect_help(rt.alloc(), &INIT_HELP)
-}
-
-/// What the help of other commands says of limits.
-static LIMITS: [(&str, &str); 15] = [
+    // What the help of other commands says of limits.
     (
         "echo",
         "Input: at most 129,000 bytes, in at most 1,000 lines of 1 to 128 bytes\n",
@@ -403,7 +371,7 @@ static LIMITS: [(&str, &str); 15] = [
 ];
 
 #[test]
-fn help_names_the_limits_of_other_words(rt: HostRuntime) -> Result<(), Fail> {
+fn help_names_limits_and_what_is_printed(rt: HostRuntime) -> Result<(), Fail> {
     expect_help(rt.alloc(), &LIMITS)
 }
 
