@@ -3,6 +3,7 @@
 ghost use Rattle.std.specs.Prelude.{◌≡◌, None};
 ghost use Rattle.cq_words.specs.Values.{IsOf};
 
+use crate::new_queues::{new_endpoint, two_endpoints};
 use cq_append::Appender;
 use cq_callers::{
     append_beside, append_then_read, append_written, copied, drop_old, next_message, read_in,
@@ -55,6 +56,14 @@ fn a_message_is_sent_by_an_endpoint(rt: HostRuntime) -> Result<(), Fail> {
     expect_text(answer_text(alloc, read)?, "0 hello")
 }
 
+/// What an endpoint reads next into a buffer.
+fn push_read(endpoint: &mut Endpoint, room: &mut [u8], out: &mut String) -> Result<(), Fail> {
+    match read_in(endpoint, room) {
+        Some(message) => Ok(out.push_str(str::from_utf8(message)?)?),
+        None => Ok(out.push_str("none ")?),
+    }
+}
+
 /// What an endpoint reads next into a buffer of this many bytes.
 fn push_read_in(
     alloc: Global,
@@ -63,10 +72,7 @@ fn push_read_in(
     out: &mut String,
 ) -> Result<(), Fail> {
     let mut room = Vec::from_elem(alloc, 0u8, size)?;
-    match read_in(endpoint, room.as_mut_slice()) {
-        Some(message) => Ok(out.push_str(str::from_utf8(message)?)?),
-        None => Ok(out.push_str("none ")?),
-    }
+    push_read(endpoint, room.as_mut_slice(), out)
 }
 
 /// What an endpoint that appended a message reads into buffers of these lengths in bytes, one after the other.
@@ -81,7 +87,7 @@ fn rooms_text(alloc: Global, endpoint: &mut Endpoint, sizes: &[usize]) -> Result
 
 /// The same of a new queue.
 fn read_in_rooms(alloc: Global, sizes: &[usize]) -> Result<String, Fail> {
-    let mut endpoint = Endpoint::create(alloc, small_config(alloc, 4)?, 0)?;
+    let mut endpoint = new_endpoint(alloc)?;
     rooms_text(alloc, &mut endpoint, sizes)
 }
 
@@ -92,8 +98,7 @@ fn a_message_is_read_into_a_room(rt: HostRuntime) -> Result<(), Fail> {
 
 /// Whether two threads append and read, with an endpoint of a new queue each.
 fn worked_in_threads<R: Threads + Sync>(rt: &R, alloc: Global) -> Result<(bool, bool), Fail> {
-    let mut one = Endpoint::create(alloc, small_config(alloc, 4)?, 0)?;
-    let two = one.split()?;
+    let (one, two) = two_endpoints(alloc)?;
     Ok(work_in_threads(rt, alloc, one, two, 0))
 }
 
@@ -119,13 +124,20 @@ fn appended<R: Threads + Wait + Sync>(
     (one, two, index)
 }
 
-/// What is taken from a queue by the name "reader", and what is read first.
+/// What a tailer takes from a queue by the name "reader".
+fn taken_text(alloc: Global, queue: &Queue, tailer: &mut Tailer) -> Result<String, Fail>
+    requires { IsOf queue.now tailer.old.caller }
+{
+    let taken = take_next(alloc, queue, tailer, "reader")?;
+    answer_text(alloc, taken)
+}
+
+/// What a tailer that is split off a caller takes first.
 fn taken(alloc: Global, queue: &Queue, caller: &mut Caller) -> Result<String, Fail>
     requires { IsOf queue.now caller.old }
 {
     let mut tailer = Tailer::new(queue.split(caller));
-    let taken = take_next(alloc, queue, &mut tailer, "reader")?;
-    answer_text(alloc, taken)
+    taken_text(alloc, queue, &mut tailer)
 }
 
 /// What a tailer reads next, as text.
@@ -207,14 +219,21 @@ fn a_queue_is_opened_again(rt: HostRuntime) -> Result<(), Fail> {
     expect_text(new_queue_again(rt.alloc())?, "0 hello")
 }
 
+/// What is read first of a copy that a tailer makes.
+fn copy_text(alloc: Global, queue: &Queue, tailer: &mut Tailer) -> Result<String, Fail>
+    requires { IsOf queue.now tailer.old.caller }
+{
+    let (copy, caller) = copied(alloc, small_config(alloc, 4)?, queue, tailer)?;
+    first_text(alloc, &copy, caller)
+}
+
 /// What is read first of a copy of a queue.
 fn read_copy(alloc: Global, queue: &Queue, caller: Caller) -> Result<String, Fail>
     requires of { IsOf queue.now caller }
     requires claim { caller.view.claim ≡ None }
 {
     let mut tailer = Tailer::new(caller);
-    let (copy, caller) = copied(alloc, small_config(alloc, 4)?, queue, &mut tailer)?;
-    first_text(alloc, &copy, caller)
+    copy_text(alloc, queue, &mut tailer)
 }
 
 /// The same of a new queue with one message.
@@ -229,27 +248,41 @@ fn a_queue_is_copied(rt: HostRuntime) -> Result<(), Fail> {
     expect_text(new_queue_copy(rt.alloc())?, "0 hello")
 }
 
-/// Appends "old" and, in a later cycle, "new", by an appender that is split off a caller.
+/// Appends "old" and, in a later cycle, "new".
+fn append_both(queue: &Queue, appender: &mut Appender) -> Result<(), Fail>
+    requires { IsOf queue.now appender.old }
+{
+    let _old = appender.append(queue, 0, b"old")?;
+    let _new = appender.append(queue, 5 * DAY, b"new")?;
+    Ok(())
+}
+
+/// The same by an appender that is split off a caller.
 fn append_old_and_new(queue: &Queue, caller: &mut Caller) -> Result<(), Fail>
     requires { IsOf queue.now caller.old }
     ensures of { IsOf queue.now caller.new }
     ensures claim { caller.new.view.claim ≡ caller.old.view.claim }
 {
     let mut appender = Appender::new(queue.split(caller));
-    let _old = appender.append(queue, 0, b"old")?;
-    let _new = appender.append(queue, 5 * DAY, b"new")?;
-    Ok(())
+    append_both(queue, &mut appender)
 }
 
 /// Drops all cycles but the last of a queue, and reads what comes first then.
+fn drop_and_read(alloc: Global, queue: &Queue, tailer: &mut Tailer) -> Result<(u32, String), Fail>
+    requires { IsOf queue.now tailer.old.caller }
+{
+    let floor = drop_old(queue, tailer, 0);
+    tailer.to_start();
+    Ok((floor, next_text(alloc, queue, tailer)?))
+}
+
+/// The same by a tailer that a caller becomes.
 fn read_behind(alloc: Global, queue: &Queue, caller: Caller) -> Result<(u32, String), Fail>
     requires of { IsOf queue.now caller }
     requires claim { caller.view.claim ≡ None }
 {
     let mut tailer = Tailer::new(caller);
-    let floor = drop_old(queue, &mut tailer, 0);
-    tailer.to_start();
-    Ok((floor, next_text(alloc, queue, &mut tailer)?))
+    drop_and_read(alloc, queue, &mut tailer)
 }
 
 /// The same of a new queue with a message in each of two cycles.

@@ -2,7 +2,7 @@
 use crate::calls::Call;
 use crate::new_queues::new_endpoint;
 use crate::room_calls::Step;
-use cq_endpoint::{AppendFault, Direction, Endpoint};
+use cq_endpoint::{Direction, Endpoint};
 use cq_fixtures::{DAY, expect_text};
 use std::alloc::Global;
 use std::test::Fail;
@@ -14,7 +14,7 @@ struct Rooms {
     answers: &'static str,
 }
 
-static ROOMS: [Rooms; 6] = [
+static ROOMS: [Rooms; 7] = [
     // Buffers that are too small, of the very length, and longer, both ways. If the buffer was too small, it reads
     // the same again.
     Rooms {
@@ -122,6 +122,36 @@ BeforeStart [hello.]; ",
         answers: "0; 1; 4294967296; 4294967297; 4294967298; turned; 4294967297 cd; 4294967296 1 [c.]; 1 2 [ab]; 0 1 [a.]; \
 BeforeStart [..]; ",
     },
+    // As many messages as a cycle holds, the next one always a byte longer, backwards into one length, with places that
+    // are kept and that are not.
+    Rooms {
+        steps: &[
+            Step::Plain(Call::Append(0, "a")),
+            Step::Plain(Call::Append(0, "ab")),
+            Step::Plain(Call::Append(0, "abc")),
+            Step::Plain(Call::Append(0, "abcd")),
+            Step::Plain(Call::Append(0, "abcde")),
+            Step::Plain(Call::Append(0, "abcdef")),
+            Step::Plain(Call::ToEnd),
+            Step::Plain(Call::Turn(Direction::Backwards)),
+            Step::NextInto(6),
+            Step::Plain(Call::Stands),
+            Step::NextInto(6),
+            Step::Plain(Call::Stands),
+            Step::NextInto(6),
+            Step::Plain(Call::Stands),
+            Step::NextInto(6),
+            Step::Plain(Call::Stands),
+            Step::NextInto(6),
+            Step::Plain(Call::Stands),
+            Step::NextInto(6),
+            Step::Plain(Call::Stands),
+            Step::NextInto(6),
+            Step::Plain(Call::Stands),
+        ],
+        answers: "0; 1; 2; 3; 4; 5; 6; turned; 5 6 [abcdef]; (5, 6); 4 5 [abcde.]; (4, 6); 3 4 [abcd..]; (3, 6); \
+2 3 [abc...]; (2, 6); 1 2 [ab....]; (1, 6); 0 1 [a.....]; (0, 6); BeforeStart [......]; (0, 6); ",
+    },
     // If the buffer is too small, the name stays.
     Rooms {
         steps: &[
@@ -161,41 +191,4 @@ fn endpoints_read_into_rooms(rt: HostRuntime) -> Result<(), Fail> {
         expect_text(answers(alloc, rooms.steps)?, rooms.answers)?;
     }
     Ok(())
-}
-
-/// Appends as many messages as a cycle holds, the next one always a byte longer.
-fn append_longer(endpoint: &mut Endpoint) -> Result<(), AppendFault> {
-    for text in ["a", "ab", "abc", "abcd", "abcde", "abcdef"] {
-        let _index = endpoint.append(0, text.as_bytes())?;
-    }
-    Ok(())
-}
-
-/// The lengths that an endpoint reads backwards into one buffer, of as many messages as a cycle holds, with places
-/// that are kept and that are not.
-fn lengths_of(alloc: Global, endpoint: &mut Endpoint) -> Result<String, Fail> {
-    append_longer(endpoint)?;
-    let _end = endpoint.to_end();
-    endpoint.direction(Direction::Backwards);
-    let mut out = String::new(alloc);
-    for _ in 0..7 {
-        Step::NextInto(6).push_answer(alloc, endpoint, &mut out)?;
-        Step::Plain(Call::Stands).push_answer(alloc, endpoint, &mut out)?;
-    }
-    Ok(out)
-}
-
-/// The same of an endpoint of a new queue.
-fn lengths(alloc: Global) -> Result<String, Fail> {
-    let mut endpoint = new_endpoint(alloc)?;
-    lengths_of(alloc, &mut endpoint)
-}
-
-#[test]
-fn messages_are_read_backwards_one_after_the_other(rt: HostRuntime) -> Result<(), Fail> {
-    expect_text(
-        lengths(rt.alloc())?,
-        "5 6 [abcdef](5, 6)4 5 [abcde.](4, 6)3 4 [abcd..](3, 6)2 3 [abc...](2, 6)\
-1 2 [ab....](1, 6)0 1 [a.....](0, 6)BeforeStart [......](0, 6)",
-    )
 }
