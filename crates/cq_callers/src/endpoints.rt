@@ -13,8 +13,18 @@ pub fn sent(
     bytes: &[u8],
 ) -> Result<Option<(Index, Message)>, Fail> {
     let mut one = Endpoint::create(alloc, config, moment)?;
+    sent_on(alloc, &mut one, moment, bytes)
+}
+
+/// Appends a message by an endpoint, and reads what comes first by another that is split off from it.
+fn sent_on(
+    alloc: Global,
+    one: &mut Endpoint,
+    moment: u64,
+    bytes: &[u8],
+) -> Result<Option<(Index, Message)>, Fail> {
     let mut other = one.split()?;
-    pass_on(alloc, &mut one, &mut other, moment, bytes)
+    pass_on(alloc, one, &mut other, moment, bytes)
 }
 
 /// Appends a message by one endpoint, and reads the next one by another.
