@@ -81,6 +81,16 @@ fn missed_in_new(
     Ok(missed)
 }
 
+/// The same if the steps remove that folder.
+fn missed_in_gone(
+    rt: &HostRuntime,
+    path: &str,
+    steps: &'static [(Step, &'static str)],
+) -> Result<String, Fail> {
+    fs::create_dir(rt, path)?;
+    missed(rt, path, steps)
+}
+
 /// The same in the folder at a path, which is there or not.
 fn missed(
     rt: &HostRuntime,
@@ -384,11 +394,6 @@ static WRITTEN: [(Step, &str); 11] = [
     (Step::Listed, "a b "),
 ];
 
-#[test]
-fn a_real_folder_keeps_its_files(rt: HostRuntime) -> Result<(), Fail> {
-    expect_steps(&rt, "kept", &WRITTEN)
-}
-
 /// All names of a folder are listed, however many there are.
 static MANY: [(Step, &str); 5] = [
     (Step::Many(150), ""),
@@ -423,11 +428,6 @@ static SAVED: [(Step, &str); 13] = [
     (Step::Listed, "1.cqi queue.cqc "),
 ];
 
-#[test]
-fn files_are_saved_together(rt: HostRuntime) -> Result<(), Fail> {
-    expect_steps(&rt, "saved", &SAVED)
-}
-
 /// A save was stopped between its renames: a reader sees all of it, and any command that is alone finishes it. A part
 /// that no record names is of a save that was stopped before, and is removed; a file of the user's stays.
 static STOPPED: [(Step, &str); 20] = [
@@ -458,11 +458,6 @@ static STOPPED: [(Step, &str); 20] = [
     (Step::Read("4.cqi"), "Device"),
     (Step::End, ""),
 ];
-
-#[test]
-fn a_save_that_was_stopped_is_finished(rt: HostRuntime) -> Result<(), Fail> {
-    expect_steps(&rt, "stopped", &STOPPED)
-}
 
 /// A record that is none keeps everybody out, and changes nothing.
 static FAULTY: [(Step, &str); 31] = [
@@ -508,11 +503,6 @@ static FAULTY: [(Step, &str); 31] = [
     (Step::Listed, "1.cqi.9.part queue.save "),
 ];
 
-#[test]
-fn a_faulty_record_is_a_fault(rt: HostRuntime) -> Result<(), Fail> {
-    expect_steps(&rt, "faulty", &FAULTY)
-}
-
 /// A link or a folder in the place of a file is neither read nor replaced, and a link in the place of a part is not
 /// followed.
 static LINKS: [(Step, &str); 15] = [
@@ -533,11 +523,6 @@ static LINKS: [(Step, &str); 15] = [
     (Step::Listed, "1.cqi 2.cqi 3.cqi 4.cqi target "),
 ];
 
-#[test]
-fn links_are_not_followed(rt: HostRuntime) -> Result<(), Fail> {
-    expect_steps(&rt, "links", &LINKS)
-}
-
 /// What a queue's files may be read and written by stays.
 static MODE: [(Step, &str); 5] = [
     (Step::Begin(Access::Alone), ""),
@@ -548,7 +533,10 @@ static MODE: [(Step, &str); 5] = [
 ];
 
 #[test]
-fn a_file_keeps_its_mode(rt: HostRuntime) -> Result<(), Fail> {
+fn a_real_folder_keeps_its_files(rt: HostRuntime) -> Result<(), Fail> {
+    expect_steps(&rt, "kept", &WRITTEN)?;
+    expect_steps(&rt, "saved", &SAVED)?;
+    expect_steps(&rt, "links", &LINKS)?;
     expect_steps(&rt, "mode", &MODE)
 }
 
@@ -632,7 +620,9 @@ movie.part queue.cqc queue.cqc..part queue.cqc.part queue.cqc7.part queue.save.o
 ];
 
 #[test]
-fn parts_alone_are_removed(rt: HostRuntime) -> Result<(), Fail> {
+fn what_a_stopped_save_left_is_finished_or_removed(rt: HostRuntime) -> Result<(), Fail> {
+    expect_steps(&rt, "stopped", &STOPPED)?;
+    expect_steps(&rt, "faulty", &FAULTY)?;
     expect_steps(&rt, "swept", &SWEPT)
 }
 
@@ -664,6 +654,5 @@ static GONE: [(Step, &str); 8] = [
 #[test]
 fn a_folder_that_is_gone_is_a_device_fault(rt: HostRuntime) -> Result<(), Fail> {
     let path = temporary_path(&rt, "gone")?;
-    fs::create_dir(&rt, path.as_str())?;
-    expect_text(missed(&rt, path.as_str(), &GONE)?, "")
+    expect_text(missed_in_gone(&rt, path.as_str(), &GONE)?, "")
 }

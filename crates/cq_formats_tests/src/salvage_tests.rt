@@ -66,16 +66,6 @@ fn every_beginning_is_saved(rt: HostRuntime) -> Result<(), Fail> {
     Ok(())
 }
 
-/// Of a queue of version 2 the messages of either version are saved.
-#[test]
-fn messages_of_either_version_are_saved(rt: HostRuntime) -> Result<(), Fail> {
-    let shape = Shape::new(64, 8, 1)?;
-    let first = changed(rt.alloc(), &HELLO, &[Change::Cut(113)])?;
-    expect_text(saved(rt.alloc(), 0, shape, &first)?, "hello Cut at 112")?;
-    let second = changed(rt.alloc(), &HELLO_OF_VERSION_2, &[Change::Cut(127)])?;
-    expect_text(saved(rt.alloc(), 0, shape, &second)?, "hello Cut at 124")
-}
-
 /// Fails if an image is saved other than wanted with the changes of a row.
 fn expect_saved(
     alloc: Global,
@@ -92,8 +82,9 @@ fn expect_saved(
 }
 
 /// The worked image with some bytes replaced, and what is saved of it.
-static CHANGED: [(&[Change], &str); 11] = [
+static CHANGED: [(&[Change], &str); 12] = [
     (&[], "hello whole"),
+    (&[Change::Cut(113)], "hello Cut at 112"),
     (&[Change::Patch(109, &[1])], "BadPadding at 109"),
     (
         &[Change::Patch(68, &[0, 0, 0, 0])],
@@ -125,9 +116,15 @@ static CHANGED: [(&[Change], &str); 11] = [
     (&[Change::Patch(12, &[1])], "WrongStore at 12"),
 ];
 
+/// The same of version 2.
+static CHANGED_OF_VERSION_2: [(&[Change], &str); 1] = [(&[Change::Cut(127)], "hello Cut at 124")];
+
+/// Of a queue of version 2 the messages of either version are saved.
 #[test]
-fn the_worked_image_is_saved_changed(rt: HostRuntime) -> Result<(), Fail> {
-    expect_saved(rt.alloc(), 0, Shape::new(64, 8, 1)?, &HELLO, &CHANGED)
+fn the_worked_image_of_either_version_is_saved_changed(rt: HostRuntime) -> Result<(), Fail> {
+    let (alloc, shape) = (rt.alloc(), Shape::new(64, 8, 1)?);
+    expect_saved(alloc, 0, shape, &HELLO, &CHANGED)?;
+    expect_saved(alloc, 0, shape, &HELLO_OF_VERSION_2, &CHANGED_OF_VERSION_2)
 }
 
 /// A cycle of nine messages, of which one more does not fit, and what is saved of it.

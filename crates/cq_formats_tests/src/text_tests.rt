@@ -135,6 +135,14 @@ const DUMP_OF_VERSION_2: &str = "00000000 40000024 store 2 0 8 1 64 0 86400000\n
 00000028 40000020 top 76 0 0 0 0 0 0 0\n0000004c 40000020 table 0 112 0 0 0 0 0 0 0\n\
 00000070 00000005 data 0 68656c6c6f\n0000007c c0000000 end\n";
 
+/// Fails if the records of images have other texts than a table wants.
+fn expect_dumps(alloc: Global, table: &[(&[u8], &str)]) -> Result<(), Fail> {
+    for &(bytes, want) in table {
+        expect_text(dumped(alloc, bytes)?, want)?;
+    }
+    Ok(())
+}
+
 /// The text of the records of an image of cycle 0 with 64 cells, in a queue whose cycles are days, or the fault.
 fn dumped(alloc: Global, bytes: &[u8]) -> Result<String, Fail> {
     match dump_text(alloc, 0, Shape::new(64, 8, 1)?, Roll::Daily, 0, bytes) {
@@ -145,7 +153,10 @@ fn dumped(alloc: Global, bytes: &[u8]) -> Result<String, Fail> {
 
 #[test]
 fn the_records_of_either_version_are_printed(rt: HostRuntime) -> Result<(), Fail> {
-    expect_text(dumped(rt.alloc(), &HELLO)?, DUMP)?;
-    expect_text(dumped(rt.alloc(), &HELLO_OF_VERSION_2)?, DUMP_OF_VERSION_2)?;
-    expect_text(dumped(rt.alloc(), &HELLO[..110])?, "Cut at 100")
+    let table: [(&[u8], &str); 3] = [
+        (&HELLO, DUMP),
+        (&HELLO_OF_VERSION_2, DUMP_OF_VERSION_2),
+        (&HELLO[..110], "Cut at 100"),
+    ];
+    expect_dumps(rt.alloc(), &table)
 }
