@@ -53,7 +53,8 @@ static SNAPSHOTS: [Life; 5] = [
         end: End::Dropped,
         answers: "0 a; 0[a;b;] ; at 1; 1 b; NotYet; ",
     },
-    // A snapshot that memory was refused to leaves all as it was: the next one gives the same, and the message is completed.
+    // A snapshot that memory was refused to leaves all as it was: the next one gives the same, and the message is
+    // completed.
     Life {
         cycles: 4,
         start: Start::New(0),
