@@ -1,4 +1,4 @@
-use Rattle.std.proofs.Common.{inl}
+use Rattle.std.proofs.Common.{inl, rules}
 use Rattle.linnetshelf.proofs.saving.stop.Goals as goal
 
 pub returns-in-Ok : goal.returns-in-Ok
@@ -7,3 +7,6 @@ returns-in-Ok c = rw c.in-Endpoint.is (inl (record {
   stops = c.in-Ok.ensures;
   recovers = c.recover.ensures;
 }))
+
+pub returns-in-Err : goal.returns-in-Err
+returns-in-Err c = search rules
