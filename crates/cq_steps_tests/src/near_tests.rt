@@ -4,9 +4,8 @@ ghost use Rattle.cq_words.specs.Values.{IsOf};
 
 use crate::many::{append_all, full_queue};
 use cq_fixtures::{config_of, contents_of};
-use cq_hints::near;
 use cq_layout::Shape;
-use cq_walks::enter_slot;
+use cq_walks::{enter_slot, near};
 use cq_words::{Caller, Queue};
 use std::alloc::Global;
 use std::test::Fail;
