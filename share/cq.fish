@@ -1,0 +1,36 @@
+# Completion of cq for fish.
+function __cq_arguments
+    # Returns whether the command has this name, and as many arguments before the cursor.
+    set -l words (commandline -opc | string match -v -- '-*')
+    test (count $words) -ge 2; and test "$words[2]" = $argv[1]; and test (math (count $words) - 2) = $argv[2]
+end
+
+function __cq_folder
+    set -l words (commandline -opc)
+    echo $words[3]
+end
+
+complete -c cq -f
+complete -c cq -l help -s h -d 'Print help'
+complete -c cq -n __fish_use_subcommand -a echo -d 'Store each line of the input, and print it with its number'
+complete -c cq -n __fish_use_subcommand -a cycle -d 'Print the cycle of a moment, its name and its first index'
+complete -c cq -n __fish_use_subcommand -a race -d 'Let two appenders and two tailers share a new queue'
+complete -c cq -n __fish_use_subcommand -a init -d 'Make a queue in a folder'
+complete -c cq -n __fish_use_subcommand -a write -d 'Append each line of the input'
+complete -c cq -n __fish_use_subcommand -a read -d 'Print the messages in order'
+complete -c cq -n __fish_use_subcommand -a take -d 'Print the next message of a tailer, and move the tailer after it'
+complete -c cq -n __fish_use_subcommand -a drop -d 'Let reads skip old cycles'
+complete -c cq -n __fish_use_subcommand -a check -d 'Print of each image what it holds, or its fault'
+complete -c cq -n __fish_use_subcommand -a dump -d 'Print the records of an image'
+complete -c cq -n __fish_use_subcommand -a salvage -d 'Print the messages before the fault of an image'
+complete -c cq -n __fish_use_subcommand -a migrate -d 'Make a folder of version 1 one of version 2'
+complete -c cq -n __fish_use_subcommand -a help -d 'Print the help of a command'
+complete -c cq -n '__fish_seen_subcommand_from read' -l back -d 'From the end on, towards the first message'
+complete -c cq -n '__fish_seen_subcommand_from read' -l from -x -d 'The index to begin at'
+for command in init write read take drop check dump salvage migrate
+    complete -c cq -n "__cq_arguments $command 0" -a '(__fish_complete_directories)'
+end
+complete -c cq -n '__cq_arguments cycle 0; or __cq_arguments init 1' -a 'daily hourly minutely'
+complete -c cq -n '__cq_arguments cycle 2; or __cq_arguments write 1' -a '(date +%s%3N)'
+complete -c cq -n '__cq_arguments take 1' -a "(sed -n 's/^name \([^ ]*\) .*/\1/p' (__cq_folder)/queue.cqc 2>/dev/null)"
+complete -c cq -n '__cq_arguments dump 1; or __cq_arguments salvage 1' -a '(path basename (__cq_folder)/*.cqi 2>/dev/null)'
