@@ -67,11 +67,29 @@ def check_library(check, root, where, folder):
     paths = {**os.environ, "PKG_CONFIG_PATH": f"{root}/lib/pkgconfig", "LD_LIBRARY_PATH": f"{root}/lib"}
     status, flags, said = run("pkg-config", "--cflags", "--libs", "linnetshelf", env=paths)
     check.that(status == 0, f"{where}: pkg-config: {said}")
-    check.that(run("pkg-config", "--modversion", "linnetshelf", env=paths)[1].strip() == version(), f"{where}: the version of pkg-config")
+    said = run("pkg-config", "--modversion", "linnetshelf", env=paths)[1]
+    check.that(said.strip() == version(), f"{where}: the version of pkg-config is {said}")
     program = folder / "example"
     status, _, said = run(os.environ.get("CC", "cc"), TOP / "c" / "example.c", "-o", program, *flags.split())
     check.that(status == 0, f"{where}: c/example.c is not built: {said}")
     check.that(run(program, env=paths)[:2] == (0, "hello\n"), f"{where}: c/example.c does not print hello")
+
+
+def check_wheel(check, root, folder):
+    """The wheel is installed without a network, and finds its library."""
+    wheels = list((root / "share" / "linnetshelf").glob("*.whl"))
+    check.that(len(wheels) == 1, "there is no wheel, or more than one")
+    if run(sys.executable, "-m", "pip", "--version")[0]:
+        print("the wheel is not installed: there is no pip")
+        return
+    words = ["--no-index", "--no-deps", "--disable-pip-version-check", "--root-user-action=ignore", "--target"]
+    status, _, said = run(sys.executable, "-m", "pip", "install", *words, folder / "packages", *wheels)
+    check.that(status == 0, f"the wheel: {said}")
+    code = "import linnetshelf as l; q = l.create(moment=0); q.append(b'hello', 0); print(q.next().data, l.__version__)"
+    paths = {**os.environ, "PYTHONPATH": str(folder / "packages")}
+    paths.pop("LINNETSHELF_LIBRARY", None)
+    status, printed, said = run(sys.executable, "-c", code, env=paths, cwd="/")
+    check.that((status, printed) == (0, f"b'hello' {version()}\n"), f"the package prints {printed}{said}")
 
 
 def check_pages(check, root):
@@ -112,6 +130,7 @@ def main():
             check_program(check, root, "installed")
             check_library(check, root, "installed", folder)
             check_pages(check, root)
+            check_wheel(check, root, folder)
             # A file that only an older installation had goes, and one of somebody else stays.
             (root / "lib" / "old").write_text("", encoding="utf-8")
             (root / "lib" / "other").write_text("", encoding="utf-8")

@@ -108,7 +108,8 @@ def faults():
     rows = re.findall(r"^\| `([^`]+)` \| (.*) \| (.*) \|$", (TOP / "docs" / "ERRORS.md").read_text(encoding="utf-8"), re.M)
     if not rows:
         sys.exit("man_page.py: docs/ERRORS.md has no table of faults")
-    return "".join(f".TP\n.B {troff(text)}\n{troff(plain(cause))}\n.br\nTo do: {troff(plain(what))}\n" for text, cause, what in rows)
+    page = ".TP\n.B {}\n{}\n.br\nTo do: {}\n"
+    return "".join(page.format(*(troff(plain(cell)) for cell in row)) for row in rows)
 
 
 def main():

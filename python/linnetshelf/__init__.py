@@ -1,0 +1,62 @@
+"""Linnetshelf: an append-only journal in memory that many endpoints share, and the folders of the program cq.
+
+    import linnetshelf
+
+    with linnetshelf.create(names=["reader"]) as queue:
+        queue.append(b"hello")
+        for message in queue:
+            print(message.index, message.data)
+
+Each thread has an endpoint of its own: `split` makes one. See docs/PYTHON.md.
+"""
+from ._endpoint import Begun, Endpoint, Index, Message, Roll, Settings, create, now
+from ._library import text_of
+from ._saved import Image, Journal, Saved, init
+from .errors import (
+    BadValue,
+    BufferTooSmall,
+    Busy,
+    FolderFault,
+    Full,
+    ImageFault,
+    LinnetshelfError,
+    Misused,
+    Moved,
+    NoMessage,
+    NoSuchName,
+    NotSeen,
+    OutOfMemory,
+    Status,
+)
+
+__version__ = "0.1.0"
+
+__all__ = [
+    "BadValue",
+    "Begun",
+    "BufferTooSmall",
+    "Busy",
+    "Endpoint",
+    "FolderFault",
+    "Full",
+    "Image",
+    "ImageFault",
+    "Index",
+    "Journal",
+    "LinnetshelfError",
+    "Message",
+    "Misused",
+    "Moved",
+    "NoMessage",
+    "NoSuchName",
+    "NotSeen",
+    "OutOfMemory",
+    "Roll",
+    "Saved",
+    "Settings",
+    "Status",
+    "create",
+    "init",
+    "now",
+    "text_of",
+]

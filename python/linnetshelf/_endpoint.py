@@ -1,0 +1,491 @@
+"""Endpoints: they append messages and read them."""
+from __future__ import annotations
+
+import contextlib
+import ctypes
+import os
+import time
+import weakref
+from collections.abc import Callable, Iterable, Iterator
+from dataclasses import dataclass
+from enum import IntEnum
+from typing import TYPE_CHECKING, NamedTuple, Optional, TypeVar, Union
+
+from ._library import Answer, Handle, RawSettings, check, error_of, library
+from .errors import BufferTooSmall, Moved, NoMessage, Status
+
+if TYPE_CHECKING:
+    from ._saved import Saved
+
+Buffer = Union[bytes, bytearray, memoryview]
+T = TypeVar("T")
+
+FORWARDS, BACKWARDS = 0, 1
+
+# A wait yields the processor this many times before it sleeps, at first this many seconds and at most that many.
+YIELDS, FIRST_PAUSE, LONGEST_PAUSE = 50, 0.00001, 0.001
+
+
+class Roll(IntEnum):
+    """How long a cycle is."""
+
+    DAILY = 0
+    HOURLY = 1
+    MINUTELY = 2
+
+
+@dataclass(frozen=True)
+class Settings:
+    """How a queue is made. All cycles together have at most 4,194,304 cells.
+
+    cells: the cells of a cycle, of four bytes each: from 13 + 2 * (1 + index_count) to 1,048,576.
+    index_count: the entries of an index table: a power of two from 8 to 1,024.
+    index_spacing: one message in this many has an index entry: a power of two from 1 to 256.
+    cycles: how many cycles may begin: from 1 to 64.
+    roll: how long a cycle is.
+    epoch: when cycle 0 begins, in milliseconds of Unix time.
+    """
+
+    cells: int = 65_536
+    index_count: int = 64
+    index_spacing: int = 16
+    cycles: int = 64
+    roll: Roll = Roll.DAILY
+    epoch: int = 0
+
+    def raw(self) -> RawSettings:
+        numbers = (self.cells, self.index_count, self.index_spacing, self.cycles, self.roll)
+        if not all(0 <= number < 2**32 for number in numbers) or not 0 <= self.epoch < 2**64:
+            raise error_of(Status.BAD_SETTINGS)
+        return RawSettings(self.epoch, *numbers)
+
+
+class Index(int):
+    """The index of a message, or a position: a cycle in the high 32 bits, a sequence number in the low ones.
+
+    Its text has the 16 digits that the program cq prints.
+    """
+
+    __slots__ = ()
+
+    @classmethod
+    def of(cls, cycle: int, sequence: int) -> Index:
+        return cls(cycle << 32 | sequence)
+
+    @property
+    def cycle(self) -> int:
+        return self >> 32
+
+    @property
+    def sequence(self) -> int:
+        return self & 0xFFFFFFFF
+
+    def __str__(self) -> str:
+        return f"{int(self):016x}"
+
+    def __repr__(self) -> str:
+        return f"Index(0x{int(self):016x})"
+
+
+class Message(NamedTuple):
+    """A message that was read."""
+
+    index: Index
+    data: bytes
+
+
+def now() -> int:
+    """Returns the clock's time in milliseconds of Unix time."""
+    return time.time_ns() // 1_000_000
+
+
+def until(attempt: Callable[[], Optional[T]], timeout: float | None) -> T | None:
+    """Returns the first result of `attempt` that is not None, or None if there is none within `timeout` seconds.
+
+    It yields between the attempts at first, and then sleeps longer and longer. None as `timeout` has no end.
+    """
+    found = attempt()
+    end = None if timeout is None else time.monotonic() + timeout
+    tries, pause = 0, FIRST_PAUSE
+    while found is None and (end is None or time.monotonic() < end):
+        if tries < YIELDS:
+            time.sleep(0)
+        else:
+            time.sleep(pause)
+            pause = min(1.5 * pause, LONGEST_PAUSE)
+        tries += 1
+        found = attempt()
+    return found
+
+
+def address_of(data: Buffer) -> object:
+    """Returns what ctypes passes as the address of these bytes."""
+    if isinstance(data, bytes):
+        return data
+    view = memoryview(data)
+    if view.readonly or not view.c_contiguous:
+        return view.tobytes()
+    return (ctypes.c_char * view.nbytes).from_buffer(view)
+
+
+def lines_of(names: Iterable[str]) -> bytes:
+    return "\n".join(names).encode()
+
+
+class Owner:
+    """Owns a handle. It is ended once, at the latest with this object, and never by another process after fork."""
+
+    def __init__(self, handle: Handle) -> None:
+        self._handle, self._reference, self._process = handle, ctypes.byref(handle), os.getpid()
+        self._end = weakref.finalize(self, self._destroy, handle, self._process)
+
+    @staticmethod
+    def _destroy(handle: Handle, process: int) -> None:
+        if process == os.getpid():
+            # A message that is begun is given up. Otherwise nobody else could write.
+            library.roll_back(ctypes.byref(handle))
+            library.destroy(handle)
+
+    def _live(self):
+        """Returns the handle for a call."""
+        if not self._end.alive:
+            raise ValueError("it is closed")
+        if self._process != os.getpid():
+            raise ValueError("it belongs to the process that made it")
+        return self._reference
+
+    def close(self) -> None:
+        """Ends it. A message that is begun is given up."""
+        self._end()
+
+    @property
+    def closed(self) -> bool:
+        return not self._end.alive
+
+    def __enter__(self):
+        return self
+
+    def __exit__(self, *error: object) -> None:
+        self.close()
+
+
+class QueueFacts:
+    """What the endpoints of one queue share."""
+
+    def __init__(self, settings: Settings, names: tuple[str, ...]) -> None:
+        self.settings, self.names = settings, names
+        self.endpoints: weakref.WeakSet[Endpoint] = weakref.WeakSet()
+
+
+class Endpoint(Owner):
+    """An endpoint of a queue: it appends messages and reads them. Each thread has one of its own, by `split`.
+
+    Reads go forwards from the start. They return None, and iterations end, where no message has come yet; `wait` and
+    `follow` wait for the next one.
+    """
+
+    def __init__(self, handle: Handle, queue: QueueFacts) -> None:
+        super().__init__(handle)
+        self._queue = queue
+        queue.endpoints.add(self)
+        self._grow(4096)
+
+    @property
+    def settings(self) -> Settings:
+        return self._queue.settings
+
+    @property
+    def names(self) -> tuple[str, ...]:
+        return self._queue.names
+
+    def split(self) -> Endpoint:
+        """Returns another endpoint of the same queue, for another thread. It reads from the start."""
+        out = Handle()
+        check(library.split(self._live(), out))
+        return Endpoint(out, self._queue)
+
+    def meet(self, other: Endpoint) -> None:
+        """Lets two endpoints share what they have seen: afterwards each has seen what the other had."""
+        if other._queue is not self._queue:
+            raise ValueError("they are endpoints of two queues")
+        if other is not self:
+            check(library.meet(self._live(), other._live()))
+
+    # Appending
+
+    def try_append(self, data: Buffer, moment: int | None = None) -> Index | None:
+        """Appends a message; returns None if another endpoint is writing."""
+        when = now() if moment is None else moment
+        if not 0 <= when < 2**64:
+            raise error_of(Status.BAD_MOMENT)
+        answer = library.append(self._live(), when, address_of(data), memoryview(data).nbytes)
+        if answer.status == Status.BUSY:
+            return None
+        check(answer.status)
+        return Index(answer.index)
+
+    def append(self, data: Buffer, moment: int | None = None, timeout: float | None = None) -> Index:
+        """Appends a message, and returns its index.
+
+        It goes to the cycle of `moment`, in milliseconds of Unix time, or of the clock's time; or to the current cycle if
+        that is later. While another endpoint writes it tries again, at most `timeout` seconds. Then it raises Busy.
+        """
+        index = until(lambda: self.try_append(data, moment), timeout)
+        if index is None:
+            raise error_of(Status.BUSY)
+        return index
+
+    @contextlib.contextmanager
+    def begin(self, most: int, moment: int | None = None, timeout: float | None = None) -> Iterator[Begun]:
+        """Begins a message of at most `most` bytes, which is put in parts.
+
+        At the end of the block it is appended. If the block raises, it is given up.
+        """
+        if not 0 <= most < 2**32:
+            raise error_of(Status.BAD_ROOM)
+
+        def attempt() -> bool | None:
+            status = library.begin(self._live(), now() if moment is None else moment, most)
+            if status == Status.BUSY:
+                return None
+            check(status)
+            return True
+
+        if until(attempt, timeout) is None:
+            raise error_of(Status.BUSY)
+        message = Begun(self)
+        try:
+            yield message
+            answer = library.complete(self._live())
+            check(answer.status)
+            message.index = Index(answer.index)
+        except BaseException:
+            if not self.closed:
+                library.roll_back(self._live())
+            raise
+
+    def advance(self, moment: int) -> int:
+        """Begins the cycle of `moment` if it is later than the current one, and returns the current cycle."""
+        answer = library.advance(self._live(), moment)
+        check(answer.status)
+        return answer.index
+
+    # Reading
+
+    def _grow(self, size: int) -> None:
+        # It gets a new buffer, so that views of the old one keep their bytes.
+        self._buffer = bytearray(size)
+        self._address = ctypes.addressof((ctypes.c_char * size).from_buffer(self._buffer))
+
+    def _read(self, call: Callable[..., Answer], *arguments: object) -> Answer:
+        """Reads into the endpoint's buffer, which grows if a message is longer."""
+        answer = call(self._live(), *arguments, self._address, len(self._buffer))
+        while answer.status == Status.NO_ROOM:
+            self._grow(max(answer.length, 2 * len(self._buffer)))
+            answer = call(self._live(), *arguments, self._address, len(self._buffer))
+        return answer
+
+    def _message(self, answer: Answer) -> Message:
+        return Message(Index(answer.index), bytes(memoryview(self._buffer)[: answer.length]))
+
+    def next(self) -> Message | None:
+        """Reads the next message in the direction of reading; returns None if there is none."""
+        answer = self._read(library.next)
+        if answer.status in (Status.NOT_YET, Status.BEFORE_START):
+            return None
+        check(answer.status)
+        return self._message(answer)
+
+    def __iter__(self) -> Iterator[Message]:
+        """Reads message after message, up to the last one that has come."""
+        return iter(self.next, None)
+
+    def views(self) -> Iterator[tuple[Index, memoryview]]:
+        """Reads message after message without copying it. A view is valid until the next message is read."""
+        while True:
+            answer = self._read(library.next)
+            if answer.status in (Status.NOT_YET, Status.BEFORE_START):
+                return
+            check(answer.status)
+            yield Index(answer.index), memoryview(self._buffer)[: answer.length].toreadonly()
+
+    def next_into(self, buffer: bytearray | memoryview) -> tuple[Index, int] | None:
+        """Reads the next message into a buffer of the caller; returns its index and length, or None.
+
+        BufferTooSmall: the message is longer. It is read by the next call.
+        """
+        view = memoryview(buffer)
+        if view.readonly or not view.c_contiguous:
+            raise ValueError("the buffer is read-only, or not contiguous")
+        answer = library.next(self._live(), address_of(view), view.nbytes)
+        if answer.status in (Status.NOT_YET, Status.BEFORE_START):
+            return None
+        if answer.status == Status.NO_ROOM:
+            error = error_of(answer.status, f"{answer.length} bytes")
+            assert isinstance(error, BufferTooSmall)
+            error.length = answer.length
+            raise error
+        check(answer.status)
+        return Index(answer.index), answer.length
+
+    def peek(self) -> int | None:
+        """Returns the length of the next message, or None if there is none. It is not read."""
+        answer = library.next(self._live(), self._address, 0)
+        return answer.length if answer.status == Status.NO_ROOM else None
+
+    def wait(self, timeout: float | None = None) -> bool:
+        """Waits until there is a next message; returns False if none came within `timeout` seconds."""
+        return until(self.peek, timeout) is not None
+
+    def follow(self, timeout: float | None = None) -> Iterator[Message]:
+        """Reads message after message as they come. It ends if none came for `timeout` seconds."""
+        while self.wait(timeout):
+            message = self.next()
+            if message is not None:
+                yield message
+
+    def __getitem__(self, index: int) -> bytes:
+        """Returns the message with this index. NoMessage: none has it. The endpoint stays where it is."""
+        if not 0 <= index < 2**64:
+            raise error_of(Status.NOT_YET, str(index))
+        answer = self._read(library.read_at, index)
+        check(answer.status, f"index {index:016x}")
+        return bytes(memoryview(self._buffer)[: answer.length])
+
+    def get(self, index: int) -> bytes | None:
+        """Returns the message with this index, or None."""
+        try:
+            return self[index]
+        except NoMessage:
+            return None
+
+    def backwards(self) -> Iterator[Message]:
+        """Reads the messages before this place, the last one first. Afterwards the endpoint reads forwards again."""
+        check(library.direction(self._live(), BACKWARDS))
+        try:
+            yield from self
+        finally:
+            if not self.closed:
+                library.direction(self._live(), FORWARDS)
+
+    def to_start(self) -> None:
+        """Moves before the first message."""
+        check(library.to_start(self._live()))
+
+    def to_end(self) -> Index:
+        """Moves to the end, and returns it: the index that the next message of the current cycle gets."""
+        answer = library.to_end(self._live())
+        check(answer.status)
+        return Index(answer.index)
+
+    def move_to(self, index: int) -> bool:
+        """Moves to the message with this index, which is read next. Returns False if none has it, and stays."""
+        status = library.move_to(self._live(), index)
+        if status == Status.NO_MESSAGE:
+            return False
+        check(status)
+        return True
+
+    @property
+    def cursor(self) -> Index:
+        """Where the endpoint is: the message that it reads next has this index or a later one."""
+        answer = library.cursor(self._live())
+        check(answer.status)
+        return Index(answer.index)
+
+    def drop_before(self, cycle: int) -> int:
+        """Drops the cycles before this one: reads of all endpoints skip them. Returns the cycle before which all are skipped.
+
+        A cycle above the current one counts as that. The endpoint stays where it is.
+        """
+        end = self._see_end()
+        answer = library.drop_before(self._live(), max(0, min(cycle, end.cycle)))
+        check(answer.status)
+        return answer.index
+
+    def _see_end(self) -> Index:
+        """Returns the end, which this endpoint has seen then. It stays where it is."""
+        with self.split() as other:
+            end = other.to_end()
+            self.meet(other)
+            return end
+
+    # Names
+
+    def take(self, name: str) -> Message | None:
+        """Takes the next message of a name; returns None if none has come. Of all that take by a name, one alone gets it."""
+        word = name.encode()
+        answer = self._read(library.take, word, len(word))
+        while answer.status == Status.MOVED:
+            answer = self._read(library.take, word, len(word))
+        if answer.status == Status.NOT_YET:
+            return None
+        check(answer.status, name)
+        return self._message(answer)
+
+    def takes(self, name: str, timeout: float | None = 0) -> Iterator[Message]:
+        """Takes message after message. It ends if none came for `timeout` seconds."""
+        while (message := until(lambda: self.take(name), timeout)) is not None:
+            yield message
+
+    def position(self, name: str) -> Index:
+        """Returns the position of a name: the message that is taken next has this index or a later one."""
+        word = name.encode()
+        answer = library.position(self._live(), word, len(word))
+        check(answer.status, name)
+        return Index(answer.index)
+
+    def seek(self, name: str, to: int, *, expect: int | None = None) -> None:
+        """Moves a name to a position. Moved: it was not at `expect`, or another endpoint moved it meanwhile."""
+        self._see_end()
+        word = name.encode()
+        before = self.position(name) if expect is None else expect
+        answer = library.seek(self._live(), word, len(word), before, to)
+        if answer.status == Status.MOVED:
+            error = error_of(answer.status, f"position {answer.index:016x}")
+            assert isinstance(error, Moved)
+            error.position = Index(answer.index)
+            raise error
+        check(answer.status, name)
+
+    # Stopping
+
+    def stop(self) -> Saved:
+        """Stops the queue, and returns what it held. All other endpoints have to be closed (Misused). This one is closed then."""
+        from ._saved import Saved
+
+        check(library.stop(self._live()))
+        self._end.detach()
+        return Saved(self._handle, self.settings, self.names)
+
+    def stop_all(self) -> Saved:
+        """Closes all other endpoints of the queue, and stops it. Messages that they have begun are given up."""
+        for other in list(self._queue.endpoints):
+            if other is not self:
+                other.close()
+        return self.stop()
+
+
+class Begun:
+    """A message that is begun. Once the block has ended, `index` is its index."""
+
+    index: Index | None = None
+
+    def __init__(self, endpoint: Endpoint) -> None:
+        self._endpoint = endpoint
+
+    def put(self, data: Buffer) -> None:
+        """Puts bytes after those that were put."""
+        check(library.put(self._endpoint._live(), address_of(data), memoryview(data).nbytes))
+
+
+def create(settings: Settings = Settings(), names: Iterable[str] = (), moment: int | None = None) -> Endpoint:
+    """Makes a queue in memory, and returns its first endpoint.
+
+    Its first cycle is that of `moment`, in milliseconds of Unix time, or of the clock's time. `names` are the named tailers:
+    at most 16, each of 1 to 32 letters, digits, `_`, `-` and `.` of ASCII.
+    """
+    declared = tuple(names)
+    lines, out = lines_of(declared), Handle()
+    check(library.create(settings.raw(), lines, len(lines), now() if moment is None else moment, out))
+    return Endpoint(out, QueueFacts(settings, declared))

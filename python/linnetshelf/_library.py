@@ -1,0 +1,125 @@
+"""The calls of liblinnetshelf by ctypes, as linnetshelf.h declares them.
+
+Each call on a handle keeps the interpreter's lock, since most take less time than it takes to release it. So no two
+threads are in a call on one handle at once, whatever they do.
+"""
+from __future__ import annotations
+
+import ctypes
+import ctypes.util
+import os
+import pathlib
+import sys
+
+from .errors import ERRORS, LinnetshelfError, Status
+
+
+class Handle(ctypes.Structure):
+    _fields_ = [("at", ctypes.c_void_p)]
+
+
+class RawSettings(ctypes.Structure):
+    _fields_ = [
+        ("epoch", ctypes.c_uint64),
+        ("cells", ctypes.c_uint32),
+        ("index_count", ctypes.c_uint32),
+        ("index_spacing", ctypes.c_uint32),
+        ("cycles", ctypes.c_uint32),
+        ("roll", ctypes.c_uint32),
+    ]
+
+
+class Answer(ctypes.Structure):
+    _fields_ = [("index", ctypes.c_uint64), ("length", ctypes.c_uint32), ("status", ctypes.c_uint32)]
+
+
+_HANDLE, _SETTINGS = ctypes.POINTER(Handle), ctypes.POINTER(RawSettings)
+_BYTES, _SIZE, _WORD, _LONG = ctypes.c_void_p, ctypes.c_size_t, ctypes.c_uint32, ctypes.c_uint64
+
+# The type of the result, and those of the arguments.
+CALLS = {
+    "create": (_WORD, _SETTINGS, _BYTES, _SIZE, _LONG, _HANDLE),
+    "split": (_WORD, _HANDLE, _HANDLE),
+    "meet": (_WORD, _HANDLE, _HANDLE),
+    "destroy": (None, Handle),
+    "append": (Answer, _HANDLE, _LONG, _BYTES, _SIZE),
+    "begin": (_WORD, _HANDLE, _LONG, _WORD),
+    "put": (_WORD, _HANDLE, _BYTES, _SIZE),
+    "complete": (Answer, _HANDLE),
+    "roll_back": (_WORD, _HANDLE),
+    "advance": (Answer, _HANDLE, _LONG),
+    "next": (Answer, _HANDLE, _BYTES, _SIZE),
+    "read_at": (Answer, _HANDLE, _LONG, _BYTES, _SIZE),
+    "direction": (_WORD, _HANDLE, _WORD),
+    "move_to": (_WORD, _HANDLE, _LONG),
+    "to_start": (_WORD, _HANDLE),
+    "to_end": (Answer, _HANDLE),
+    "cursor": (Answer, _HANDLE),
+    "drop_before": (Answer, _HANDLE, _WORD),
+    "take": (Answer, _HANDLE, _BYTES, _SIZE, _BYTES, _SIZE),
+    "position": (Answer, _HANDLE, _BYTES, _SIZE),
+    "seek": (Answer, _HANDLE, _BYTES, _SIZE, _LONG, _LONG),
+    "stop": (_WORD, _HANDLE),
+    "saved_count": (Answer, _HANDLE),
+    "saved_cycle": (Answer, _HANDLE, _WORD),
+    "saved_ended": (Answer, _HANDLE, _WORD),
+    "saved_image": (Answer, _HANDLE, _WORD, _BYTES, _SIZE),
+    "saved_position": (Answer, _HANDLE, _WORD),
+    "saved_floor": (Answer, _HANDLE),
+    "saved_new": (_WORD, _SETTINGS, _BYTES, _SIZE, _HANDLE),
+    "saved_add": (Answer, _HANDLE, _WORD, _BYTES, _SIZE),
+    "saved_set_position": (_WORD, _HANDLE, _WORD, _LONG),
+    "saved_set_floor": (_WORD, _HANDLE, _WORD),
+    "open": (_WORD, _HANDLE, _HANDLE),
+    "text": (_SIZE, _WORD, _BYTES, _SIZE),
+    "size": (_SIZE, _WORD),
+}
+
+
+def _path() -> str:
+    """Returns where the library is: as LINNETSHELF_LIBRARY says, next to this file, or where the system looks."""
+    given = os.environ.get("LINNETSHELF_LIBRARY")
+    packed = pathlib.Path(__file__).with_name("liblinnetshelf.so")
+    found = given or (str(packed) if packed.exists() else ctypes.util.find_library("linnetshelf"))
+    if not found:
+        raise ImportError("liblinnetshelf.so is not found: install it, or set LINNETSHELF_LIBRARY to its path")
+    return found
+
+
+class Library:
+    """The calls, as attributes."""
+
+    def __init__(self, path: str) -> None:
+        library = ctypes.PyDLL(path)
+        for name, (result, *arguments) in CALLS.items():
+            function = getattr(library, f"linnetshelf_{name}")
+            function.restype, function.argtypes = result, arguments
+            setattr(self, name, function)
+        sizes = [ctypes.sizeof(it) for it in (Handle, RawSettings, Answer)]
+        if [self.size(which) for which in range(len(sizes))] != sizes:
+            raise ImportError(f"{path} is another version of the library")
+
+
+if not getattr(sys, "_is_gil_enabled", lambda: True)():
+    raise ImportError("linnetshelf needs the interpreter's lock, which keeps threads out of each other's calls")
+library = Library(_path())
+
+
+def text_of(status: int) -> str:
+    """Returns the library's text of a status."""
+    room = ctypes.create_string_buffer(128)
+    length = library.text(status, room, len(room))
+    return room.raw[:length].decode()
+
+
+def error_of(status: int, detail: str = "") -> LinnetshelfError:
+    """Returns the exception for a status."""
+    known = Status(status)
+    text = text_of(status)
+    return ERRORS.get(known, LinnetshelfError)(f"{text} ({detail})" if detail else text, known)
+
+
+def check(status: int, detail: str = "") -> None:
+    """Raises the exception for a status, unless the call is done."""
+    if status != Status.DONE:
+        raise error_of(status, detail)
