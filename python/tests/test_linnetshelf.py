@@ -5,6 +5,7 @@ LIBRARY is liblinnetshelf.so, and PROGRAM the program cq, without which the test
 import contextlib
 import gc
 import io
+import itertools
 import multiprocessing
 import os
 import pathlib
@@ -240,6 +241,7 @@ class Calls(unittest.TestCase):
 
     def test_threads(self):
         count, writers = 3000, 4
+        total = count * writers
         with linnetshelf.create(linnetshelf.Settings(cells=262_144, cycles=1), ["worker"], 0) as queue:
 
             def write(endpoint, who):
@@ -251,15 +253,17 @@ class Calls(unittest.TestCase):
 
             def take(endpoint, into):
                 with endpoint:
-                    into.extend(data_of(endpoint.takes("worker", timeout=1)))
+                    while sum(map(len, taken)) < total:
+                        into.extend(data_of(endpoint.takes("worker")))
 
             threads = [threading.Thread(target=write, args=(queue.split(), who)) for who in range(writers)]
             threads += [threading.Thread(target=take, args=(queue.split(), into)) for into in taken]
             for thread in threads:
                 thread.start()
-            seen = data_of(queue.follow(timeout=1))
+            seen = data_of(itertools.islice(queue.follow(timeout=60), total))
             for thread in threads:
                 thread.join()
+            self.assertIsNone(queue.next())
             for who in range(writers):
                 self.assertEqual([it for it in seen if it.startswith(b"%d " % who)], [b"%d %d" % (who, k) for k in range(count)])
             self.assertEqual(sorted(taken[0] + taken[1]), sorted(seen))
