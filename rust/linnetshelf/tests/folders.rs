@@ -1,0 +1,323 @@
+//! Queues in folders, in both directions with the program cq.
+#![cfg(feature = "std")]
+mod common;
+
+use std::fs::{self, File, TryLockError};
+use std::os::unix::fs::{PermissionsExt, symlink};
+use std::path::Path;
+use std::process::{self, Command, Stdio};
+use std::sync::mpsc;
+use std::thread;
+use std::time::Duration;
+
+use common::{Scratch, names_in, program, run};
+use linnetshelf::{Endpoint, Error, FolderError, ImageFault, Index, Journal, Roll, Saved, Settings, Unsaved, init};
+
+const MOMENT: u64 = 1_728_000_000_000;
+const DAY: u64 = 86_400_000;
+const SMALL: Settings =
+    Settings { epoch: 0, cells: 4096, index_count: 16, index_spacing: 4, cycles: 3, roll: Roll::Daily };
+const IMAGE: &str = "20241004.cqi";
+
+fn texts(queue: &mut Endpoint) -> Vec<String> {
+    queue.messages().map(|message| String::from_utf8(message.unwrap().data).unwrap()).collect()
+}
+
+fn load(folder: &Path) -> Vec<String> {
+    texts(&mut Saved::load(folder).unwrap().open().unwrap())
+}
+
+/// Makes a queue in a new folder.
+fn scratch(settings: &Settings, names: &[&str]) -> Scratch {
+    let folder = Scratch::new();
+    init(&*folder, settings, names).unwrap();
+    folder
+}
+
+#[test]
+fn a_journal_keeps_what_was_appended() {
+    let folder = scratch(&SMALL, &["a", "b"]);
+    assert_eq!(names_in(&folder), ["queue.cqc"]);
+    let mut journal = Journal::open_at(&*folder, MOMENT).unwrap();
+    assert_eq!(journal.append(MOMENT, b"first").unwrap().to_string(), "00004e2000000000");
+    journal.append(MOMENT + DAY, b"second").unwrap();
+    assert_eq!(journal.takes("b", Some(Duration::ZERO)).take(1).count(), 1);
+    journal.drop_before(20_001).unwrap();
+    journal.close().unwrap();
+    assert_eq!(names_in(&folder), [IMAGE, "20241005.cqi", "queue.cqc"]);
+
+    let mut saved = Saved::load(&*folder).unwrap();
+    assert_eq!(saved.settings(), &SMALL);
+    assert_eq!(saved.floor(), 20_001);
+    assert_eq!(saved.positions().collect::<Vec<_>>(), [("a", Index(0)), ("b", Index::new(20_000, 1))]);
+    let config = fs::read_to_string(folder.join("queue.cqc")).unwrap();
+    let wanted = "cq 2\nroll daily\nepoch 0\ncells 4096\ncount 16\nspacing 4\ncycles 3\nfloor 20001\nname a 0\nname b ";
+    assert_eq!(config, format!("{wanted}{}\n", 20_000_u64 << 32 | 1));
+
+    let mut journal = Journal::open(&*folder).unwrap();
+    assert_eq!(texts(&mut journal), ["second"]);
+    assert_eq!(journal.position("b").unwrap(), Index::new(20_000, 1));
+    journal.close().unwrap();
+    assert_eq!(fs::read_to_string(folder.join("queue.cqc")).unwrap(), config);
+}
+
+#[test]
+fn a_journal_that_is_dropped_is_saved() {
+    let folder = scratch(&SMALL, &[]);
+    let mut journal = Journal::open_at(&*folder, MOMENT).unwrap();
+    journal.append(MOMENT, b"kept").unwrap();
+    let mut message = journal.begin(MOMENT, 10).unwrap();
+    message.put(b"given up").unwrap();
+    std::mem::forget(message);
+    drop(journal);
+    assert_eq!(load(&folder), ["kept"]);
+    let panicked = thread::scope(|scope| {
+        let path: &Path = &folder;
+        let thread = scope.spawn(move || {
+            let mut journal = Journal::open(path).unwrap();
+            journal.append(MOMENT, b"also").unwrap();
+            std::panic::resume_unwind(Box::new(()));
+        });
+        thread.join()
+    });
+    assert!(panicked.is_err());
+    assert_eq!(load(&folder), ["kept", "also"]);
+}
+
+#[test]
+fn a_journal_in_use_is_given_back() {
+    let folder = scratch(&SMALL, &[]);
+    let mut journal = Journal::open_at(&*folder, MOMENT).unwrap();
+    let mut other = journal.split().unwrap();
+    other.append(MOMENT, b"kept").unwrap();
+    let refused = journal.close().unwrap_err();
+    assert!(matches!(refused.error, FolderError::Queue(Error::InUse)), "{refused:?}");
+    let Unsaved::Journal(journal) = *refused.left else { panic!("the queue was stopped") };
+    assert!(matches!(File::open(&*folder).unwrap().try_lock_shared(), Err(TryLockError::WouldBlock)));
+    drop(other);
+    journal.close().unwrap();
+    assert_eq!(load(&folder), ["kept"]);
+}
+
+#[test]
+fn a_journal_in_use_that_is_dropped_is_not_saved() {
+    let folder = scratch(&SMALL, &[]);
+    let mut journal = Journal::open_at(&*folder, MOMENT).unwrap();
+    let mut other = journal.split().unwrap();
+    journal.append(MOMENT, b"lost").unwrap();
+    drop(journal);
+    assert_eq!(names_in(&folder), ["queue.cqc"]);
+    assert_eq!(texts(&mut other), ["lost"]);
+    File::open(&*folder).unwrap().try_lock().unwrap();
+}
+
+#[test]
+fn a_journal_saves_its_own_queue_alone() {
+    let folder = scratch(&SMALL, &[]);
+    let mut journal = Journal::open_at(&*folder, MOMENT).unwrap();
+    let mut own = std::mem::replace(&mut *journal, Endpoint::create(&SMALL, &[], MOMENT).unwrap());
+    own.append(MOMENT, b"kept").unwrap();
+    let refused = journal.close().unwrap_err();
+    assert!(matches!(refused.error, FolderError::Queue(Error::TwoQueues)), "{refused:?}");
+    let Unsaved::Journal(mut journal) = *refused.left else { panic!("the queue was stopped") };
+    *journal = own;
+    journal.close().unwrap();
+    assert_eq!(load(&folder), ["kept"]);
+}
+
+#[test]
+fn a_save_that_failed_is_tried_again() {
+    let folder = scratch(&SMALL, &[]);
+    let mut journal = Journal::open_at(&*folder, MOMENT).unwrap();
+    journal.append(MOMENT, b"one").unwrap();
+    journal.append(MOMENT + DAY, b"two").unwrap();
+    journal.drop_before(20_000).unwrap();
+    let hindrance = folder.join(format!("queue.cqc.{}.part", process::id()));
+    fs::create_dir(&hindrance).unwrap();
+    let before = fs::read(folder.join("queue.cqc")).unwrap();
+    let failed = journal.close().unwrap_err();
+    assert!(matches!(&failed.error, FolderError::File(path, _) if path.ends_with("queue.cqc")), "{failed:?}");
+    // The parts of images are removed, and no file changed.
+    assert_eq!(names_in(&folder), ["queue.cqc", hindrance.file_name().unwrap().to_str().unwrap()]);
+    assert_eq!(fs::read(folder.join("queue.cqc")).unwrap(), before);
+    let Unsaved::Stopped(mut stopped) = *failed.left else { panic!("the queue was not stopped") };
+    assert!(matches!(File::open(&*folder).unwrap().try_lock_shared(), Err(TryLockError::WouldBlock)));
+    fs::remove_dir(&hindrance).unwrap();
+    stopped.save().unwrap();
+    drop(stopped);
+    assert_eq!(load(&folder), ["one", "two"]);
+    assert_eq!(names_in(&folder), [IMAGE, "20241005.cqi", "queue.cqc"]);
+}
+
+#[test]
+fn a_journal_keeps_others_out() {
+    let folder = scratch(&SMALL, &[]);
+    let mut first = Journal::open_at(&*folder, MOMENT).unwrap();
+    let lock = File::open(&*folder).unwrap();
+    assert!(matches!(lock.try_lock_shared(), Err(TryLockError::WouldBlock)));
+    first.append(MOMENT, b"first").unwrap();
+    let path = folder.to_owned();
+    let (entered, is_entered) = mpsc::channel();
+    let second = thread::spawn(move || {
+        let mut journal = Journal::open(path).unwrap();
+        entered.send(()).unwrap();
+        journal.append(MOMENT, b"second").unwrap();
+        journal.close().unwrap();
+    });
+    assert_eq!(is_entered.recv_timeout(Duration::from_millis(100)), Err(mpsc::RecvTimeoutError::Timeout));
+    first.close().unwrap();
+    second.join().unwrap();
+    assert_eq!(load(&folder), ["first", "second"]);
+    // A saved queue holds no lock.
+    let saved = Saved::load(&*folder).unwrap();
+    lock.try_lock().unwrap();
+    drop(saved);
+}
+
+#[test]
+fn modes_are_kept_and_files_that_stay_the_same_are_left_alone() {
+    let folder = scratch(&SMALL, &["a"]);
+    let mut journal = Journal::open_at(&*folder, MOMENT).unwrap();
+    journal.append(MOMENT, b"one").unwrap();
+    journal.close().unwrap();
+    let mode = |name: &str| fs::metadata(folder.join(name)).unwrap().permissions().mode() & 0o7777;
+    for name in ["queue.cqc", IMAGE] {
+        fs::set_permissions(folder.join(name), fs::Permissions::from_mode(0o640)).unwrap();
+    }
+    let kept = File::open(folder.join(IMAGE)).unwrap().metadata().unwrap();
+    let mut journal = Journal::open(&*folder).unwrap();
+    assert_eq!(journal.takes("a", Some(Duration::ZERO)).count(), 1);
+    journal.close().unwrap();
+    let now = fs::metadata(folder.join(IMAGE)).unwrap();
+    assert_eq!(std::os::unix::fs::MetadataExt::ino(&now), std::os::unix::fs::MetadataExt::ino(&kept));
+    let mut journal = Journal::open(&*folder).unwrap();
+    journal.append(MOMENT, b"two").unwrap();
+    assert_eq!(journal.takes("a", Some(Duration::ZERO)).count(), 1);
+    journal.close().unwrap();
+    assert_eq!((mode("queue.cqc"), mode(IMAGE)), (0o640, 0o640));
+    assert_eq!(load(&folder), ["one", "two"]);
+}
+
+#[test]
+fn what_is_no_queue_is_refused() {
+    let folder = Scratch::new();
+    let refused = || Saved::load(&*folder).unwrap_err();
+    assert!(matches!(refused(), FolderError::NoQueue(_)));
+    assert!(matches!(Journal::open(&*folder).unwrap_err(), FolderError::NoQueue(_)));
+    assert!(matches!(Saved::load(folder.join("none")).unwrap_err(), FolderError::File(..)));
+    let wrong = Settings { cells: 1, ..SMALL };
+    assert!(matches!(init(&*folder, &wrong, &[]), Err(FolderError::Queue(Error::BadSettings))));
+    assert!(names_in(&folder).is_empty());
+    init(&*folder, &SMALL, &["a"]).unwrap();
+    assert!(matches!(init(&*folder, &SMALL, &[]), Err(FolderError::QueueExists(_))));
+    assert!(matches!(Saved::load(folder.join("queue.cqc")).unwrap_err(), FolderError::File(..)));
+
+    let config = folder.join("queue.cqc");
+    let text = fs::read_to_string(&config).unwrap();
+    for wrong in
+        ["", &text[..text.len() - 1], &format!("{text}x"), &text.replace("16", "016"), &text.replace("cq 2", "cq 3")]
+    {
+        fs::write(&config, wrong).unwrap();
+        assert!(matches!(refused(), FolderError::BadConfig(_)), "{wrong}");
+    }
+    fs::write(&config, text.replace("cq 2", "cq 1")).unwrap();
+    assert!(matches!(refused(), FolderError::OldConfig(_)));
+    assert!(refused().to_string().contains("cq migrate"));
+    for wrong in [format!("{text}name a 0\n"), text.replace("spacing 4", "spacing 3")] {
+        fs::write(&config, wrong).unwrap();
+        assert!(matches!(refused(), FolderError::Queue(Error::BadSettings)));
+    }
+    fs::write(&config, &text).unwrap();
+
+    fs::write(folder.join(IMAGE), b"\x01").unwrap();
+    let fault = refused();
+    assert!(matches!(fault, FolderError::Image(_, Error::BadImage { fault: ImageFault::Cut, at: 0 })), "{fault:?}");
+    fs::rename(folder.join(IMAGE), folder.join("2024.cqi")).unwrap();
+    assert!(matches!(refused(), FolderError::BadName(_)));
+    fs::remove_file(folder.join("2024.cqi")).unwrap();
+    fs::write(folder.join("queue.save"), "cq save 1\n").unwrap();
+    assert!(matches!(refused(), FolderError::BadRecord(_)));
+    assert!(matches!(Journal::open(&*folder).unwrap_err(), FolderError::BadRecord(_)));
+}
+
+#[test]
+fn links_folders_and_fifos_are_not_opened() {
+    let folder = scratch(&SMALL, &[]);
+    let elsewhere = Scratch::new();
+    let kept = elsewhere.join("kept");
+    fs::copy(folder.join("queue.cqc"), &kept).unwrap();
+    for name in [IMAGE, "queue.cqc", "queue.save"] {
+        let path = folder.join(name);
+        let before = fs::read(&path).ok();
+        let _ = fs::remove_file(&path);
+        let refused = || Saved::load(&*folder).unwrap_err();
+        symlink(&kept, &path).unwrap();
+        assert!(matches!(refused(), FolderError::NotPlain(_)), "{name}");
+        fs::remove_file(&path).unwrap();
+        fs::create_dir(&path).unwrap();
+        assert!(matches!(refused(), FolderError::NotPlain(_)), "{name}");
+        fs::remove_dir(&path).unwrap();
+        assert!(Command::new("mkfifo").arg(&path).status().unwrap().success());
+        assert!(matches!(refused(), FolderError::NotPlain(_)), "{name}");
+        fs::remove_file(&path).unwrap();
+        if let Some(before) = before {
+            fs::write(&path, before).unwrap();
+        }
+    }
+    // A save replaces none of them.
+    let mut journal = Journal::open_at(&*folder, MOMENT).unwrap();
+    journal.append(MOMENT, b"x").unwrap();
+    symlink(&kept, folder.join(IMAGE)).unwrap();
+    let refused = journal.close().unwrap_err();
+    assert!(matches!(refused.error, FolderError::NotPlain(_)), "{refused:?}");
+    drop(refused);
+    assert!(fs::symlink_metadata(folder.join(IMAGE)).unwrap().is_symlink());
+    assert_eq!(names_in(&folder), [IMAGE, "queue.cqc"]);
+}
+
+#[test]
+fn cq_and_journals_share_folders() {
+    let Some(cq) = program() else { return };
+    for (roll, word) in [(Roll::Daily, "daily"), (Roll::Hourly, "hourly"), (Roll::Minutely, "minutely")] {
+        for (k, epoch) in [0, 3_600_000, 12_345_678].into_iter().enumerate() {
+            let folder = scratch(&Settings { epoch, cycles: 4, roll, ..SMALL }, &["a", "b"]);
+            let theirs = Scratch::new();
+            run(&cq, "init", &theirs, &[word, &epoch.to_string(), "4096", "16", "4", "4", "a", "b"], "");
+            let config = |folder: &Scratch| fs::read_to_string(folder.join("queue.cqc")).unwrap();
+            assert_eq!(config(&folder), config(&theirs));
+
+            let cycle = ((MOMENT - epoch) / roll.milliseconds()) as u32;
+            run(&cq, "write", &folder, &[&MOMENT.to_string()], "one\ntwo\n");
+            run(&cq, "take", &folder, &["b"], "");
+            let mut journal = Journal::open(&*folder).unwrap();
+            journal.append(MOMENT + roll.milliseconds(), b"three").unwrap();
+            let mut buffer = [0; 8];
+            assert_eq!(journal.take("b", &mut buffer).unwrap().unwrap().data, b"two");
+            assert_eq!(journal.drop_before(cycle).unwrap(), cycle);
+            journal.close().unwrap();
+
+            let checked = run(&cq, "check", &folder, &[], "");
+            let facts: Vec<&str> = checked.lines().map(|line| line.split_once(": ").unwrap().1).collect();
+            assert_eq!(facts, ["2 messages, ended", "1 messages, open"], "{word} {k}");
+            let read = run(&cq, "read", &folder, &[], "");
+            assert_eq!(read.lines().map(|line| &line[17..]).collect::<Vec<_>>(), ["one", "two", "three"]);
+            assert_eq!(run(&cq, "take", &folder, &["b"], ""), format!("{} three\n", Index::new(cycle + 1, 0)));
+            assert_eq!(load(&folder), ["one", "two", "three"]);
+            assert_eq!(Saved::load(&*folder).unwrap().floor(), cycle);
+        }
+    }
+}
+
+#[test]
+fn cq_waits_for_a_journal() {
+    let Some(cq) = program() else { return };
+    let folder = scratch(&SMALL, &[]);
+    let mut journal = Journal::open_at(&*folder, MOMENT).unwrap();
+    journal.append(MOMENT, b"held").unwrap();
+    let mut reader = Command::new(&cq).arg("read").arg(&*folder).stdout(Stdio::piped()).spawn().unwrap();
+    thread::sleep(Duration::from_millis(100));
+    assert!(reader.try_wait().unwrap().is_none());
+    journal.close().unwrap();
+    let read = reader.wait_with_output().unwrap();
+    assert_eq!(String::from_utf8(read.stdout).unwrap(), "00004e2000000000 held\n");
+}
