@@ -5,9 +5,11 @@ fn main() {
     for name in ["LINNETSHELF_LIB_DIR", "PKG_CONFIG", "PKG_CONFIG_PATH"] {
         println!("cargo:rerun-if-env-changed={name}");
     }
-    let folder = env::var("LINNETSHELF_LIB_DIR").ok().or_else(ask_pkg_config);
+    let folder =
+        env::var("LINNETSHELF_LIB_DIR").ok().or_else(ask_pkg_config).and_then(|it| Path::new(&it).canonicalize().ok());
     match folder {
-        Some(folder) if Path::new(&folder).join("liblinnetshelf.a").is_file() => {
+        Some(folder) if folder.join("liblinnetshelf.a").is_file() => {
+            let folder = folder.display();
             println!("cargo:rerun-if-changed={folder}/liblinnetshelf.a");
             println!("cargo:rustc-link-search=native={folder}");
             println!("cargo:rustc-link-lib=static=linnetshelf");

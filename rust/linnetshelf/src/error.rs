@@ -114,7 +114,7 @@ const FAULTS: [ImageFault; 8] = [
     ImageFault::OverShape,
 ];
 
-/// The statuses that report nothing besides.
+/// The statuses that report nothing more.
 const PLAIN: [(u32, Error); 24] = [
     (1, Error::NotYet),
     (2, Error::BeforeStart),
@@ -143,7 +143,7 @@ const PLAIN: [(u32, Error); 24] = [
 ];
 
 impl Error {
-    /// Returns the error of a status that reports nothing besides.
+    /// Returns the error of a status that reports nothing more.
     #[cold]
     pub(crate) fn of(status: u32) -> Error {
         PLAIN.iter().find(|(number, _)| *number == status).map_or(Error::Unknown(status), |(_, error)| *error)

@@ -277,8 +277,19 @@ impl Folder {
         };
         let (path, locked) = open().map_err(|error| FolderError::File(path.to_owned(), error))?;
         let mut folder = Folder { path, locked, left: Save::default() };
+        folder.check_place()?;
         folder.left = folder.record()?;
         Ok(folder)
+    }
+
+    /// Refuses a folder that was moved or replaced since it was opened: files are found by its path.
+    fn check_place(&self) -> Result<(), FolderError> {
+        let check = || {
+            let (here, locked) = (fs::metadata(&self.path)?, self.locked.metadata()?);
+            let is_same = (here.dev(), here.ino()) == (locked.dev(), locked.ino());
+            is_same.then_some(()).ok_or_else(|| io::Error::other("the folder was moved or replaced"))
+        };
+        check().map_err(|error| FolderError::File(self.path.clone(), error))
     }
 
     /// Returns what is left of a save that was cut short.
@@ -376,12 +387,13 @@ impl Folder {
             let entries = fs::read_dir(&self.path)?;
             entries.map(|entry| Ok(entry?.file_name().to_string_lossy().into_owned())).collect::<io::Result<_>>()
         };
-        list().map_err(self.fault(""))
+        list().map_err(|error| FolderError::File(self.path.clone(), error))
     }
 
     /// Makes the files of the folder these: all of them or none, also if the system stops in between. Those that stay the same
     /// are left alone.
     pub(crate) fn save(&mut self, config: &Config, images: Vec<(String, Vec<u8>)>) -> Result<(), FolderError> {
+        self.check_place()?;
         self.finish_last()?;
         let mut changed = Vec::new();
         for (name, data) in images.into_iter().chain([(CONFIG.to_owned(), config.text().into_bytes())]) {
@@ -761,7 +773,7 @@ mod tests {
     }
 
     #[test]
-    fn parts_of_others_are_removed_by_who_is_alone() {
+    fn parts_that_are_left_are_removed() {
         let folder = Scratch::new("parts");
         for name in ["queue.cqc.7.part", "x.cqi.7.part", "mine.7.part"] {
             fs::write(folder.0.join(name), "x").unwrap();
@@ -815,7 +827,7 @@ mod tests {
         journal.close().unwrap();
     }
 
-    /// Runs a child that is killed after so many steps. Returns whether it was.
+    /// Runs a child that is killed after this many steps. Returns whether it was.
     fn is_killed(folder: &Scratch, work: &str, steps: usize) -> bool {
         let status: ExitStatus = Command::new(env::current_exe().unwrap())
             .args(["--exact", "folder::tests::child", "--nocapture"])

@@ -48,6 +48,6 @@ pub use settings::{Index, Roll, Settings};
 pub use waiting::{Backwards, Message, Messages, now};
 
 /// The examples of the document run, in one folder of their own.
-#[cfg(doctest)]
+#[cfg(all(doctest, feature = "std"))]
 #[doc = include_str!("../../../docs/RUST.md")]
 struct Document;

@@ -150,6 +150,27 @@ fn a_save_that_failed_is_tried_again() {
 }
 
 #[test]
+fn a_folder_that_was_moved_is_not_written() {
+    let elsewhere = Scratch::new();
+    let (from, to) = (elsewhere.join("from"), elsewhere.join("to"));
+    fs::create_dir(&from).unwrap();
+    init(&from, &SMALL, &[]).unwrap();
+    let mut journal = Journal::open_at(&from, MOMENT).unwrap();
+    journal.append(MOMENT, b"kept").unwrap();
+    fs::rename(&from, &to).unwrap();
+    fs::create_dir(&from).unwrap();
+    let failed = journal.close().unwrap_err();
+    assert!(matches!(failed.error, FolderError::File(..)), "{failed:?}");
+    assert!(names_in(&from).is_empty());
+    fs::remove_dir(&from).unwrap();
+    fs::rename(&to, &from).unwrap();
+    let Unsaved::Stopped(mut stopped) = *failed.left else { panic!("the queue was not stopped") };
+    stopped.save().unwrap();
+    drop(stopped);
+    assert_eq!(load(&from), ["kept"]);
+}
+
+#[test]
 fn a_journal_keeps_others_out() {
     let folder = scratch(&SMALL, &[]);
     let mut first = Journal::open_at(&*folder, MOMENT).unwrap();
