@@ -69,8 +69,9 @@ pub fn init(folder: impl AsRef<Path>, settings: &Settings, names: &[&str]) -> Re
 
 /// A queue in a folder. It is an [`Endpoint`] of that queue, from which others are split.
 ///
-/// The folder is locked as long as this lives, so other programs wait, `cq` among them. [`Journal::close`] saves what the queue
-/// holds. What was appended since the journal was opened is lost if the process ends before.
+/// The folder is locked as long as this lives, so other programs wait, `cq` among them. So does another `Journal` or
+/// [`Saved::load`] of this folder, also in the same thread. [`Journal::close`] saves what the queue holds. What was appended
+/// since the journal was opened is lost if the process ends before.
 ///
 /// If a journal is dropped, it is saved too, but nobody learns whether that failed. It fails if other endpoints of the queue
 /// are alive then.

@@ -11,8 +11,8 @@
 //! # Ok::<(), linnetshelf::Error>(())
 //! ```
 //!
-//! Each thread has an endpoint of its own: [`Endpoint::split`] makes one. No call but those that wait depends on another
-//! endpoint. Times are in milliseconds of Unix time, and without the feature `std` no clock is read.
+//! Each thread has an endpoint of its own: [`Endpoint::split`] makes one. No call on an endpoint waits for another one, except
+//! those that have a timeout. Moments are in milliseconds of Unix time, and the caller passes them.
 //!
 //! # Features
 //!
@@ -20,7 +20,7 @@
 //! nothing itself; the library calls `malloc`.
 #![cfg_attr(not(any(feature = "std", test)), no_std)]
 #![deny(unsafe_code)]
-#![warn(missing_docs, missing_debug_implementations, rust_2018_idioms)]
+#![warn(missing_docs, missing_debug_implementations, rust_2018_idioms, clippy::undocumented_unsafe_blocks)]
 
 mod endpoint;
 mod error;
@@ -47,7 +47,7 @@ pub use settings::{Index, Roll, Settings};
 #[cfg(feature = "std")]
 pub use waiting::{Backwards, Message, Messages, now};
 
-/// The examples of the document run, in one folder of their own.
+/// The examples of the document run.
 #[cfg(all(doctest, feature = "std"))]
 #[doc = include_str!("../../../docs/RUST.md")]
 struct Document;
