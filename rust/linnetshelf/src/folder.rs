@@ -459,15 +459,15 @@ impl Folder {
         let found = self.stat(name)?;
         let write = || {
             self.remove(&part)?;
-            step();
+            step()?;
             let mut file = File::create_new(self.path.join(&part))?;
             if let Some(found) = found {
-                step();
+                step()?;
                 file.set_permissions(found.permissions())?;
             }
-            step();
+            step()?;
             file.write_all(data)?;
-            step();
+            step()?;
             file.sync_all()
         };
         write().map_err(self.fault(name))
@@ -504,7 +504,7 @@ impl Folder {
 
     /// Removes a file, if it is there.
     fn remove(&self, name: &str) -> io::Result<()> {
-        step();
+        step()?;
         match fs::remove_file(self.path.join(name)) {
             Err(error) if error.kind() == ErrorKind::NotFound => Ok(()),
             other => other,
@@ -512,13 +512,13 @@ impl Folder {
     }
 
     fn rename(&self, from: &str, to: &str) -> io::Result<()> {
-        step();
+        step()?;
         fs::rename(self.path.join(from), self.path.join(to))
     }
 
     /// Lets the system keep what was renamed and removed.
     fn sync(&self) -> io::Result<()> {
-        step();
+        step()?;
         self.locked.sync_all()
     }
 }
@@ -530,22 +530,25 @@ impl Drop for Folder {
     }
 }
 
-/// Is called before each call of the system that changes files. A test ends the process here.
+/// Is called before each call of the system that changes files. Tests fail here, or end the process.
 #[cfg(not(test))]
-fn step() {}
+fn step() -> io::Result<()> {
+    Ok(())
+}
 
 #[cfg(test)]
 use tests::step;
 
 #[cfg(test)]
 mod tests {
+    use std::cell::Cell;
     use std::os::unix::process::ExitStatusExt;
     use std::process::{Command, ExitStatus};
     use std::sync::atomic::{AtomicI64, Ordering};
     use std::{env, thread};
 
     use super::*;
-    use crate::{Journal, Saved, init};
+    use crate::{CloseError, Journal, Saved, Unsaved, init};
 
     const DAY: u64 = 86_400_000;
     const MOMENT: u64 = 1_728_000_000_000;
@@ -797,14 +800,22 @@ mod tests {
     /// How many steps a child takes before it is killed; none are counted below 0.
     static LEFT: AtomicI64 = AtomicI64::new(-1);
 
-    /// Kills this process, if a child has taken all its steps.
-    pub(super) fn step() {
+    thread_local! {
+        /// How many steps this thread takes before one fails; none are counted below 0.
+        static BEFORE_FAULT: Cell<i64> = const { Cell::new(-1) };
+    }
+
+    /// Kills this process if a child has taken all its steps. Fails once if this thread has.
+    pub(super) fn step() -> io::Result<()> {
         if LEFT.load(Ordering::Relaxed) >= 0 && LEFT.fetch_sub(1, Ordering::Relaxed) == 0 {
             Command::new("sh").args(["-c", "kill -KILL $PPID"]).status().unwrap();
             loop {
                 thread::park();
             }
         }
+        let before = BEFORE_FAULT.get();
+        BEFORE_FAULT.set((before - 1).max(-1));
+        if before == 0 { Err(ErrorKind::StorageFull.into()) } else { Ok(()) }
     }
 
     /// What a child does: it is a test, so that this binary can be run for it. Without the variables it does nothing.
@@ -886,5 +897,53 @@ mod tests {
         let before = facts(&["one", "0000000000000000"]);
         let kills = kill_saves("take", &before, &facts(&["one", "00004e2000000001"]));
         assert!(kills > 5, "{kills}");
+    }
+
+    /// Closes a journal with a new message and a take, or with a take alone, while a step fails. Returns what is left.
+    fn close_with_fault(folder: &Scratch, has_message: bool, steps: i64) -> Result<(), CloseError> {
+        let mut journal = Journal::open(&folder.0).unwrap();
+        if has_message {
+            journal.append(MOMENT + DAY, b"two").unwrap();
+        }
+        journal.take("a", &mut [0; 8]).unwrap().unwrap();
+        BEFORE_FAULT.set(steps);
+        journal.close()
+    }
+
+    #[test]
+    fn a_save_that_failed_is_whole() {
+        let before = facts(&["one", "0000000000000000"]);
+        for (has_message, after, least) in
+            [(true, facts(&["one", "two", "00004e2000000001"]), 20), (false, facts(&["one", "00004e2000000001"]), 5)]
+        {
+            let mut steps = 0;
+            loop {
+                let name = format!("fault-{has_message}-{steps}");
+                let folder = Scratch::new(&name);
+                let closed = close_with_fault(&folder, has_message, steps);
+                let was_refused = BEFORE_FAULT.replace(-1) < 0;
+                let refused = closed.map_err(|error| drop(error.left)).is_err();
+                let seen = folder.facts();
+                assert!(
+                    seen == after || (refused && seen == before && folder.remainders().is_empty()),
+                    "{name}: {seen:?}"
+                );
+                Folder::enter(&folder.0).unwrap();
+                assert_eq!((folder.facts(), folder.remainders().len()), (seen, 0), "{name}");
+                drop(folder);
+                if !was_refused {
+                    assert!(steps > least && !refused, "{steps}");
+                    break;
+                }
+
+                let folder = Scratch::new(&name);
+                if let Err(error) = close_with_fault(&folder, has_message, steps) {
+                    let Unsaved::Stopped(mut stopped) = *error.left else { panic!("the queue was not stopped") };
+                    stopped.save().unwrap();
+                }
+                assert_eq!(folder.facts(), after, "{name}");
+                steps += 1;
+            }
+        }
     }
 }
