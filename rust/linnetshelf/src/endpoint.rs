@@ -394,6 +394,9 @@ impl std::io::Write for Begun<'_> {
 }
 
 /// A queue was not stopped, or could not be read then. The endpoint is given back.
+///
+/// As an endpoint, it is not `Sync`. What needs an error that is, such as `Box<dyn Error + Send + Sync>`, takes
+/// [`StopError::error`].
 #[derive(Debug)]
 pub struct StopError {
     /// Why.

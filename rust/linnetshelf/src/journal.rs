@@ -167,6 +167,9 @@ impl DerefMut for Journal {
 }
 
 /// A journal could not be closed.
+///
+/// As an endpoint, it is not `Sync`. What needs an error that is, such as `Box<dyn Error + Send + Sync>`, takes
+/// [`CloseError::error`].
 #[derive(Debug)]
 pub struct CloseError {
     /// Why.

@@ -312,6 +312,21 @@ fn a_wait_ends() {
 }
 
 #[test]
+fn values_go_to_other_threads() {
+    fn moved<T: Send>() {}
+    fn shared<T: Sync>() {}
+    moved::<Endpoint>();
+    moved::<Saved>();
+    moved::<linnetshelf::Journal>();
+    moved::<linnetshelf::Begun<'_>>();
+    moved::<linnetshelf::StopError>();
+    moved::<linnetshelf::CloseError>();
+    moved::<linnetshelf::FolderError>();
+    shared::<Error>();
+    shared::<linnetshelf::FolderError>();
+}
+
+#[test]
 fn an_index_has_a_cycle_and_a_sequence() {
     let index = Index::new(20_000, 7);
     assert_eq!((index.cycle(), index.sequence(), index.0), (20_000, 7, 20_000 << 32 | 7));

@@ -2,7 +2,9 @@
 #![cfg(feature = "std")]
 mod common;
 
+use std::ffi::OsStr;
 use std::fs::{self, File, TryLockError};
+use std::os::unix::ffi::OsStrExt;
 use std::os::unix::fs::{PermissionsExt, symlink};
 use std::path::Path;
 use std::process::{self, Command, Stdio};
@@ -256,6 +258,20 @@ fn what_is_no_queue_is_refused() {
     fs::rename(folder.join(IMAGE), folder.join("2024.cqi")).unwrap();
     assert!(matches!(refused(), FolderError::BadName(_)));
     fs::remove_file(folder.join("2024.cqi")).unwrap();
+    // What is not UTF-8 is no name of a cycle.
+    let name = OsStr::from_bytes(b"2024100\xff.cqi");
+    fs::write(folder.join(name), b"").unwrap();
+    assert!(matches!(refused(), FolderError::BadName(_)));
+    fs::remove_file(folder.join(name)).unwrap();
+    // Other files are ignored.
+    fs::write(folder.join(OsStr::from_bytes(b"\xff")), b"").unwrap();
+    assert!(Saved::load(&*folder).unwrap().is_empty());
+    // No position is above the end.
+    fs::write(&config, text.replace("name a 0", &format!("name a {}", Index::new(20_000, 1).0))).unwrap();
+    fs::write(folder.join(IMAGE), b"").unwrap();
+    assert!(matches!(Journal::open(&*folder).unwrap_err(), FolderError::Queue(Error::BadContents)));
+    fs::remove_file(folder.join(IMAGE)).unwrap();
+    fs::write(&config, &text).unwrap();
     fs::write(folder.join("queue.save"), "cq save 1\n").unwrap();
     assert!(matches!(refused(), FolderError::BadRecord(_)));
     assert!(matches!(Journal::open(&*folder).unwrap_err(), FolderError::BadRecord(_)));
