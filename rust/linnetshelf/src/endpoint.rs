@@ -163,11 +163,14 @@ impl Endpoint {
     /// [`Error::NoRoom`]: the message is longer than the buffer. The next call finds it again.
     #[inline]
     pub fn next<'b>(&mut self, buffer: &'b mut [u8]) -> Result<Option<Received<'b>>, Error> {
+        self.try_next(buffer).map(|answer| received(answer, buffer)).transpose()
+    }
+
+    /// Reads the next message as [`Endpoint::next`] does; [`received`] returns it.
+    #[inline]
+    pub(crate) fn try_next(&mut self, buffer: &mut [u8]) -> Option<Answer> {
         let answer = self.handle.next(buffer);
-        match answer.status {
-            NOT_YET | BEFORE_START => Ok(None),
-            _ => received(answer, buffer).map(Some),
-        }
+        (!matches!(answer.status, NOT_YET | BEFORE_START)).then_some(answer)
     }
 
     /// Returns the length of the next message, or `None` if there is none. It is not read.
@@ -330,7 +333,7 @@ impl Endpoint {
 
 /// Returns the message that a call wrote to a buffer.
 #[inline]
-fn received(answer: Answer, buffer: &mut [u8]) -> Result<Received<'_>, Error> {
+pub(crate) fn received(answer: Answer, buffer: &mut [u8]) -> Result<Received<'_>, Error> {
     let answer = Error::done(answer)?;
     Ok(Received { index: Index(answer.index), data: &buffer[..answer.length as usize] })
 }

@@ -2,6 +2,7 @@
 use std::thread;
 use std::time::{Duration, Instant, SystemTime, UNIX_EPOCH};
 
+use crate::endpoint::received;
 use crate::{Begun, Direction, Endpoint, Error, Index, Received};
 
 /// A wait yields the processor this many times before it sleeps, at first this long and at most that long.
@@ -120,8 +121,7 @@ impl Endpoint {
         buffer: &'b mut [u8],
         timeout: Option<Duration>,
     ) -> Result<Option<Received<'b>>, Error> {
-        // Its cycle can be dropped in between, so the read can return `None` also then.
-        if self.wait(timeout)? { self.next(buffer) } else { Ok(None) }
+        until(timeout, || self.try_next(buffer)).map(|answer| received(answer, buffer)).transpose()
     }
 
     /// Reads the message with this index.

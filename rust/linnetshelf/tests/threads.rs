@@ -1,9 +1,11 @@
 //! Endpoints in threads of their own.
 #![cfg(feature = "std")]
 use std::sync::atomic::{AtomicUsize, Ordering};
+use std::sync::mpsc;
 use std::thread;
+use std::time::Duration;
 
-use linnetshelf::{Endpoint, Settings};
+use linnetshelf::{Endpoint, Index, Message, Settings};
 
 const COUNT: usize = 5_000;
 const WRITERS: usize = 4;
@@ -49,7 +51,7 @@ fn each_message_is_read_in_order_and_taken_once() {
                 })
             })
             .collect();
-        let read = |message: Result<linnetshelf::Message, _>| String::from_utf8(message.unwrap().data).unwrap();
+        let read = |message: Result<Message, _>| String::from_utf8(message.unwrap().data).unwrap();
         let seen: Vec<String> = queue.follow(None).take(total).map(read).collect();
         let taken: Vec<String> = takers.into_iter().flat_map(|taker| taker.join().unwrap()).collect();
         (seen, taken)
@@ -67,4 +69,30 @@ fn each_message_is_read_in_order_and_taken_once() {
     };
     assert_eq!(sorted(taken), sorted(seen));
     assert_eq!(queue.stop().unwrap().len(), 1);
+}
+
+#[test]
+fn waits_end_when_another_thread_is_done() {
+    let mut queue = Endpoint::create(&Settings::default(), &["worker"], 0).unwrap();
+    let mut other = queue.split().unwrap();
+    let mut buffer = [0; 16];
+    thread::scope(|scope| {
+        let (begun, is_begun) = mpsc::channel();
+        scope.spawn(move || {
+            let mut message = other.begin(0, 16).unwrap();
+            begun.send(()).unwrap();
+            message.put(b"first").unwrap();
+            thread::sleep(Duration::from_millis(20));
+            message.complete().unwrap();
+        });
+        is_begun.recv().unwrap();
+        assert_eq!(queue.append_waiting(0, b"second", None), Ok(Index(1)));
+        let mut third = queue.split().unwrap();
+        assert_eq!(queue.messages().count(), 2);
+        scope.spawn(move || {
+            thread::sleep(Duration::from_millis(20));
+            third.append(0, b"third").unwrap();
+        });
+        assert_eq!(queue.next_waiting(&mut buffer, None).unwrap().unwrap().data, b"third");
+    });
 }
