@@ -2,7 +2,7 @@ use Rattle.std.specs.Prelude.{IfSome}
 use Rattle.cq_text.specs.declared.fault.ToolFault.TheVariants.{OutOfMemory}
 use Rattle.cq_files.specs.FolderFaults.{HasCause, HoldsConfig, IsFileFault}
 use Rattle.cq_text.proofs.FaultLemmas.{passed_on}
-use Rattle.cq_files.proofs.CauseLemmas.{no_value, of_any}
+use Rattle.cq_files.proofs.CauseLemmas.{of_any}
 use Rattle.cq_files.proofs.CountLemmas.{counts_scarce}
 use Rattle.cq_files.proofs.files.read_file.Goals as goal
 
@@ -37,15 +37,3 @@ returns-in_err-from_str-in-Err-TooLarge-clause-cause g c =
 pub returns-in_err-from_str-in-Err-TooLarge-clause-counted : goal.returns-in_err-from_str-in-Err-TooLarge-clause-counted
 returns-in_err-from_str-in-Err-TooLarge-clause-counted g c =
     counts_scarce _ _ c.from_residual-in_err-from_str-in-Err-TooLarge.result c.in-Err-TooLarge.ensures.counted.later c.from_residual-in_err-from_str-in-Err-TooLarge.ensures.1
-
-pub returns-in_err-from_str-in-Err-Device-clause-held : goal.returns-in_err-from_str-in-Err-Device-clause-held
-returns-in_err-from_str-in-Err-Device-clause-held g c = no_value c.from_residual.result _ _ c.from_residual.ensures.1
-
-pub returns-in_err-from_str-in-Err-Device-clause-small : goal.returns-in_err-from_str-in-Err-Device-clause-small
-returns-in_err-from_str-in-Err-Device-clause-small g c = no_value c.from_residual.result _ _ c.from_residual.ensures.1
-
-pub returns-in_err-from_str-in-Err-TooLarge-clause-held : goal.returns-in_err-from_str-in-Err-TooLarge-clause-held
-returns-in_err-from_str-in-Err-TooLarge-clause-held g c = no_value c.from_residual-in_err-from_str-in-Err-TooLarge.result _ _ c.from_residual-in_err-from_str-in-Err-TooLarge.ensures.1
-
-pub returns-in_err-from_str-in-Err-TooLarge-clause-small : goal.returns-in_err-from_str-in-Err-TooLarge-clause-small
-returns-in_err-from_str-in-Err-TooLarge-clause-small g c = no_value c.from_residual-in_err-from_str-in-Err-TooLarge.result _ _ c.from_residual-in_err-from_str-in-Err-TooLarge.ensures.1

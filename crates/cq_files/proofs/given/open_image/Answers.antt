@@ -5,7 +5,7 @@ use Rattle.cq_text.specs.Faults.{IsDeviceFault}
 use Rattle.cq_text.specs.declared.fault.ToolFault.TheVariants.{BadCycleName, OutOfMemory, WriteFault}
 use Rattle.cq_files.specs.Queue.{IsImageName}
 use Rattle.cq_text.proofs.FaultLemmas.{passed_on}
-use Rattle.cq_files.proofs.CauseLemmas.{no_value, of_any, other_than}
+use Rattle.cq_files.proofs.CauseLemmas.{of_any, other_than}
 use Rattle.cq_files.proofs.CountLemmas.{counts_other, counts_passed, counts_scarce}
 use Rattle.cq_files.proofs.ShownLemmas.{bad_name, is_missing, is_there, named_as_shown, not_opened, was_opened}
 use Rattle.cq_files.proofs.given.open_image.Goals as goal
@@ -88,30 +88,3 @@ pub returns-in_err-image-clause-counted : goal.returns-in_err-image-clause-count
 returns-in_err-image-clause-counted g c =
     counts_other _ _ c.in_err-image.field-0.0 c.from_residual-in_err-image.result c.open_folder.ensures.counted.later
     (λ device. absurd (subst IsDeviceFault c.in_err-image.ensures.bad.0 device)) c.from_residual-in_err-image.ensures.1
-
-pub returns-in_err-image-clause-given : goal.returns-in_err-image-clause-given
-returns-in_err-image-clause-given g c = no_value c.from_residual-in_err-image.result _ _ c.from_residual-in_err-image.ensures.1
-
-pub returns-in_err-image-clause-kept : goal.returns-in_err-image-clause-kept
-returns-in_err-image-clause-kept g c = c.open_folder.ensures.kept
-
-pub returns-in_err-image-clause-inside : goal.returns-in_err-image-clause-inside
-returns-in_err-image-clause-inside g c = no_value c.from_residual-in_err-image.result _ _ c.from_residual-in_err-image.ensures.1
-
-pub returns-in_err-saved-clause-given : goal.returns-in_err-saved-clause-given
-returns-in_err-saved-clause-given g c = no_value c.from_residual.result _ _ c.from_residual.ensures.1
-
-pub returns-in_err-saved-clause-kept : goal.returns-in_err-saved-clause-kept
-returns-in_err-saved-clause-kept g c = c.open_folder.ensures.kept
-
-pub returns-in_err-saved-clause-inside : goal.returns-in_err-saved-clause-inside
-returns-in_err-saved-clause-inside g c = no_value c.from_residual.result _ _ c.from_residual.ensures.1
-
-pub returns-in_err-name-clause-given : goal.returns-in_err-name-clause-given
-returns-in_err-name-clause-given g c = no_value c.from_residual-in_err-name.result _ _ c.from_residual-in_err-name.ensures.1
-
-pub returns-in_err-name-clause-kept : goal.returns-in_err-name-clause-kept
-returns-in_err-name-clause-kept g c = c.open_folder.ensures.kept
-
-pub returns-in_err-name-clause-inside : goal.returns-in_err-name-clause-inside
-returns-in_err-name-clause-inside g c = no_value c.from_residual-in_err-name.result _ _ c.from_residual-in_err-name.ensures.1

@@ -1,7 +1,6 @@
 use Rattle.std.proofs.Common.{ap, sym, ◌∙◌}
 use Rattle.std.specs.Prelude.{codes}
 use Rattle.cq_files.proofs.QueueLemmas.{file_named, file_unnamed, is_named}
-use Rattle.cq_files.proofs.CauseLemmas.{no_value}
 use Rattle.cq_files.proofs.initialising.check_new.Goals as goal
 
 pub returns-then-has_name-clause-fault : goal.returns-then-has_name-clause-fault
@@ -16,12 +15,3 @@ returns-clause-new g c =
 
 pub returns-clause-inside : goal.returns-clause-inside
 returns-clause-inside g c = c.in_ok-files.ensures.inside
-
-pub returns-in_err-files-clause-new : goal.returns-in_err-files-clause-new
-returns-in_err-files-clause-new g c = no_value c.from_residual.result _ _ c.from_residual.ensures.1
-
-pub returns-in_err-files-clause-kept : goal.returns-in_err-files-clause-kept
-returns-in_err-files-clause-kept g c = c.listed.ensures.kept
-
-pub returns-in_err-files-clause-inside : goal.returns-in_err-files-clause-inside
-returns-in_err-files-clause-inside g c = no_value c.from_residual.result _ _ c.from_residual.ensures.1

@@ -5,7 +5,6 @@ use Rattle.cq_text.specs.declared.fault.ToolFault.TheVariants.{OutOfMemory}
 use Rattle.cq_files.specs.Initialised.{IsInitialText}
 use Rattle.cq_files.proofs.WritingLemmas.{kept_behind, kept_or_wrote, kept_then_wrote}
 use Rattle.cq_files.proofs.CountLemmas.{counts_from, counts_passed}
-use Rattle.cq_files.proofs.CauseLemmas.{no_value}
 use Rattle.cq_files.proofs.initialising.init.Goals as goal
 
 pub returns-clause-whole : goal.returns-clause-whole
@@ -41,21 +40,3 @@ pub returns-in_err-check_new-clause-counted : goal.returns-in_err-check_new-clau
 returns-in_err-check_new-clause-counted g c =
     counts_passed _ _ c.in_err-check_new.field-0.0 c.from_residual-in_err-check_new.result c.in_err-check_new.ensures.counted
     c.from_residual-in_err-check_new.ensures.1
-
-pub returns-in_err-check_new-clause-written : goal.returns-in_err-check_new-clause-written
-returns-in_err-check_new-clause-written g c = no_value c.from_residual-in_err-check_new.result _ _ c.from_residual-in_err-check_new.ensures.1
-
-pub returns-in_err-check_new-clause-new : goal.returns-in_err-check_new-clause-new
-returns-in_err-check_new-clause-new g c = no_value c.from_residual-in_err-check_new.result _ _ c.from_residual-in_err-check_new.ensures.1
-
-pub returns-in_err-roll-clause-written : goal.returns-in_err-roll-clause-written
-returns-in_err-roll-clause-written g c = no_value c.from_residual.result _ _ c.from_residual.ensures.1
-
-pub returns-in_err-roll-clause-new : goal.returns-in_err-roll-clause-new
-returns-in_err-roll-clause-new g c = no_value c.from_residual.result _ _ c.from_residual.ensures.1
-
-pub returns-in_err-text-clause-written : goal.returns-in_err-text-clause-written
-returns-in_err-text-clause-written g c = no_value c.from_residual-in_err-text.result _ _ c.from_residual-in_err-text.ensures.1
-
-pub returns-in_err-text-clause-new : goal.returns-in_err-text-clause-new
-returns-in_err-text-clause-new g c = no_value c.from_residual-in_err-text.result _ _ c.from_residual-in_err-text.ensures.1
