@@ -1,5 +1,5 @@
 -- What `init` makes of its settings.
-use Rattle.std.specs.Prelude.{◌≡◌, ◌⊎◌, ⊤, ℕ, List, length, replicate, Option, IfSome, IsSome, codes, string_bytes}
+use Rattle.std.specs.Prelude.{◌≡◌, ◌⊎◌, ⊤, ℕ, List, length, replicate, Option, IfSome, codes, string_bytes}
 use Rattle.cq_layout.specs.Shape.{Measures, measures}
 use Rattle.cq_cycle.specs.declared.roll.Roll.{Roll}
 use Rattle.cq_cycle.specs.RollWord.{roll_word}
@@ -9,7 +9,7 @@ use Rattle.cq_folder.specs.Folder.{Files}
 use Rattle.cq_text.specs.declared.fault.ToolFault.{ToolFault}
 use Rattle.cq_text.specs.declared.fault.ToolFault.TheVariants.{BadConfig, FolderFault, OutOfMemory, QueueThereAlready}
 use Rattle.cq_orders.specs.declared.settings.InitSettings.{InitSettings}
-use Rattle.cq_files.specs.FolderFaults.{IsFileFault, IsLimitFault, IsSaveFault}
+use Rattle.cq_files.specs.FolderFaults.{HoldsConfig, IsFileFault, IsLimitFault, IsSaveFault}
 
 -- the measures that were asked for
 abbrev pub wanted_shape : InitSettings → Measures
@@ -30,10 +30,6 @@ pub record IsInitialText (wanted : InitSettings) (text : List ℕ) : Type 0 wher
   pub known : string_bytes wanted.roll ≡ roll_word roll
   pub text_is : IsTextFor wanted roll text
 
--- the files have a queue's configuration
-abbrev pub HasQueue : Files → Type 0
-HasQueue files = IsSome (files (codes "queue.cqc"))
-
 -- the word names a roll
 abbrev pub NamesRoll : List ℕ → Type 0
 NamesRoll word = (roll : Roll) × (word ≡ roll_word roll)
@@ -42,12 +38,12 @@ NamesRoll word = (roll : Roll) × (word ≡ roll_word roll)
 abbrev pub IsListingFault : Option Files → ToolFault → Type 0
 IsListingFault files OutOfMemory = ⊤
 IsListingFault files FolderFault = ⊤
-IsListingFault files QueueThereAlready = IfSome files HasQueue
+IsListingFault files QueueThereAlready = IfSome files HoldsConfig
 IsListingFault files _ = ⊥
 
 -- the folder is new
 abbrev pub IsNew : Option Files → Type 0
-IsNew files = IfSome files (λ held. ¬ HasQueue held)
+IsNew files = IfSome files (λ held. ¬ HoldsConfig held)
 
 -- why no queue is made in a new folder: the settings are refused, or they are lawful and the file is at fault
 abbrev pub IsMakingFault : InitSettings → Roll → ToolFault → Type 0

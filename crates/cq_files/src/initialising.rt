@@ -1,8 +1,8 @@
 ghost use Rattle.std.specs.Prelude.{◌≡◌, ◌⊎◌, ℕ, List, IfErr, IfOk, IfSome, OnErr, OnOk, codes, Some};
 ghost use Rattle.cq_model.specs.Settings.{IsLawfulSettings};
 ghost use Rattle.cq_folder.specs.Folder.{KeepsFiles, WritesFile};
-ghost use Rattle.cq_files.specs.FolderFaults.{IsLimitFault, IsSaveFault};
-ghost use Rattle.cq_files.specs.Initialised.{HasQueue, IsInitFault, IsInitialText, IsListingFault, IsNew, IsTextFor, wanted_settings};
+ghost use Rattle.cq_files.specs.FolderFaults.{HoldsConfig, IsLimitFault, IsSaveFault};
+ghost use Rattle.cq_files.specs.Initialised.{IsInitFault, IsInitialText, IsListingFault, IsNew, IsTextFor, wanted_settings};
 ghost use Rattle.cq_files.specs.Counted.{CountsFaults};
 
 use crate::files::{CONFIG_FILE, has_name, listed, write_file};
@@ -43,7 +43,7 @@ pub fn init<F: Folder>(
         × WritesFile (F.files folder.old) (F.files folder.new) (codes "queue.cqc") text)) }
     ensures scarce { IfErr result (λ fault. fault ≡ ToolFault.OutOfMemory
         → KeepsFiles (F.files folder.old) (F.files folder.new)) }
-    ensures safe { IfErr result (λ _. IfSome (F.files folder.old) (λ files. HasQueue files
+    ensures safe { IfErr result (λ _. IfSome (F.files folder.old) (λ files. HoldsConfig files
         → KeepsFiles (F.files folder.old) (F.files folder.new))) }
     ensures counted { CountsFaults (F.failed folder.old) (F.failed folder.new) result }
 {
