@@ -1,5 +1,5 @@
 -- Which faults of a folder's queue are answered.
-use Rattle.std.specs.Prelude.{◌≡◌, ◌≢◌, ◌⊎◌, ⊤, ℕ, ◌+◌, ◌-◌, ◌^◌, ◌∷◌, ◌++◌, map, min, ◌<◌, ◌≤◌, List, [], length, slice_get, IsSomeAnd, Option, None, Some, Bool, codes}
+use Rattle.std.specs.Prelude.{◌≡◌, ◌≢◌, ◌⊎◌, ⊤, ℕ, ◌+◌, ◌-◌, ◌^◌, ◌∷◌, ◌++◌, map, min, ◌<◌, ◌≤◌, List, [], length, slice_get, IsSomeAnd, Option, None, Some, Bool}
 use Rattle.cq_layout.specs.Room.{Fits, IsMessageLength}
 use Rattle.cq_layout.specs.Layout.{CycleLayout}
 use Rattle.cq_cycle.specs.Index.{index_text}
@@ -9,6 +9,7 @@ use Rattle.cq_layout.specs.declared.refusal.Refusal.TheVariants.{BadRoom, CycleF
 use Rattle.cq_journal.specs.Journals.{Declares}
 use Rattle.cq_image.specs.Image.{AreNext}
 use Rattle.cq_folder.specs.Folder.{Files}
+use Rattle.cq_folder.specs.declared.names.TheConstants.{CONFIG_FILE}
 use Rattle.cq_tail.specs.declared.error.TakeFault.{TakeFault}
 use Rattle.cq_tail.specs.declared.error.TakeFault.TheVariants as take
 use Rattle.cq_files.specs.declared.opening.CycleImage.{CycleImage}
@@ -79,7 +80,7 @@ pub record RefusesName (name : List ℕ) (files : Files) (fault : ToolFault) : T
   pub queue : SavedQueue
   pub opened : HoldOpenable queue files
   pub cause : ((fault ≡ NoSuchName) × ¬ Declares queue.saved.config name)
-      ⊎ (Declares queue.saved.config name × IsSaveFault fault × TellsFile (λ file. file ≡ codes "queue.cqc") fault)
+      ⊎ (Declares queue.saved.config name × IsSaveFault fault × TellsFile (λ file. file ≡ CONFIG_FILE.now) fault)
 
 -- why no message is taken: the queue is not opened, or it is and the name is at fault, or what was taken
 abbrev pub IsTakeFault : List ℕ → Files → ToolFault → Type 0

@@ -1,12 +1,13 @@
 -- Why nothing is shown of a file, and what is.
 use Rattle.std.proofs.Common.{◌≡◌, ◌≢◌, ◌⊎◌, ◌∙◌, Bool, Global, ℕ, List, ap, inl, inr, subst, sym, true, false}
-use Rattle.std.specs.Prelude.{String, Option, None, Some, IfErr, IfSome, IsErrAnd, IsSomeAnd, Result, Ok, Err, codes, string_bytes}
+use Rattle.std.specs.Prelude.{String, Option, None, Some, IfErr, IfSome, IsErrAnd, IsSomeAnd, Result, Ok, Err, string_bytes}
 use Rattle.std.specs.Prelude.{OnErr, OnOk}
 use Rattle.std.specs.Io.KnownBytes.{Appends}
 use Rattle.std.proofs.lemmas.Result.{on_ok_weaker}
 use Rattle.cq_model.specs.Settings.{IsLawfulSettings, Settings, texts}
 use Rattle.cq_config_text.specs.ConfigText.{IsTextOf}
 use Rattle.cq_folder.specs.Folder.{Files, KeepsFiles}
+use Rattle.cq_folder.specs.declared.names.TheConstants.{CONFIG_FILE}
 use Rattle.cq_text.proofs.OutputLemmas.{cut_short}
 use Rattle.cq_text.specs.Output.{AppendsBeginning}
 use Rattle.cq_text.specs.declared.fault.ToolFault.{ToolFault}
@@ -27,7 +28,7 @@ pub record Opened (files : Option Files) (settings : Settings) (names : List (St
 
 -- so it was, by what opening it answered
 pub was_opened : (a : Option Files) (queue : QueueFolder) → IsLawfulSettings queue.saved.config
-    → IfSome a (λ held. IsSomeAnd (held (codes "queue.cqc")) (IsTextOf queue.saved.config queue.saved.positions.items queue.saved.floor))
+    → IfSome a (λ held. IsSomeAnd (held CONFIG_FILE.now) (IsTextOf queue.saved.config queue.saved.positions.items queue.saved.floor))
     → IfSome a (ListsImages (texts queue.image_names.items)) → Opened a queue.saved.config queue.image_names.items
 was_opened a queue lawful config listed = record {
   configured = has_settings a queue.saved.config queue.saved.positions.items queue.saved.floor config;

@@ -1,5 +1,5 @@
 -- Which faults of a folder and its files are answered.
-use Rattle.std.specs.Prelude.{◌≡◌, ◌⊎◌, ⊤, ℕ, ◌+◌, true, false, ◌<◌, ◌≤◌, List, length, slice_get, take, Result, Ok, Err, IsOk, IsSome, IsSomeAnd, Some, codes, string_bytes}
+use Rattle.std.specs.Prelude.{◌≡◌, ◌⊎◌, ⊤, ℕ, ◌+◌, true, false, ◌<◌, ◌≤◌, List, length, slice_get, take, Result, Ok, Err, IsOk, IsSome, IsSomeAnd, Some, string_bytes}
 use Rattle.std.specs.List.{AllByRecursion}
 use Rattle.std.specs.declared.cmp.Ordering.TheVariants.{Less}
 use Rattle.cq_cycle.specs.declared.roll.TheConstants.{LAST_CYCLE}
@@ -10,6 +10,7 @@ use Rattle.cq_image.specs.Reading.{read_of}
 use Rattle.cq_config_text.specs.ConfigFault.{RefusesText}
 use Rattle.cq_config_text.specs.ConfigText.{IsTextOf}
 use Rattle.cq_folder.specs.Folder.{Files}
+use Rattle.cq_folder.specs.declared.names.TheConstants.{CONFIG_FILE}
 use Rattle.cq_config_text.specs.Version.{version_of}
 use Rattle.cq_config_text.specs.declared.version.FolderVersion.{FolderVersion}
 use Rattle.cq_config_text.specs.declared.version.FolderVersion.TheVariants as version
@@ -63,13 +64,13 @@ EndsWronglyAt images k image = ((image.ended ≡ false) × (k + 1 < length image
 
 -- there is a `queue.cqc` among the files
 abbrev pub HoldsConfig : Files → Type 0
-HoldsConfig files = IsSome (files (codes "queue.cqc"))
+HoldsConfig files = IsSome (files CONFIG_FILE.now)
 
 -- the files' configuration has these settings
 pub record HasSettings (files : Files) (settings : Settings) : Type 0 where
   pub positions : List ℕ
   pub floor : ℕ
-  pub spelled : IsSomeAnd (files (codes "queue.cqc")) (IsTextOf settings positions floor)
+  pub spelled : IsSomeAnd (files CONFIG_FILE.now) (IsTextOf settings positions floor)
 
 -- the files' configuration is within its limits, and tells this version
 pub record HasVersion (files : Files) (version : FolderVersion) : Type 0 where
@@ -82,7 +83,7 @@ pub record HasVersion (files : Files) (version : FolderVersion) : Type 0 where
 -- the text of the files' configuration, which is small enough to be read, is refused so
 abbrev pub RefusesConfig : Files → ConfigFault → Type 0
 RefusesConfig files fault =
-    IsSomeAnd (files (codes "queue.cqc")) (λ text. (length text ≤ MOST_FILE_BYTES) × RefusesText fault text)
+    IsSomeAnd (files CONFIG_FILE.now) (λ text. (length text ≤ MOST_FILE_BYTES) × RefusesText fault text)
 
 -- by the files' configuration no cycle has an image of this name
 pub record NamesNoCycle (files : Files) (file : List ℕ) : Type 0 where
@@ -170,7 +171,7 @@ pub record HoldsBefore (files : Files) (file : List ℕ) (P : Settings → List 
 -- file are the names of all images, and the images before it in the order of names, of which this must hold
 abbrev pub IsReached : (Files → Settings → List ℕ → Type 0) → Files → List ℕ → Type 0
 IsReached P files file =
-    (file ≡ codes "queue.cqc") ⊎ (IsImageFile files file × NameCycles files × HoldsBefore files file (P files))
+    (file ≡ CONFIG_FILE.now) ⊎ (IsImageFile files file × NameCycles files × HoldsBefore files file (P files))
 
 -- the name of an image file is looked at, and those before it name cycles
 abbrev pub IsNameReached : Files → List ℕ → Type 0
@@ -188,8 +189,8 @@ IsFirstFault P files _ = ⊤
 abbrev pub IsFolderFault : ToolFault → Type 0
 IsFolderFault OutOfMemory = ⊤
 IsFolderFault FolderFault = ⊤
-IsFolderFault (FileFault file) = string_bytes file ≡ codes "queue.cqc"
-IsFolderFault (FileTooLarge file) = string_bytes file ≡ codes "queue.cqc"
+IsFolderFault (FileFault file) = string_bytes file ≡ CONFIG_FILE.now
+IsFolderFault (FileTooLarge file) = string_bytes file ≡ CONFIG_FILE.now
 IsFolderFault NoQueueHere = ⊤
 IsFolderFault (ConfigLine number) = ⊤
 IsFolderFault BadShape = ⊤

@@ -1,11 +1,12 @@
 -- What `init` makes of its settings.
-use Rattle.std.specs.Prelude.{◌≡◌, ◌⊎◌, ⊤, ℕ, List, length, replicate, Option, IfSome, codes, string_bytes}
+use Rattle.std.specs.Prelude.{◌≡◌, ◌⊎◌, ⊤, ℕ, List, length, replicate, Option, IfSome, string_bytes}
 use Rattle.cq_layout.specs.Shape.{Measures, measures}
 use Rattle.cq_cycle.specs.declared.roll.Roll.{Roll}
 use Rattle.cq_cycle.specs.RollWord.{roll_word}
 use Rattle.cq_model.specs.Settings.{IsLawfulSettings, Settings, new_settings, texts}
 use Rattle.cq_config_text.specs.ConfigText.{IsTextOf}
 use Rattle.cq_folder.specs.Folder.{Files}
+use Rattle.cq_folder.specs.declared.names.TheConstants.{CONFIG_FILE}
 use Rattle.cq_text.specs.declared.fault.ToolFault.{ToolFault}
 use Rattle.cq_text.specs.declared.fault.ToolFault.TheVariants.{BadConfig, FolderFault, OutOfMemory, QueueThereAlready}
 use Rattle.cq_orders.specs.declared.settings.InitSettings.{InitSettings}
@@ -48,7 +49,7 @@ IsNew files = IfSome files (λ held. ¬ HoldsConfig held)
 -- why no queue is made in a new folder: the settings are refused, or they are lawful and the file is at fault
 abbrev pub IsMakingFault : InitSettings → Roll → ToolFault → Type 0
 IsMakingFault wanted roll fault = IsLimitFault (wanted_settings wanted roll) fault
-    ⊎ (IsLawfulSettings (wanted_settings wanted roll) × IsFileFault (codes "queue.cqc") fault × IsSaveFault fault)
+    ⊎ (IsLawfulSettings (wanted_settings wanted roll) × IsFileFault CONFIG_FILE.now fault × IsSaveFault fault)
 
 -- why no queue is made: no roll has the word; else the folder is not found new; else it is, and the settings or the file are
 -- at fault

@@ -1,5 +1,5 @@
 -- What `migrate` makes of a folder of version 1.
-use Rattle.std.specs.Prelude.{◌≡◌, ◌⊎◌, ⊤, ℕ, ◌+◌, ◌≤◌, List, [], ◌∷◌, ◌++◌, Option, IfSome, IsOk, IsSomeAnd, Err, codes, if◌then◌else◌, length, map, string_bytes}
+use Rattle.std.specs.Prelude.{◌≡◌, ◌⊎◌, ⊤, ℕ, ◌+◌, ◌≤◌, List, [], ◌∷◌, ◌++◌, Option, IfSome, IsOk, IsSomeAnd, Err, if◌then◌else◌, length, map, string_bytes}
 use Rattle.std.specs.List.{AllByRecursion}
 use Rattle.cq_cycle.specs.declared.roll.TheConstants.{LAST_CYCLE}
 use Rattle.cq_layout.specs.Layout.{CycleLayout}
@@ -11,6 +11,7 @@ use Rattle.cq_image.specs.Versions.{begins_as}
 use Rattle.cq_image.specs.declared.fault.ImageFault.{ImageFault}
 use Rattle.cq_config_text.specs.ConfigText.{IsTextOf}
 use Rattle.cq_folder.specs.Folder.{Files, KeepsFiles, NamedFile, WritesFiles}
+use Rattle.cq_folder.specs.declared.names.TheConstants.{CONFIG_FILE}
 use Rattle.cq_config_text.specs.Version.{version_of}
 use Rattle.cq_config_text.specs.declared.config_text.SavedConfig.{SavedConfig}
 use Rattle.cq_config_text.specs.declared.version.FolderVersion.TheVariants.{First, Second}
@@ -65,7 +66,7 @@ pub record AreMovedFiles (saved : SavedConfig) (files : Files) (moved : List Nam
   pub lawful : IsLawfulSettings (moved_settings saved.config)
   pub all : AreMovedImages saved.config files images
   pub spelled : IsTextOf (moved_settings saved.config) saved.positions.items saved.floor config
-  pub in_turn : moved ≡ images ++ (codes "queue.cqc", config) ∷ []
+  pub in_turn : moved ≡ images ++ (CONFIG_FILE.now, config) ∷ []
 
 -- the files of a folder that lists these images were written in version 2
 pub record MovesFiles (saved : SavedConfig) (names : List (List ℕ)) (before after : Option Files) : Type 0 where
@@ -81,7 +82,7 @@ pub record IsMoved (before after : Option Files) : Type 0 where
   pub lawful : IsLawfulSettings saved.config
   pub low : saved.floor ≤ LAST_CYCLE
   pub configured : IfSome before (λ files.
-      IsSomeAnd (files (codes "queue.cqc")) (IsTextOf saved.config saved.positions.items saved.floor))
+      IsSomeAnd (files CONFIG_FILE.now) (IsTextOf saved.config saved.positions.items saved.floor))
   pub are : IfSome before (λ files. AreMovedFiles saved files moved)
   pub written : WritesFiles before after moved
 
@@ -135,7 +136,7 @@ IsMovingFault settings files (BadCycleName file) =
     HasCause files (BadCycleName file) × IsFirstFault IsWholeInEither files (BadCycleName file)
 IsMovingFault settings files (FileFault file) =
     IsReached IsWholeInEither files (string_bytes file) ⊎ ((moved : List NamedFile) × AreMovedImages settings files moved
-    × (string_bytes file ≡ first_file (codes "queue.cqc") moved))
+    × (string_bytes file ≡ first_file CONFIG_FILE.now moved))
 IsMovingFault settings files (FileTooLarge file) =
     HasCause files (FileTooLarge file) × IsReached IsWholeInEither files (string_bytes file)
 IsMovingFault settings files (FaultyImage file fault) =

@@ -17,12 +17,6 @@ use cq_text::{ToolFault, print};
 use std::alloc::{AllocError, Global};
 use std::io::Write;
 
-/// The file that keeps a queue's settings and positions.
-pub const CONFIG_FILE: &str = "queue.cqc";
-
-/// The ending of the names of images.
-pub(crate) const IMAGE_ENDING: &str = ".cqi";
-
 /// The most bytes of a file that a command reads, and of the input that `write` takes.
 pub const MOST_FILE_BYTES: usize = 8_388_608;
 

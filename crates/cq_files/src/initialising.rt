@@ -1,14 +1,14 @@
-ghost use Rattle.std.specs.Prelude.{◌≡◌, ◌⊎◌, ℕ, List, IfErr, IfOk, IfSome, OnErr, OnOk, codes, Some};
+ghost use Rattle.std.specs.Prelude.{◌≡◌, ◌⊎◌, ℕ, List, IfErr, IfOk, IfSome, OnErr, OnOk, Some};
 ghost use Rattle.cq_model.specs.Settings.{IsLawfulSettings};
 ghost use Rattle.cq_folder.specs.Folder.{KeepsFiles, WritesFile};
 ghost use Rattle.cq_files.specs.FolderFaults.{HoldsConfig, IsLimitFault, IsSaveFault};
 ghost use Rattle.cq_files.specs.Initialised.{IsInitFault, IsInitialText, IsListingFault, IsNew, IsTextFor, wanted_settings};
 ghost use Rattle.cq_files.specs.Counted.{CountsFaults};
 
-use crate::files::{CONFIG_FILE, has_name, listed, write_file};
+use crate::files::{has_name, listed, write_file};
 use cq_config_text::{FolderVersion, WantedConfig, write_config};
 use cq_cycle::{Roll, roll_named};
-use cq_folder::{Access, Folder};
+use cq_folder::{Access, CONFIG_FILE, Folder};
 use cq_model::{Config, copied_names};
 use cq_orders::InitSettings;
 use cq_text::ToolFault;
@@ -34,13 +34,13 @@ pub fn init<F: Folder>(
     settings: &InitSettings,
 ) -> Result<(), ToolFault>
     ensures written { OnOk result ((text : List ℕ) × IsInitialText settings.now text
-        × WritesFile (F.files folder.old) (F.files folder.new) (codes "queue.cqc") text) }
+        × WritesFile (F.files folder.old) (F.files folder.new) CONFIG_FILE.now text) }
     ensures new { OnOk result (IsNew (F.files folder.old)) }
     ensures fault { IfErr result (IsInitFault settings.now (F.files folder.old)) }
     ensures kept { IfErr result (λ fault. ¬ IsSaveFault fault → KeepsFiles (F.files folder.old) (F.files folder.new)) }
     ensures whole { OnErr result (KeepsFiles (F.files folder.old) (F.files folder.new)
         ⊎ ((text : List ℕ) × IsInitialText settings.now text
-        × WritesFile (F.files folder.old) (F.files folder.new) (codes "queue.cqc") text)) }
+        × WritesFile (F.files folder.old) (F.files folder.new) CONFIG_FILE.now text)) }
     ensures scarce { IfErr result (λ fault. fault ≡ ToolFault.OutOfMemory
         → KeepsFiles (F.files folder.old) (F.files folder.new)) }
     ensures safe { IfErr result (λ _. IfSome (F.files folder.old) (λ files. HoldsConfig files

@@ -9,7 +9,7 @@
 //! | `open_queue` | reads a folder's queue: `Kept`, `ReadQueue`, `SavedQueue`, `CycleImage`, `ImageFile`, `SeenMessages` |
 //! | `save`, `write_file` | save images, and a file |
 //! | `print_outside` | writes the output of a command that has left the folder |
-//! | `has_name`, `CONFIG_FILE`, `MOST_FILE_BYTES` | names of files, and the limit of their bytes |
+//! | `has_name`, `MOST_FILE_BYTES` | whether a file has a name, and the limit of a file's bytes |
 //!
 //! What holds of each command here, and of those in `cq_commands`:
 //!
@@ -32,7 +32,7 @@ mod saving;
 
 pub use checking::check;
 pub use dumping::dump;
-pub use files::{CONFIG_FILE, MOST_FILE_BYTES, has_name, print_outside, write_file};
+pub use files::{MOST_FILE_BYTES, has_name, print_outside, write_file};
 pub use initialising::init;
 pub use migrating::migrate;
 pub use opening::{CycleImage, ImageFile, Kept, ReadQueue, SavedQueue, SeenMessages, open_queue};

@@ -9,12 +9,15 @@
 //! | `FolderFault`, `fault_of` | why a call failed, and the fault for an error of the system |
 //! | `MemoryFolder` | a folder in memory, whose files contracts see |
 //! | `FailingFolder` | a folder of which one call fails, for tests |
+//! | `CONFIG_FILE`, `IMAGE_ENDING`, `RECORD_FILE`, `PART_ENDING` | the names of a queue's files |
 #![tactic(auto)]
 
 mod failing;
 mod memory;
+mod names;
 mod storage;
 
 pub use failing::FailingFolder;
 pub use memory::MemoryFolder;
+pub use names::{CONFIG_FILE, IMAGE_ENDING, PART_ENDING, RECORD_FILE};
 pub use storage::{Access, Folder, FolderFault, NewFile, fault_of};

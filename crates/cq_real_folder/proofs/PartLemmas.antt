@@ -1,5 +1,5 @@
 -- The names of parts.
-use Rattle.std.proofs.Common.{◌≡◌, ◌≢◌, ◌+◌, ◌-◌, ◌<◌, ◌^◌, ◌++◌, ◌∷◌, ◌∙◌, suc, ℕ, List, Result, Ok, ap, arith, append_assoc, codes, drop, get_or, length, length-append, subst, sym, take}
+use Rattle.std.proofs.Common.{◌≡◌, ◌≢◌, ◌+◌, ◌-◌, ◌<◌, ◌^◌, ◌++◌, ◌∷◌, ◌∙◌, suc, ℕ, List, Result, Ok, ap, arith, append_assoc, drop, get_or, length, length-append, subst, sym, take}
 use Rattle.std.proofs.Math.Seq.{drop-append-add, get_or-append_seam, take-append_seam}
 use Rattle.std.proofs.lemmas.Fmt.{decimal_is_IsNumeral, parse-decimal}
 use Rattle.std.proofs.lemmas.List.{append_cancel_right, get_or-append-add}
@@ -7,21 +7,22 @@ use Rattle.std.proofs.lemmas.Str.Parse.{digit_at}
 use Rattle.std.specs.Fmt.{decimal}
 use Rattle.std.specs.List.{slice_range}
 use Rattle.std.specs.Str.Parse.{ParsesUnsigned}
+use Rattle.cq_folder.specs.declared.names.TheConstants.{PART_ENDING}
 use Rattle.cq_real_folder.specs.Record.{part_name}
 
 -- what comes before `.part` in the name of a part
 abbrev pub stem : List ℕ → ℕ → List ℕ
 stem file process = file ++ 46 ∷ decimal process
 
-pub part_is : (file : List ℕ) (process : ℕ) → part_name file process ≡ stem file process ++ codes ".part"
-part_is file process = sym (append_assoc file (46 ∷ decimal process) (codes ".part"))
+pub part_is : (file : List ℕ) (process : ℕ) → part_name file process ≡ stem file process ++ PART_ENDING.now
+part_is file process = sym (append_assoc file (46 ∷ decimal process) PART_ENDING.now)
 
 -- what is left of the name of a part without `.part`
-pub front_is : (name front cut file : List ℕ) (process : ℕ) → name ≡ cut ++ codes ".part" → front ≡ cut
+pub front_is : (name front cut file : List ℕ) (process : ℕ) → name ≡ cut ++ PART_ENDING.now → front ≡ cut
     → name ≡ part_name file process → front ≡ stem file process
 front_is name front cut file process ends is spelled =
-    append_cancel_right front (stem file process) (codes ".part")
-    (ap (λ (bytes : List ℕ). bytes ++ codes ".part") is ∙ sym ends ∙ spelled ∙ part_is file process)
+    append_cancel_right front (stem file process) PART_ENDING.now
+    (ap (λ (bytes : List ℕ). bytes ++ PART_ENDING.now) is ∙ sym ends ∙ spelled ∙ part_is file process)
 
 pub front_part : (bytes : List ℕ) (k : ℕ) → slice_range bytes 0 k ≡ take k bytes
 front_part bytes k = let same : k - 0 ≡ k = omega arith in ap (λ (n : ℕ). take n bytes) same

@@ -19,6 +19,7 @@ use Rattle.std.specs.Fmt.{decimal}
 use Rattle.std.specs.List.{after_first, before_first, flat_map, list_all, position_or_len, slice_split}
 use Rattle.std.specs.Str.{IsUtf8}
 use Rattle.std.specs.Str.Lines.{lines, lines_of_parts, strip_carriage_return}
+use Rattle.cq_folder.specs.declared.names.TheConstants.{IMAGE_ENDING}
 use Rattle.cq_real_folder.specs.Record.{IsFileName, name_text, record_head, record_text}
 
 -- the byte ends a line
@@ -37,11 +38,11 @@ last_byte name (inl is, _, _) same =
     omega (arith, last, same)
 last_byte name (inr is, _, _) same =
     let front = take (length name - 4) name in
-    let whole : name ≡ front ++ codes ".cqi" = (ends_is Decides-eqb name (codes ".cqi") true (sym is)).0 refl in
-    let place : length (front ++ codes ".cqi") - 1 ≡ length front + 3 = omega (arith, length-append front (codes ".cqi")) in
+    let whole : name ≡ front ++ IMAGE_ENDING.now = (ends_is Decides-eqb name IMAGE_ENDING.now true (sym is)).0 refl in
+    let place : length (front ++ IMAGE_ENDING.now) - 1 ≡ length front + 3 = omega (arith, length-append front IMAGE_ENDING.now) in
     let last : get_or name (length name - 1) 0 ≡ 105 =
     ap (λ (bytes : List ℕ). get_or bytes (length bytes - 1) 0) whole
-    ∙ ap (λ (k : ℕ). get_or (front ++ codes ".cqi") k 0) place ∙ get_or-append-add front (codes ".cqi") 3 0 in
+    ∙ ap (λ (k : ℕ). get_or (front ++ IMAGE_ENDING.now) k 0) place ∙ get_or-append-add front IMAGE_ENDING.now 3 0 in
     omega (arith, last, same)
 
 kept : (name : List ℕ) → IsFileName name → strip_carriage_return name ≡ name

@@ -3,10 +3,11 @@ use Rattle.std.specs.Prelude.{◌≡◌, ◌⊎◌, ◌<◌, ◌^◌, ℕ, List,
 use Rattle.std.specs.Fmt.{decimal}
 use Rattle.std.specs.Global.{Global}
 use Rattle.std.specs.List.{ends_with, flat_map}
+use Rattle.cq_folder.specs.declared.names.TheConstants.{CONFIG_FILE, IMAGE_ENDING, PART_ENDING, RECORD_FILE}
 
 -- a file of a queue that a record can name: `queue.cqc` or an image by its name, in no other folder and on one line
 abbrev pub IsFileName : List ℕ → Type 0
-IsFileName name = ((name ≡ codes "queue.cqc") ⊎ IsTrue (ends_with nat_eq name (codes ".cqi")))
+IsFileName name = ((name ≡ CONFIG_FILE.now) ⊎ IsTrue (ends_with nat_eq name IMAGE_ENDING.now))
     × (¬ Contains name 47) × (¬ Contains name 10)
 
 -- how a record begins: what it is, and the process, each on a line
@@ -29,11 +30,11 @@ pub record IsRecord (process : ℕ) (names : List (String Global)) : Type 0 wher
 
 -- a file whose new bytes are written to a part first: one that a record can name, or the record
 abbrev pub HasParts : List ℕ → Type 0
-HasParts file = (file ≡ codes "queue.save") ⊎ IsFileName file
+HasParts file = (file ≡ RECORD_FILE.now) ⊎ IsFileName file
 
 -- the name of the part that a process writes of a file: the file's name, a dot, the number of the process and `.part`
 abbrev pub part_name : List ℕ → ℕ → List ℕ
-part_name file process = file ++ (codes "." ++ (decimal process ++ codes ".part"))
+part_name file process = file ++ (codes "." ++ (decimal process ++ PART_ENDING.now))
 
 -- the name is that of a part
 pub record IsPartName (name : List ℕ) : Type 0 where

@@ -3,10 +3,8 @@ ghost use Rattle.std.specs.List.{list_any};
 ghost use Rattle.std.specs.Str.{bytes_eq};
 ghost use Rattle.cq_real_folder.specs.Record.{HasParts, IsFileName, IsPartName, IsRecord, name_text, part_name, record_text};
 
+use cq_folder::{CONFIG_FILE, IMAGE_ENDING, PART_ENDING, RECORD_FILE};
 use std::alloc::{AllocError, Global};
-
-/// The file that holds the renames of a save until they are done.
-pub(crate) const RECORD_FILE: &str = "queue.save";
 
 /// The renames of a save: the part of each file, which a process wrote next to it, replaces the file.
 #[derive(Drop)]
@@ -121,14 +119,14 @@ pub(crate) fn is_file_name(name: &str) -> bool
     if bytes.contains(&b'/') || bytes.contains(&b'\n') {
         return false;
     }
-    name == "queue.cqc" || bytes.ends_with(b".cqi")
+    name == CONFIG_FILE || bytes.ends_with(IMAGE_ENDING.as_bytes())
 }
 
 /// Returns the name of the part of a file that the process with this number writes.
 pub(crate) fn part_name(alloc: Global, file: &str, process: u32) -> Result<String, AllocError>
     ensures { IfOk result (λ name. string_bytes name ≡ part_name file.now process) }
 {
-    format!(in alloc; "{file}.{process}.part")
+    format!(in alloc; "{file}.{process}{PART_ENDING}")
 }
 
 /// Returns whether a file is a part by its name, `FILE.NUMBER.part`. FILE is the record or a file that a record can
@@ -150,7 +148,7 @@ fn part_in(name: &str) -> Option<(&str, u32)>
     ensures { (file : List ℕ) (process : ℕ) → process < 2 ^ 32 → name.now ≡ part_name file process
         → IsSomeAnd result (λ found. (found.0.now ≡ file) × (found.1 ≡ process)) }
 {
-    let front = name.strip_suffix(".part")?;
+    let front = name.strip_suffix(PART_ENDING)?;
     let dot = front.rfind('.')?;
     let process = front[dot + 1..].parse().ok()?;
     Some((&front[..dot], process))

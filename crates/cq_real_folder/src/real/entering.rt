@@ -4,8 +4,8 @@ ghost use Rattle.std.specs.Prelude.{◌≡◌, IfOk, None, OnOk, Some, option_ma
 
 use super::locking::Lock;
 use super::{RealFolder, unless_missing};
-use crate::record::{RECORD_FILE, Record, is_part_name};
-use cq_folder::Access;
+use crate::record::{Record, is_part_name};
+use cq_folder::{Access, RECORD_FILE};
 use std::alloc::Global;
 use std::fs::{self, File};
 use std::io::{self, ErrorKind};

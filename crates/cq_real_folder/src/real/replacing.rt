@@ -4,8 +4,8 @@ ghost use Rattle.std.specs.Prelude.{◌≡◌, All, IfOk, map, string_bytes};
 ghost use Rattle.cq_real_folder.specs.Record.{IsFileName};
 
 use super::{RealFolder, unless_missing};
-use crate::record::{RECORD_FILE, Record, is_file_name};
-use cq_folder::NewFile;
+use crate::record::{Record, is_file_name};
+use cq_folder::{NewFile, RECORD_FILE};
 use std::fs::{self, File, OpenFile, Permissions};
 use std::io::{self, ErrorKind, Write};
 use std::rt::Files;

@@ -1,6 +1,6 @@
 use Rattle.std.proofs.Common.{◌≡◌, rules}
 use Rattle.std.proofs.lemmas.Result.{on_err_weaker, on_ok_weaker}
-use Rattle.std.specs.Prelude.{codes}
+use Rattle.cq_folder.specs.declared.names.TheConstants.{CONFIG_FILE}
 use Rattle.cq_text.specs.declared.fault.ToolFault.TheVariants.{OutOfMemory}
 use Rattle.cq_files.specs.Initialised.{IsInitialText}
 use Rattle.cq_files.proofs.WritingLemmas.{kept_behind, kept_or_wrote, kept_then_wrote}
@@ -14,7 +14,7 @@ returns-clause-whole g c =
     let after = g.F.Folder.files c.write_file.new.folder in
     let made : IsInitialText c.args.settings.now c.as_slice.result.now = search rules in
     on_err_weaker c.write_file.result
-    (λ whole. kept_or_wrote before middle after (codes "queue.cqc") _ (IsInitialText c.args.settings.now) made c.in_ok-check_new.ensures.kept whole)
+    (λ whole. kept_or_wrote before middle after CONFIG_FILE.now _ (IsInitialText c.args.settings.now) made c.in_ok-check_new.ensures.kept whole)
     c.write_file.ensures.whole
 
 pub returns-clause-scarce : goal.returns-clause-scarce
@@ -29,7 +29,7 @@ returns-clause-written g c =
     let after = g.F.Folder.files c.write_file.new.folder in
     let made : IsInitialText c.args.settings.now c.as_slice.result.now = search rules in
     on_ok_weaker c.write_file.result
-    (λ written. (c.as_slice.result.now, made, kept_then_wrote before middle after (codes "queue.cqc") _ c.in_ok-check_new.ensures.kept written))
+    (λ written. (c.as_slice.result.now, made, kept_then_wrote before middle after CONFIG_FILE.now _ c.in_ok-check_new.ensures.kept written))
     c.write_file.ensures.written
 
 pub returns-clause-counted : goal.returns-clause-counted

@@ -1,0 +1,11 @@
+/// The file that keeps a queue's settings and positions.
+pub const CONFIG_FILE: &str = "queue.cqc";
+
+/// The ending of the names of images.
+pub const IMAGE_ENDING: &str = ".cqi";
+
+/// The file that holds the renames of a save until they are done.
+pub const RECORD_FILE: &str = "queue.save";
+
+/// The ending of the names of parts. A part has the new bytes of a file until it replaces the file.
+pub const PART_ENDING: &str = ".part";
