@@ -1,17 +1,12 @@
 -- What is left of a folder's files after several calls, of which the last may write.
 use Rattle.std.proofs.Common.{◌≡◌, List, [], ◌∷◌, ℕ, ap, inl, inr, refl, ◌∙◌}
-use Rattle.std.specs.Prelude.{◌⊎◌, Option, None, Some, IfErr, OnErr, Result, Ok, Err, if◌then◌else◌}
+use Rattle.std.specs.Prelude.{◌⊎◌, Option, None, Some, IfErr, Result, Ok, Err, if◌then◌else◌}
 use Rattle.std.specs.Str.{bytes_eq}
 use Rattle.cq_folder.specs.Folder.{Files, KeepsFiles, KeepsOrWrites, NamedFile, WritesFile, WritesFiles, after_writes}
 use Rattle.cq_text.specs.declared.fault.ToolFault.{ToolFault}
 use Rattle.cq_text.specs.declared.fault.ToolFault.TheVariants.{FileFault}
 use Rattle.cq_files.specs.FolderFaults.{IsFileFault, TellsFile}
 use Rattle.cq_files.proofs.QueueLemmas.{keeps-trans}
-
--- what holds anyway holds after a fault
-pub on_err : {T E P : Type 0} (result : Result T E) → P → OnErr result P
-on_err (Ok value) p = tt
-on_err (Err fault) p = p
 
 -- a file that was written behind calls that keep all files
 pub kept_then_wrote : (a b c : Option Files) (file bytes : List ℕ) → KeepsFiles a b → WritesFile b c file bytes → WritesFile a c file bytes

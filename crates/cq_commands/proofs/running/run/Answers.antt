@@ -10,8 +10,9 @@ use Rattle.cq_text.specs.declared.fault.ToolFault.TheVariants.{OutOfMemory, Writ
 use Rattle.cq_text.specs.CycleLine.{IsCycleLine}
 use Rattle.cq_text.specs.Output.{AppendsBeginning}
 use Rattle.cq_commands.specs.Messages.{IsReadOut}
-use Rattle.cq_commands.specs.Orders.{IsCutShort, IsDone, KeepsOrSaves, LeavesFiles, MayFail, Streams, TakesVersion, TellsSaved}
+use Rattle.cq_commands.specs.Orders.{IsCutShort, IsDone, LeavesFiles, MayFail, Streams, TakesVersion, TellsSaved}
 use Rattle.cq_commands.specs.QueueFaults.{IsReadFault}
+use Rattle.cq_commands.specs.Saving.{KeepsOrSaves}
 use Rattle.cq_commands.specs.Taken.{IsTaken}
 use Rattle.cq_commands.proofs.running.run.Goals as goal
 
@@ -34,37 +35,42 @@ both : {T : Type 0} (result : Result T ToolFault) (P Q : ToolFault → Type 0) �
 both (Ok value) P Q one other = tt
 both (Err fault) P Q one other = (one, other)
 
-keeps_or_saves : {T : Type 0} (s : Streams) (Saved : Type 0) (result : Result T ToolFault)
-    → IfErr result (λ fault. ¬ IsSaveFault fault → KeepsFiles s.files s.files_after)
-    → IfErr result (λ fault. fault ≡ OutOfMemory → KeepsFiles s.files s.files_after)
-    → OnErr result (KeepsFiles s.files s.files_after ⊎ Saved) → IfErr result (KeepsOrSaves s Saved)
-keeps_or_saves s Saved (Ok value) unsaved scarce whole = tt
-keeps_or_saves s Saved (Err fault) unsaved scarce whole = record { unsaved = unsaved; scarce = scarce; whole = whole }
+-- what was cut short of a known order was of the one that was given
+cut_off : {T : Type 0} (s : Streams) (result : Result T ToolFault) (order known : Order) → order ≡ known
+    → IfErr result (λ fault. fault ≡ WriteFault → IsCutShort known s) → IfErr result (λ fault. fault ≡ WriteFault → IsCutShort order s)
+cut_off s result order known is holds = failed (λ (o : Order) t fault. fault ≡ WriteFault → IsCutShort o t) s result order known is holds
+
+keeps_or_saves : {T : Type 0} (before after : Option Files) (Saved : Type 0) (result : Result T ToolFault)
+    → IfErr result (λ fault. ¬ IsSaveFault fault → KeepsFiles before after)
+    → IfErr result (λ fault. fault ≡ OutOfMemory → KeepsFiles before after)
+    → OnErr result (KeepsFiles before after ⊎ Saved) → IfErr result (KeepsOrSaves before after Saved)
+keeps_or_saves before after Saved (Ok value) unsaved scarce whole = tt
+keeps_or_saves before after Saved (Err fault) unsaved scarce whole = record { unsaved = unsaved; scarce = scarce; whole = whole }
 
 pub returns-in-Init-clause-left : goal.returns-in-Init-clause-left
 returns-in-Init-clause-left g c = failed LeavesFiles _ c.init.result c.args.order.now _ c.in-Init.is
     (both c.init.result _ _
-    (keeps_or_saves _ _ c.init.result c.init.ensures.kept c.init.ensures.scarce c.init.ensures.whole) c.init.ensures.safe)
+    (keeps_or_saves _ _ _ c.init.result c.init.ensures.kept c.init.ensures.scarce c.init.ensures.whole) c.init.ensures.safe)
 
 pub returns-in-Write-clause-left : goal.returns-in-Write-clause-left
-returns-in-Write-clause-left g c = failed LeavesFiles _ c.write.result c.args.order.now _ c.in-Write.is
-    (keeps_or_saves _ _ c.write.result c.write.ensures.kept c.write.ensures.scarce c.write.ensures.whole)
+returns-in-Write-clause-left g c =
+    failed LeavesFiles _ c.write.result c.args.order.now _ c.in-Write.is c.write.ensures.saved.left
 
 pub returns-in-Take-clause-left : goal.returns-in-Take-clause-left
-returns-in-Take-clause-left g c = failed LeavesFiles _ c.take.result c.args.order.now _ c.in-Take.is
-    (keeps_or_saves _ _ c.take.result c.take.ensures.kept c.take.ensures.scarce
-    (subst (λ (name : List ℕ). OnErr c.take.result (KeepsFiles (g.F.Folder.files c.args.folder.now) (g.F.Folder.files c.take.new.folder)
-    ⊎ ((text : List ℕ) × IsTaken name (g.F.Folder.files c.args.folder.now) (g.F.Folder.files c.take.new.folder) text)))
-    c.as_str-in-Take.ensures.value c.take.ensures.whole))
+returns-in-Take-clause-left g c =
+    let before = g.F.Folder.files c.args.folder.now in
+    let after = g.F.Folder.files c.take.new.folder in
+    failed LeavesFiles _ c.take.result c.args.order.now _ c.in-Take.is
+    (subst (λ (name : List ℕ). IfErr c.take.result (KeepsOrSaves before after ((text : List ℕ) × IsTaken name before after text)))
+    c.as_str-in-Take.ensures.value c.take.ensures.saved.left)
 
 pub returns-in-DropBefore-clause-left : goal.returns-in-DropBefore-clause-left
-returns-in-DropBefore-clause-left g c = failed LeavesFiles _ c.drop_before.result c.args.order.now _ c.in-DropBefore.is
-    (keeps_or_saves _ _ c.drop_before.result c.drop_before.ensures.kept c.drop_before.ensures.scarce
-    c.drop_before.ensures.whole)
+returns-in-DropBefore-clause-left g c =
+    failed LeavesFiles _ c.drop_before.result c.args.order.now _ c.in-DropBefore.is c.drop_before.ensures.saved.left
 
 pub returns-in-Cycle-clause-broken : goal.returns-in-Cycle-clause-broken
 returns-in-Cycle-clause-broken g c =
-    failed (λ (order : Order) s fault. fault ≡ WriteFault → IsCutShort order s) _ c.cycle.result c.args.order.now _ c.in-Cycle.is
+    cut_off _ c.cycle.result c.args.order.now _ c.in-Cycle.is
     (subst (λ (word : List ℕ). IfErr c.cycle.result (λ fault. fault ≡ WriteFault → (text : List ℕ)
     × IsCycleLine word c.in-Cycle.epoch c.in-Cycle.moment text
     × AppendsBeginning (g.W.Write.contents c.args.output.now) (g.W.Write.contents c.cycle.new.output) text))
@@ -101,8 +107,49 @@ pub returns-in-Read-clause-silent : goal.returns-in-Read-clause-silent
 returns-in-Read-clause-silent g c =
     each_fault c.read.result _ _ (λ fault silent unwritten unfaulty. silent unwritten) c.read.ensures.silent
 
+pub returns-in-Write-clause-done : goal.returns-in-Write-clause-done
+returns-in-Write-clause-done g c = done _ c.write.result c.args.order.now _ c.in-Write.is c.write.ensures.saved.done
+
 pub returns-in-Take-clause-done : goal.returns-in-Take-clause-done
-returns-in-Take-clause-done g c = search rules
+returns-in-Take-clause-done g c =
+    let before = g.F.Folder.files c.args.folder.now in
+    let after = g.F.Folder.files c.take.new.folder in
+    done _ c.take.result c.args.order.now _ c.in-Take.is
+    (subst (λ (name : List ℕ). OnOk c.take.result ((text : List ℕ) × IsTaken name before after text
+    × Appends (g.W.Write.contents c.args.output.now) (g.W.Write.contents c.take.new.output) text))
+    c.as_str-in-Take.ensures.value c.take.ensures.saved.done)
+
+pub returns-in-DropBefore-clause-done : goal.returns-in-DropBefore-clause-done
+returns-in-DropBefore-clause-done g c =
+    done _ c.drop_before.result c.args.order.now _ c.in-DropBefore.is c.drop_before.ensures.saved.done
+
+pub returns-in-Write-clause-broken : goal.returns-in-Write-clause-broken
+returns-in-Write-clause-broken g c = cut_off _ c.write.result c.args.order.now _ c.in-Write.is c.write.ensures.saved.broken
+
+pub returns-in-Take-clause-broken : goal.returns-in-Take-clause-broken
+returns-in-Take-clause-broken g c =
+    let before = g.F.Folder.files c.args.folder.now in
+    let after = g.F.Folder.files c.take.new.folder in
+    cut_off _ c.take.result c.args.order.now _ c.in-Take.is
+    (subst (λ (name : List ℕ). IfErr c.take.result (λ fault. fault ≡ WriteFault → (text : List ℕ) × IsTaken name before after text
+    × AppendsBeginning (g.W.Write.contents c.args.output.now) (g.W.Write.contents c.take.new.output) text))
+    c.as_str-in-Take.ensures.value c.take.ensures.saved.broken)
+
+pub returns-in-DropBefore-clause-broken : goal.returns-in-DropBefore-clause-broken
+returns-in-DropBefore-clause-broken g c =
+    cut_off _ c.drop_before.result c.args.order.now _ c.in-DropBefore.is c.drop_before.ensures.saved.broken
+
+pub returns-in-Write-clause-silent : goal.returns-in-Write-clause-silent
+returns-in-Write-clause-silent g c =
+    each_fault c.write.result _ _ (λ fault silent unwritten unfaulty. silent unwritten) c.write.ensures.saved.silent
+
+pub returns-in-Take-clause-silent : goal.returns-in-Take-clause-silent
+returns-in-Take-clause-silent g c =
+    each_fault c.take.result _ _ (λ fault silent unwritten unfaulty. silent unwritten) c.take.ensures.saved.silent
+
+pub returns-in-DropBefore-clause-silent : goal.returns-in-DropBefore-clause-silent
+returns-in-DropBefore-clause-silent g c =
+    each_fault c.drop_before.result _ _ (λ fault silent unwritten unfaulty. silent unwritten) c.drop_before.ensures.saved.silent
 
 pub returns-in-Check-clause-cause : goal.returns-in-Check-clause-cause
 returns-in-Check-clause-cause g c = search rules
