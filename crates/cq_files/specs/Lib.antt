@@ -8,3 +8,4 @@ pub mod Counted
 pub mod Salvaged
 pub mod Shown
 pub mod Migrated
+pub mod Saving

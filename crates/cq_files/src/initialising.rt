@@ -1,8 +1,9 @@
-ghost use Rattle.std.specs.Prelude.{◌≡◌, ◌⊎◌, ℕ, List, IfErr, IfOk, IfSome, OnErr, OnOk, Some};
+ghost use Rattle.std.specs.Prelude.{◌≡◌, ℕ, List, IfErr, IfOk, IfSome, OnOk, Some};
 ghost use Rattle.cq_model.specs.Settings.{IsLawfulSettings};
 ghost use Rattle.cq_folder.specs.Folder.{KeepsFiles, WritesFile};
-ghost use Rattle.cq_files.specs.FolderFaults.{HoldsConfig, IsLimitFault, IsSaveFault};
+ghost use Rattle.cq_files.specs.FolderFaults.{HoldsConfig, IsLimitFault};
 ghost use Rattle.cq_files.specs.Initialised.{IsInitFault, IsInitialText, IsListingFault, IsNew, IsTextFor, wanted_settings};
+ghost use Rattle.cq_files.specs.Saving.{KeepsOrSaves};
 ghost use Rattle.cq_files.specs.Counted.{CountsFaults};
 
 use crate::files::{has_name, listed, write_file};
@@ -37,12 +38,9 @@ pub fn init<F: Folder>(
         × WritesFile (F.files folder.old) (F.files folder.new) CONFIG_FILE.now text) }
     ensures new { OnOk result (IsNew (F.files folder.old)) }
     ensures fault { IfErr result (IsInitFault settings.now (F.files folder.old)) }
-    ensures kept { IfErr result (λ fault. ¬ IsSaveFault fault → KeepsFiles (F.files folder.old) (F.files folder.new)) }
-    ensures whole { OnErr result (KeepsFiles (F.files folder.old) (F.files folder.new)
-        ⊎ ((text : List ℕ) × IsInitialText settings.now text
+    ensures left { IfErr result (KeepsOrSaves (F.files folder.old) (F.files folder.new) ((text : List ℕ)
+        × IsInitialText settings.now text
         × WritesFile (F.files folder.old) (F.files folder.new) CONFIG_FILE.now text)) }
-    ensures scarce { IfErr result (λ fault. fault ≡ ToolFault.OutOfMemory
-        → KeepsFiles (F.files folder.old) (F.files folder.new)) }
     ensures safe { IfErr result (λ _. IfSome (F.files folder.old) (λ files. HoldsConfig files
         → KeepsFiles (F.files folder.old) (F.files folder.new))) }
     ensures counted { CountsFaults (F.failed folder.old) (F.failed folder.new) result }

@@ -1,18 +1,17 @@
 use Rattle.std.proofs.Common.{◌≡◌, ℕ, List, rules, subst, sym}
 use Rattle.std.proofs.lemmas.Result.{on_ok_weaker}
-use Rattle.std.specs.Prelude.{◌⊎◌, IfErr, IfSome, OnErr, OnOk, Option, Result, Ok, Err}
+use Rattle.std.specs.Prelude.{IfErr, IfSome, OnOk, Option, Result, Ok, Err}
 use Rattle.std.specs.Io.KnownBytes.{Appends}
-use Rattle.cq_folder.specs.Folder.{Files, KeepsFiles}
-use Rattle.cq_files.specs.FolderFaults.{IsSaveFault}
+use Rattle.cq_folder.specs.Folder.{Files}
 use Rattle.cq_orders.specs.declared.order.Order.{Order}
 use Rattle.cq_text.specs.declared.fault.ToolFault.{ToolFault}
-use Rattle.cq_text.specs.declared.fault.ToolFault.TheVariants.{OutOfMemory, WriteFault}
+use Rattle.cq_text.specs.declared.fault.ToolFault.TheVariants.{WriteFault}
 use Rattle.cq_text.specs.CycleLine.{IsCycleLine}
 use Rattle.cq_text.specs.Output.{AppendsBeginning}
 use Rattle.cq_commands.specs.Messages.{IsReadOut}
 use Rattle.cq_commands.specs.Orders.{IsCutShort, IsDone, LeavesFiles, MayFail, Streams, TakesVersion, TellsSaved}
 use Rattle.cq_commands.specs.QueueFaults.{IsReadFault}
-use Rattle.cq_commands.specs.Saving.{KeepsOrSaves}
+use Rattle.cq_files.specs.Saving.{KeepsOrSaves}
 use Rattle.cq_commands.specs.Taken.{IsTaken}
 use Rattle.cq_commands.proofs.running.run.Goals as goal
 
@@ -40,17 +39,12 @@ cut_off : {T : Type 0} (s : Streams) (result : Result T ToolFault) (order known 
     → IfErr result (λ fault. fault ≡ WriteFault → IsCutShort known s) → IfErr result (λ fault. fault ≡ WriteFault → IsCutShort order s)
 cut_off s result order known is holds = failed (λ (o : Order) t fault. fault ≡ WriteFault → IsCutShort o t) s result order known is holds
 
-keeps_or_saves : {T : Type 0} (before after : Option Files) (Saved : Type 0) (result : Result T ToolFault)
-    → IfErr result (λ fault. ¬ IsSaveFault fault → KeepsFiles before after)
-    → IfErr result (λ fault. fault ≡ OutOfMemory → KeepsFiles before after)
-    → OnErr result (KeepsFiles before after ⊎ Saved) → IfErr result (KeepsOrSaves before after Saved)
-keeps_or_saves before after Saved (Ok value) unsaved scarce whole = tt
-keeps_or_saves before after Saved (Err fault) unsaved scarce whole = record { unsaved = unsaved; scarce = scarce; whole = whole }
-
 pub returns-in-Init-clause-left : goal.returns-in-Init-clause-left
 returns-in-Init-clause-left g c = failed LeavesFiles _ c.init.result c.args.order.now _ c.in-Init.is
-    (both c.init.result _ _
-    (keeps_or_saves _ _ _ c.init.result c.init.ensures.kept c.init.ensures.scarce c.init.ensures.whole) c.init.ensures.safe)
+    (both c.init.result _ _ c.init.ensures.left c.init.ensures.safe)
+
+pub returns-in-Migrate-clause-left : goal.returns-in-Migrate-clause-left
+returns-in-Migrate-clause-left g c = failed LeavesFiles _ c.migrate.result c.args.order.now _ c.in-Migrate.is c.migrate.ensures.left
 
 pub returns-in-Write-clause-left : goal.returns-in-Write-clause-left
 returns-in-Write-clause-left g c =

@@ -1,26 +1,35 @@
-use Rattle.std.proofs.Common.{◌≡◌, rules}
-use Rattle.std.proofs.lemmas.Result.{on_err_weaker, on_ok_weaker}
+use Rattle.std.proofs.Common.{List, ℕ, rules}
+use Rattle.std.proofs.lemmas.Result.{on_ok_weaker}
+use Rattle.cq_folder.specs.Folder.{WritesFile}
 use Rattle.cq_folder.specs.declared.names.TheConstants.{CONFIG_FILE}
-use Rattle.cq_text.specs.declared.fault.ToolFault.TheVariants.{OutOfMemory}
 use Rattle.cq_files.specs.Initialised.{IsInitialText}
-use Rattle.cq_files.proofs.WritingLemmas.{kept_behind, kept_or_wrote, kept_then_wrote}
+use Rattle.cq_files.proofs.QueueLemmas.{keeps-refl}
+use Rattle.cq_files.proofs.WritingLemmas.{kept_then_wrote, left_after, left_by_save, still_kept}
 use Rattle.cq_files.proofs.CountLemmas.{counts_from, counts_passed}
 use Rattle.cq_files.proofs.initialising.init.Goals as goal
 
-pub returns-clause-whole : goal.returns-clause-whole
-returns-clause-whole g c =
+pub returns-clause-left : goal.returns-clause-left
+returns-clause-left g c =
     let before = g.F.Folder.files c.args.folder.now in
     let middle = g.F.Folder.files c.check_new.new.folder in
     let after = g.F.Folder.files c.write_file.new.folder in
-    let made : IsInitialText c.args.settings.now c.as_slice.result.now = search rules in
-    on_err_weaker c.write_file.result
-    (λ whole. kept_or_wrote before middle after CONFIG_FILE.now _ (IsInitialText c.args.settings.now) made c.in_ok-check_new.ensures.kept whole)
-    c.write_file.ensures.whole
+    let bytes = c.as_slice.result.now in
+    let made : IsInitialText c.args.settings.now bytes = search rules in
+    let kept = c.in_ok-check_new.ensures.kept in
+    let told = c.write_file.ensures in
+    left_after c.write_file.result before middle after (WritesFile middle after CONFIG_FILE.now bytes)
+    ((text : List ℕ) × IsInitialText c.args.settings.now text × WritesFile before after CONFIG_FILE.now text) kept
+    (λ written. (bytes, made, kept_then_wrote before middle after CONFIG_FILE.now bytes kept written))
+    (left_by_save c.write_file.result middle after (WritesFile middle after CONFIG_FILE.now bytes) told.save told.scarce told.whole)
 
-pub returns-clause-scarce : goal.returns-clause-scarce
-returns-clause-scarce g c =
-    kept_behind (λ fault. fault ≡ OutOfMemory) (g.F.Folder.files c.args.folder.now) (g.F.Folder.files c.check_new.new.folder)
-    (g.F.Folder.files c.write_file.new.folder) c.write_file.result c.in_ok-check_new.ensures.kept c.write_file.ensures.scarce
+pub returns-in_err-roll-clause-left : goal.returns-in_err-roll-clause-left
+returns-in_err-roll-clause-left g c = still_kept c.from_residual.result _ _ _ (keeps-refl (g.F.Folder.files c.args.folder.now))
+
+pub returns-in_err-check_new-clause-left : goal.returns-in_err-check_new-clause-left
+returns-in_err-check_new-clause-left g c = still_kept c.from_residual-in_err-check_new.result _ _ _ c.check_new.ensures.kept
+
+pub returns-in_err-text-clause-left : goal.returns-in_err-text-clause-left
+returns-in_err-text-clause-left g c = still_kept c.from_residual-in_err-text.result _ _ _ c.check_new.ensures.kept
 
 pub returns-clause-written : goal.returns-clause-written
 returns-clause-written g c =
