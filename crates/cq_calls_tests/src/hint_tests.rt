@@ -1,6 +1,6 @@
 //! Messages with and without entries in the index and a write position: reads find them all.
-use crate::lives::{End, Life, Start, assert_lives};
-use crate::queues::Call;
+use crate::lives::{End, Life, Start, expect_lives};
+use crate::queues::{Call, Calls};
 use cq_fixtures::DAY;
 use cq_tail::Direction;
 use std::test::Fail;
@@ -9,24 +9,24 @@ use std::test::Fail;
 const LAST: u64 = 4_294_967_297;
 
 /// Reads of every kind, from the start of a queue.
-const READS: &[Call] = &[
-    Call::ReadAt(1),
-    Call::ReadAt(LAST),
-    Call::ReadAt(0),
-    Call::ReadAt(3),
-    Call::ReadAt(LAST + 1),
-    Call::MoveTo(2),
-    Call::Next,
-    Call::Next,
-    Call::ToEnd,
-    Call::Next,
-    Call::Turn(Direction::Backwards),
-    Call::Next,
-    Call::Next,
-    Call::Next,
-    Call::MoveTo(1),
-    Call::Next,
-    Call::Next,
+const READS: Calls = &[
+    (Call::ReadAt(1), "1 b"),
+    (Call::ReadAt(LAST), "4294967297 e"),
+    (Call::ReadAt(0), "0 a"),
+    (Call::ReadAt(3), "Never"),
+    (Call::ReadAt(LAST + 1), "NotYet"),
+    (Call::MoveTo(2), "moved"),
+    (Call::Next, "2 c"),
+    (Call::Next, "4294967296 d"),
+    (Call::ToEnd, "end 4294967298"),
+    (Call::Next, "NotYet"),
+    (Call::Turn(Direction::Backwards), "turned"),
+    (Call::Next, "4294967297 e"),
+    (Call::Next, "4294967296 d"),
+    (Call::Next, "2 c"),
+    (Call::MoveTo(1), "moved"),
+    (Call::Next, "0 a"),
+    (Call::Next, "BeforeStart"),
 ];
 
 static WITH_AND_WITHOUT: [Life; 3] = [
@@ -35,52 +35,46 @@ static WITH_AND_WITHOUT: [Life; 3] = [
         cycles: 4,
         start: Start::New(0),
         calls: &[
-            Call::Append(0, "a"),
-            Call::Append(0, "b"),
-            Call::Append(0, "c"),
-            Call::Append(DAY, "d"),
-            Call::Append(DAY, "e"),
-            Call::ReadAt(LAST),
-            Call::ReadAt(1),
-            Call::ReadAt(2),
+            (Call::Append(0, "a"), "0"),
+            (Call::Append(0, "b"), "1"),
+            (Call::Append(0, "c"), "2"),
+            (Call::Append(DAY, "d"), "4294967296"),
+            (Call::Append(DAY, "e"), "4294967297"),
+            (Call::ReadAt(LAST), "4294967297 e"),
+            (Call::ReadAt(1), "1 b"),
+            (Call::ReadAt(2), "2 c"),
         ],
         end: End::Reopened(READS),
-        answers: "0; 1; 2; 4294967296; 4294967297; 4294967297 e; 1 b; 2 c; \
-            1 b; 4294967297 e; 0 a; Never; NotYet; moved; 2 c; 4294967296 d; end 4294967298; NotYet; \
-            turned; 4294967297 e; 4294967296 d; 2 c; moved; 0 a; BeforeStart; ",
     },
     Life {
         cycles: 4,
         start: Start::Held(&[(0, &["a", "b", "c"]), (1, &["d", "e"])], &[0]),
         calls: READS,
         end: End::Dropped,
-        answers: "1 b; 4294967297 e; 0 a; Never; NotYet; moved; 2 c; 4294967296 d; end 4294967298; NotYet; \
-            turned; 4294967297 e; 4294967296 d; 2 c; moved; 0 a; BeforeStart; ",
     },
     // Messages with entries come after some without.
     Life {
         cycles: 4,
         start: Start::Held(&[(0, &["a", "b", "c"])], &[0]),
         calls: &[
-            Call::Append(0, "d"),
-            Call::Append(0, "e"),
-            Call::ReadAt(3),
-            Call::ReadAt(1),
-            Call::ReadAt(4),
-            Call::ReadAt(5),
-            Call::ReadAt(0),
-            Call::MoveTo(2),
-            Call::Next,
-            Call::ToEnd,
-            Call::Turn(Direction::Backwards),
-            Call::Next,
+            (Call::Append(0, "d"), "3"),
+            (Call::Append(0, "e"), "4"),
+            (Call::ReadAt(3), "3 d"),
+            (Call::ReadAt(1), "1 b"),
+            (Call::ReadAt(4), "4 e"),
+            (Call::ReadAt(5), "NotYet"),
+            (Call::ReadAt(0), "0 a"),
+            (Call::MoveTo(2), "moved"),
+            (Call::Next, "2 c"),
+            (Call::ToEnd, "end 5"),
+            (Call::Turn(Direction::Backwards), "turned"),
+            (Call::Next, "4 e"),
         ],
         end: End::Dropped,
-        answers: "3; 4; 3 d; 1 b; 4 e; NotYet; 0 a; moved; 2 c; end 5; turned; 4 e; ",
     },
 ];
 
 #[test]
 fn messages_without_hints_are_read(rt: HostRuntime) -> Result<(), Fail> {
-    assert_lives(&rt, rt.alloc(), &WITH_AND_WITHOUT)
+    expect_lives(rt.alloc(), &WITH_AND_WITHOUT)
 }

@@ -1,9 +1,9 @@
 //! The images of snapshots that are taken while a message is begun, and the printed text of their records.
-use crate::lives::{Start, assert_text};
-use crate::queues::{Call, Fixture};
+use crate::lives::{Start, expect_calls};
+use crate::queues::{Call, Calls};
 use cq_chain::fits_all;
 use cq_cycle::Roll;
-use cq_fixtures::{DAY, config_of};
+use cq_fixtures::{DAY, config_of, expect_text};
 use cq_image::{ImageRead, image, read};
 use cq_layout::Shape;
 use cq_model::{CycleList, Message};
@@ -99,41 +99,29 @@ fn push_images(
 }
 
 /// Calls after which a message is begun in the last of two cycles.
-const BESIDE_A_CLAIM: &[Call] = &[
-    Call::Append(0, "a"),
-    Call::Append(5 * DAY, "b"),
-    Call::Begin(0, 1),
+const BEFORE_SNAPSHOT: Calls = &[
+    (Call::Append(0, "a"), "0"),
+    (Call::Append(5 * DAY, "b"), "21474836480"),
+    (Call::Begin(0, 1), "begun"),
 ];
 
-/// What these calls of a queue return, and the images of a snapshot after them.
-fn push_imaged(
-    alloc: Global,
-    shape: Shape,
-    fixture: &mut Fixture,
-    calls: &[Call],
-    out: &mut String,
-) -> Result<(), Fail> {
-    fixture.answers(alloc, calls, out)?;
+/// Makes these calls of a new queue, and gives what the images of a snapshot after them are read as.
+fn push_imaged(alloc: Global, calls: Calls, out: &mut String) -> Result<(), Fail> {
+    let shape = Shape::new(64, 8, 1)?;
+    let mut fixture = Start::New(0).queue(alloc, config_of(alloc, shape, 4)?)?;
+    expect_calls(alloc, "before the snapshot", &mut fixture, calls)?;
     let lists = fixture.snapshot_lists(alloc)?;
     push_images(alloc, shape, lists.as_slice(), out)
 }
 
-/// The same of a new queue.
-fn push_imaged_of_new(alloc: Global, calls: &[Call], out: &mut String) -> Result<(), Fail> {
-    let shape = Shape::new(64, 8, 1)?;
-    let mut fixture = Start::New(0).queue(alloc, config_of(alloc, shape, 4)?)?;
-    push_imaged(alloc, shape, &mut fixture, calls, out)
-}
-
-/// What these calls return, what the images are read as, and the records of the last one.
-const READ_BACK: &str = "0; 21474836480; begun; 0[a;] ended\n5[b;] open\n\
+/// What the images are read as, and the records of the last one.
+const READ_BACK: &str = "0[a;] ended\n5[b;] open\n\
 00000000 40000024 store 2 5 8 1 64 0 86400000\n00000028 40000020 top 76 0 0 0 0 0 0 0\n\
 0000004c 40000020 table 0 112 0 0 0 0 0 0 0\n00000070 00000001 data 0 62\n";
 
 #[test]
 fn a_snapshot_beside_a_claim_has_images(rt: HostRuntime) -> Result<(), Fail> {
     let mut text = String::new(rt.alloc());
-    push_imaged_of_new(rt.alloc(), BESIDE_A_CLAIM, &mut text)?;
-    assert_text(&rt, text.as_str(), READ_BACK);
-    Ok(())
+    push_imaged(rt.alloc(), BEFORE_SNAPSHOT, &mut text)?;
+    expect_text(text, READ_BACK)
 }

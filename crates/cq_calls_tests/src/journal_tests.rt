@@ -1,13 +1,13 @@
 //! Queues whose opener is their only caller.
-use crate::lives::{Start, assert_text, push_contents};
-use crate::queues::{push_message, push_number};
+use crate::lives::Start;
 use cq_cycle::Index;
-use cq_fixtures::{Cycles, DAY, small_config};
+use cq_fixtures::{
+    Cycles, DAY, contents_text, expect_answer, expect_end, message_text, small_config,
+};
 use cq_journal::{Journal, JournalReader, JournalWriter};
-use cq_model::Message;
+use cq_model::{Contents, Message};
 use cq_tail::Direction;
 use std::alloc::{AllocError, Global};
-use std::process::Abort;
 use std::test::Fail;
 
 /// The first moment after the last one that there is.
@@ -28,13 +28,19 @@ enum Call {
     Take(&'static str),
 }
 
+/// Appends of these bytes, each at its moment, and what each returns.
+type Appends = &'static [(u64, &'static [u8], &'static str)];
+
+/// Calls of a reader in turn, each with what it returns.
+type Calls = &'static [(Call, &'static str)];
+
 /// What is done with a journal before it is stopped.
 #[derive(Clone, Copy)]
 enum Work {
-    /// Appends these bytes, each at its moment.
-    Write(&'static [(u64, &'static [u8])]),
+    /// Appends.
+    Write(Appends),
     /// Reads this way from a position on.
-    Read(Direction, u64, &'static [Call]),
+    Read(Direction, u64, Calls),
 }
 
 /// A journal with cycles of 64 cells and the name "reader".
@@ -45,125 +51,104 @@ struct Row {
     start: Start,
     /// What is done with it.
     work: Work,
-    /// What is returned, and what it holds then.
-    answers: &'static str,
+    /// What it holds then, or why there is no such journal.
+    end: &'static str,
 }
 
 /// What a writer returns when it appends these bytes at a moment.
-fn push_append(
+fn appended_text(
+    alloc: Global,
     writer: &mut JournalWriter,
     moment: u64,
     bytes: &[u8],
-    out: &mut String,
-) -> Result<(), AllocError> {
+) -> Result<String, AllocError> {
     match writer.append(moment, bytes) {
-        Ok(index) => push_number("", index.value(), out),
-        Err(refusal) => write!(out, "{refusal}"),
+        Ok(index) => format!(in alloc; "{}", index.value()),
+        Err(refusal) => format!(in alloc; "{refusal}"),
     }
-}
-
-/// What a writer returns when it appends each of these at its moment.
-fn push_appends(
-    writer: &mut JournalWriter,
-    appends: &[(u64, &[u8])],
-    out: &mut String,
-) -> Result<(), AllocError> {
-    for (moment, bytes) in appends {
-        push_append(writer, *moment, bytes, out)?;
-        out.push_str("; ")?;
-    }
-    Ok(())
 }
 
 /// A message with its index as text, or none.
-fn push_found(found: &Option<(Index, Message)>, out: &mut String) -> Result<(), AllocError> {
+fn found_text(alloc: Global, found: &Option<(Index, Message)>) -> Result<String, Fail> {
     match found {
-        Some((index, message)) => push_message(*index, message, out),
-        None => out.push_str("none"),
+        Some((index, message)) => message_text(alloc, *index, message),
+        None => Ok(String::from_str(alloc, "none")?),
     }
 }
 
 /// What a call of a reader returns.
-fn push_answer(
-    alloc: Global,
-    reader: &mut JournalReader,
-    call: Call,
-    out: &mut String,
-) -> Result<(), AllocError> {
+fn answer_text(alloc: Global, reader: &mut JournalReader, call: Call) -> Result<String, Fail> {
     match call {
-        Call::Next => push_found(&reader.next(alloc)?, out),
+        Call::Next => found_text(alloc, &reader.next(alloc)?),
         Call::Take(name) => match reader.take(alloc, name) {
-            Ok(taken) => push_found(&taken, out),
-            Err(fault) => write!(out, "{fault}"),
+            Ok(taken) => found_text(alloc, &taken),
+            Err(fault) => Ok(format!(in alloc; "{fault}")?),
         },
     }
 }
 
-/// What these calls of a reader return in turn.
-fn push_answers(
+/// Appends each of these at its moment. Fails if one append does not return what is wanted.
+fn expect_appends(
     alloc: Global,
-    reader: &mut JournalReader,
-    calls: &[Call],
-    out: &mut String,
-) -> Result<(), AllocError> {
-    for call in calls {
-        push_answer(alloc, reader, *call, out)?;
-        out.push_str("; ")?;
+    row: &str,
+    writer: &mut JournalWriter,
+    appends: Appends,
+) -> Result<(), Fail> {
+    for (number, (moment, bytes, want)) in appends.iter().enumerate() {
+        let answer = appended_text(alloc, writer, *moment, bytes)?;
+        expect_answer(row, number, answer.as_str(), want)?;
     }
     Ok(())
 }
 
-/// What these appends to a journal return, and what it holds then.
-fn push_written(
+/// Makes these calls of a reader in turn. Fails if one of them does not return what is wanted.
+fn expect_calls(
     alloc: Global,
-    journal: Journal,
-    appends: &[(u64, &[u8])],
-    out: &mut String,
+    row: &str,
+    reader: &mut JournalReader,
+    calls: Calls,
 ) -> Result<(), Fail> {
-    let mut writer = journal.into_writer();
-    push_appends(&mut writer, appends, out)?;
-    push_contents(alloc, &writer.into_contents(alloc)?, out)
+    for (number, (call, want)) in calls.iter().enumerate() {
+        let answer = answer_text(alloc, reader, *call)?;
+        expect_answer(row, number, answer.as_str(), want)?;
+    }
+    Ok(())
 }
 
-/// What these calls of a reader return, and what its journal holds then.
-fn push_read(
-    alloc: Global,
-    mut reader: JournalReader,
-    calls: &[Call],
-    out: &mut String,
-) -> Result<(), Fail> {
-    push_answers(alloc, &mut reader, calls, out)?;
-    push_contents(alloc, &reader.into_contents(alloc)?, out)
-}
-
-impl Row {
-    /// What the calls in the journal return and what it holds then, or why there is no journal.
-    fn push_done(&self, alloc: Global, out: &mut String) -> Result<(), Fail> {
-        let config = small_config(alloc, self.cycles)?;
-        match self.start.journal(alloc, config) {
-            Ok(journal) => match self.work {
-                Work::Write(appends) => push_written(alloc, journal, appends, out),
-                Work::Read(way, start, calls) => {
-                    push_read(alloc, journal.into_reader(way, start), calls, out)
-                }
-            },
-            Err(refusal) => Ok(write!(out, "{refusal}")?),
+impl Work {
+    /// Works in a journal, and gives what it holds then. Fails if a call does not return what is wanted.
+    fn contents(self, alloc: Global, row: &str, journal: Journal) -> Result<Contents, Fail> {
+        match self {
+            Work::Write(appends) => {
+                let mut writer = journal.into_writer();
+                expect_appends(alloc, row, &mut writer, appends)?;
+                Ok(writer.into_contents(alloc)?)
+            }
+            Work::Read(way, start, calls) => {
+                let mut reader = journal.into_reader(way, start);
+                expect_calls(alloc, row, &mut reader, calls)?;
+                Ok(reader.into_contents(alloc)?)
+            }
         }
     }
 }
 
-/// Works in this journal, and compares what is returned.
-fn assert_row(rt: &impl Abort, alloc: Global, row: &Row) -> Result<(), Fail> {
-    let mut answers = String::new(alloc);
-    row.push_done(alloc, &mut answers)?;
-    assert_text(rt, answers.as_str(), row.answers);
-    Ok(())
+impl Row {
+    /// Works in this journal, and gives what it holds then, or why there is none.
+    fn end_text(&self, alloc: Global, row: &str) -> Result<String, Fail> {
+        match self.start.journal(alloc, small_config(alloc, self.cycles)?) {
+            Ok(journal) => contents_text(alloc, &self.work.contents(alloc, row, journal)?),
+            Err(refusal) => Ok(format!(in alloc; "{refusal}")?),
+        }
+    }
 }
 
-/// Works in each of these journals, and compares what is returned.
-fn assert_rows(rt: &impl Abort, alloc: Global, rows: &[Row]) -> Result<(), Fail> {
-    for row in rows {
-        assert_row(rt, alloc, row)?;
+/// Works in each of these journals. Fails if a call does not return what is wanted, or if a journal does not hold it.
+fn expect_rows(alloc: Global, rows: &[Row]) -> Result<(), Fail> {
+    for (number, row) in rows.iter().enumerate() {
+        let name = format!(in alloc; "row {number}")?;
+        let end = row.end_text(alloc, name.as_str())?;
+        expect_end(name.as_str(), end.as_str(), row.end)?;
     }
     Ok(())
 }
@@ -173,48 +158,56 @@ static APPENDED: [Row; 6] = [
     Row {
         cycles: 4,
         start: Start::New(0),
-        work: Work::Write(&[(7, b"hello"), (5 * DAY, b"ab"), (DAY, b"z")]),
-        answers: "0; 21474836480; 21474836481; 0[hello;] 5[ab;z;] at [0]",
+        work: Work::Write(&[
+            (7, b"hello", "0"),
+            (5 * DAY, b"ab", "21474836480"),
+            (DAY, b"z", "21474836481"),
+        ]),
+        end: "0[hello;] 5[ab;z;] at [0]",
     },
     Row {
         cycles: 1,
         start: Start::New(0),
-        work: Work::Write(&[(TOO_LATE, b""), (TOO_LATE, b"a")]),
-        answers: "BadRoom; BadMoment; 0[] at [0]",
+        work: Work::Write(&[(TOO_LATE, b"", "BadRoom"), (TOO_LATE, b"a", "BadMoment")]),
+        end: "0[] at [0]",
     },
     // No more cycles than the queue may have.
     Row {
         cycles: 2,
         start: Start::New(0),
-        work: Work::Write(&[(DAY, b"a"), (2 * DAY, b"b"), (DAY, b"c")]),
-        answers: "4294967296; NoCycleLeft; 4294967297; 0[] 1[a;c;] at [0]",
+        work: Work::Write(&[
+            (DAY, b"a", "4294967296"),
+            (2 * DAY, b"b", "NoCycleLeft"),
+            (DAY, b"c", "4294967297"),
+        ]),
+        end: "0[] 1[a;c;] at [0]",
     },
     // A message that does not fit leaves its cycle begun.
     Row {
         cycles: 2,
         start: Start::New(0),
-        work: Work::Write(&[(3 * DAY, &[65; 256])]),
-        answers: "CycleFull; 0[] 3[] at [0]",
+        work: Work::Write(&[(3 * DAY, &[65; 256], "CycleFull")]),
+        end: "0[] 3[] at [0]",
     },
     // Appends go on where a journal was opened again.
     Row {
         cycles: 4,
         start: Start::Held(THREE_CYCLES, &[1]),
-        work: Work::Write(&[(9 * DAY, b"x")]),
-        answers: "38654705666; 0[a;] 5[] 9[b;c;x;] at [1]",
+        work: Work::Write(&[(9 * DAY, b"x", "38654705666")]),
+        end: "0[a;] 5[] 9[b;c;x;] at [1]",
     },
     // No journal begins after the last moment.
     Row {
         cycles: 1,
         start: Start::New(TOO_LATE),
         work: Work::Write(&[]),
-        answers: "BadMoment",
+        end: "BadMoment",
     },
 ];
 
 #[test]
 fn messages_are_appended(rt: HostRuntime) -> Result<(), Fail> {
-    assert_rows(&rt, rt.alloc(), &APPENDED)
+    expect_rows(rt.alloc(), &APPENDED)
 }
 
 /// As many messages as fit into a cycle.
@@ -232,52 +225,52 @@ static HELD: [Row; 10] = [
         cycles: 4,
         start: Start::Held(&[], &[0]),
         work: Work::Write(&[]),
-        answers: "BadContents",
+        end: "BadContents",
     },
     Row {
         cycles: 4,
         start: Start::Held(&[(5, &[]), (3, &[])], &[0]),
         work: Work::Write(&[]),
-        answers: "BadContents",
+        end: "BadContents",
     },
     Row {
         cycles: 4,
         start: Start::Held(THREE_CYCLES, &[(9 << 32) + 3]),
         work: Work::Write(&[]),
-        answers: "BadContents",
+        end: "BadContents",
     },
     Row {
         cycles: 4,
         start: Start::Held(THREE_CYCLES, &[(9 << 32) + 2]),
         work: Work::Write(&[]),
-        answers: "0[a;] 5[] 9[b;c;] at [38654705666]",
+        end: "0[a;] 5[] 9[b;c;] at [38654705666]",
     },
     Row {
         cycles: 4,
         start: Start::Held(&[(0, &["a"])], &[0, 0]),
         work: Work::Write(&[]),
-        answers: "BadContents",
+        end: "BadContents",
     },
     // A position for each name.
     Row {
         cycles: 4,
         start: Start::Held(&[(0, &["a"])], &[]),
         work: Work::Write(&[]),
-        answers: "BadContents",
+        end: "BadContents",
     },
     // No more cycles than the queue may have.
     Row {
         cycles: 1,
         start: Start::Held(&[(0, &["a"]), (1, &[])], &[0]),
         work: Work::Write(&[]),
-        answers: "BadContents",
+        end: "BadContents",
     },
     // A message has a byte at least.
     Row {
         cycles: 4,
         start: Start::Held(&[(0, &["a", ""])], &[0]),
         work: Work::Write(&[]),
-        answers: "BadContents",
+        end: "BadContents",
     },
     // The store record, the top table and one index table take 28 cells, and 8 messages of 3 cells 24. A ninth one
     // has another index table of 9 cells before it, and none is left that could be kept.
@@ -285,19 +278,19 @@ static HELD: [Row; 10] = [
         cycles: 4,
         start: Start::Held(&[(0, EIGHT)], &[0]),
         work: Work::Write(&[]),
-        answers: "0[hello;hello;hello;hello;hello;hello;hello;hello;] at [0]",
+        end: "0[hello;hello;hello;hello;hello;hello;hello;hello;] at [0]",
     },
     Row {
         cycles: 4,
         start: Start::Held(&[(0, NINE)], &[0]),
         work: Work::Write(&[]),
-        answers: "BadContents",
+        end: "BadContents",
     },
 ];
 
 #[test]
 fn contents_that_no_queue_holds_are_refused(rt: HostRuntime) -> Result<(), Fail> {
-    assert_rows(&rt, rt.alloc(), &HELD)
+    expect_rows(rt.alloc(), &HELD)
 }
 
 static READ: [Row; 6] = [
@@ -307,9 +300,14 @@ static READ: [Row; 6] = [
         work: Work::Read(
             Direction::Forwards,
             0,
-            &[Call::Next, Call::Next, Call::Next, Call::Next],
+            &[
+                (Call::Next, "0 a"),
+                (Call::Next, "38654705664 b"),
+                (Call::Next, "38654705665 c"),
+                (Call::Next, "none"),
+            ],
         ),
-        answers: "0 a; 38654705664 b; 38654705665 c; none; 0[a;] 5[] 9[b;c;] at [0]",
+        end: "0[a;] 5[] 9[b;c;] at [0]",
     },
     Row {
         cycles: 4,
@@ -317,9 +315,9 @@ static READ: [Row; 6] = [
         work: Work::Read(
             Direction::Forwards,
             (9 << 32) + 1,
-            &[Call::Next, Call::Next],
+            &[(Call::Next, "38654705665 c"), (Call::Next, "none")],
         ),
-        answers: "38654705665 c; none; 0[a;] 5[] 9[b;c;] at [0]",
+        end: "0[a;] 5[] 9[b;c;] at [0]",
     },
     Row {
         cycles: 4,
@@ -327,16 +325,21 @@ static READ: [Row; 6] = [
         work: Work::Read(
             Direction::Backwards,
             u64::MAX,
-            &[Call::Next, Call::Next, Call::Next, Call::Next],
+            &[
+                (Call::Next, "38654705665 c"),
+                (Call::Next, "38654705664 b"),
+                (Call::Next, "0 a"),
+                (Call::Next, "none"),
+            ],
         ),
-        answers: "38654705665 c; 38654705664 b; 0 a; none; 0[a;] 5[] 9[b;c;] at [0]",
+        end: "0[a;] 5[] 9[b;c;] at [0]",
     },
     // Nothing is after the end.
     Row {
         cycles: 4,
         start: THREE_UNREAD,
-        work: Work::Read(Direction::Forwards, u64::MAX, &[Call::Next]),
-        answers: "none; 0[a;] 5[] 9[b;c;] at [0]",
+        work: Work::Read(Direction::Forwards, u64::MAX, &[(Call::Next, "none")]),
+        end: "0[a;] 5[] 9[b;c;] at [0]",
     },
     // A taker moves the name, and not the reader.
     Row {
@@ -346,13 +349,13 @@ static READ: [Row; 6] = [
             Direction::Forwards,
             0,
             &[
-                Call::Take("reader"),
-                Call::Take("reader"),
-                Call::Take("reader"),
-                Call::Next,
+                (Call::Take("reader"), "38654705664 b"),
+                (Call::Take("reader"), "38654705665 c"),
+                (Call::Take("reader"), "none"),
+                (Call::Next, "0 a"),
             ],
         ),
-        answers: "38654705664 b; 38654705665 c; none; 0 a; 0[a;] 5[] 9[b;c;] at [38654705666]",
+        end: "0[a;] 5[] 9[b;c;] at [38654705666]",
     },
     Row {
         cycles: 4,
@@ -360,13 +363,16 @@ static READ: [Row; 6] = [
         work: Work::Read(
             Direction::Forwards,
             0,
-            &[Call::Take("writer"), Call::Take("reader")],
+            &[
+                (Call::Take("writer"), "NoSuchName"),
+                (Call::Take("reader"), "0 a"),
+            ],
         ),
-        answers: "NoSuchName; 0 a; 0[a;] 5[] 9[b;c;] at [1]",
+        end: "0[a;] 5[] 9[b;c;] at [1]",
     },
 ];
 
 #[test]
 fn messages_are_read_and_taken(rt: HostRuntime) -> Result<(), Fail> {
-    assert_rows(&rt, rt.alloc(), &READ)
+    expect_rows(rt.alloc(), &READ)
 }

@@ -1,13 +1,12 @@
-//! Lives of queues: how they begin, their calls, and their ends, with what is returned.
+//! Lives of queues: how they begin, their calls with what each returns, and their ends with what is there then.
 
-use crate::queues::{Call, Fixture};
-use cq_fixtures::{Cycles, contents_of, contents_text, small_config};
+use crate::queues::{Calls, Fixture};
+use cq_fixtures::{Cycles, contents_of, contents_text, expect_answer, expect_end, small_config};
 use cq_journal::Journal;
 use cq_model::{Config, Contents};
 use cq_shown::{CreateError, Stopped, recover};
 use cq_words::Queue;
 use std::alloc::{AllocError, Global};
-use std::process::Abort;
 use std::test::Fail;
 
 /// How a queue begins.
@@ -58,16 +57,42 @@ fn reopened(alloc: Global, config: Config, contents: &Contents) -> Result<Fixtur
 pub enum End {
     /// Nothing.
     Dropped,
+    /// Why there is no such queue.
+    Refused(&'static str),
     /// What it holds once it was stopped.
-    Stopped,
+    Stopped(&'static str),
     /// What it holds once a caller stopped it that met no other.
-    StoppedBeside,
+    StoppedBeside(&'static str),
     /// Which cells of its first cycle are not 0 once it was stopped, from this one on.
-    Cells(u32),
+    Cells(u32, &'static str),
     /// What these cells of its first cycle hold once a caller stopped it that met no other, and its write position.
-    Published(&'static [u32]),
+    Published(&'static [u32], &'static str),
     /// What these calls return once it was stopped and opened again.
-    Reopened(&'static [Call]),
+    Reopened(Calls),
+}
+
+impl End {
+    /// The text that is wanted.
+    fn want(self) -> &'static str {
+        match self {
+            End::Dropped | End::Reopened(_) => "",
+            End::Refused(want)
+            | End::Stopped(want)
+            | End::StoppedBeside(want)
+            | End::Cells(_, want)
+            | End::Published(_, want) => want,
+        }
+    }
+
+    /// What is checked of a queue that was stopped.
+    fn push_stopped(self, alloc: Global, stopped: &Stopped, out: &mut String) -> Result<(), Fail> {
+        match self {
+            End::Dropped | End::Refused(_) | End::Reopened(_) => Ok(()),
+            End::Stopped(_) | End::StoppedBeside(_) => push_held(alloc, stopped, out),
+            End::Cells(from, _) => push_cells(stopped, from, out),
+            End::Published(cells, _) => Ok(push_published(stopped, cells, out)?),
+        }
+    }
 }
 
 /// A queue with cycles of 64 cells and the name "reader".
@@ -76,79 +101,16 @@ pub struct Life {
     pub cycles: u32,
     /// How it begins.
     pub start: Start,
-    /// Calls of it, in turn.
-    pub calls: &'static [Call],
+    /// Calls of it in turn, each with what it returns.
+    pub calls: Calls,
     /// What is checked after them.
     pub end: End,
-    /// What all this returns.
-    pub answers: &'static str,
-}
-
-impl Life {
-    /// What is returned from its start to its end, or why there is no queue of this configuration.
-    fn push_answers(&self, alloc: Global, config: Config, out: &mut String) -> Result<(), Fail> {
-        match self.start.queue(alloc, config) {
-            Ok(fixture) => self.push_life(alloc, fixture, out),
-            Err(refusal) => Ok(write!(out, "{refusal}")?),
-        }
-    }
-
-    /// What its calls return, and what is checked at its end.
-    fn push_life(&self, alloc: Global, mut fixture: Fixture, out: &mut String) -> Result<(), Fail> {
-        fixture.answers(alloc, self.calls, out)?;
-        self.push_end(alloc, fixture, out)
-    }
-
-    /// What is checked after the calls.
-    fn push_end(&self, alloc: Global, fixture: Fixture, out: &mut String) -> Result<(), Fail> {
-        let stopped = match self.end {
-            End::Dropped => return Ok(()),
-            End::StoppedBeside | End::Published(_) => fixture.stop_beside(),
-            End::Stopped | End::Cells(_) | End::Reopened(_) => fixture.stop(),
-        };
-        self.push_stopped(alloc, &stopped, out)
-    }
-
-    /// What is checked of the queue that was stopped.
-    fn push_stopped(&self, alloc: Global, stopped: &Stopped, out: &mut String) -> Result<(), Fail> {
-        match self.end {
-            End::Dropped => Ok(()),
-            End::Stopped | End::StoppedBeside => push_held(alloc, stopped, out),
-            End::Cells(from) => push_cells(stopped, from, out),
-            End::Published(cells) => Ok(push_published(stopped, cells, out)?),
-            End::Reopened(calls) => self.push_again(alloc, stopped, calls, out),
-        }
-    }
-
-    /// The queue, opened again with what it held when it was stopped.
-    fn opened_again(&self, alloc: Global, stopped: &Stopped) -> Result<Fixture, Fail> {
-        let contents = recover(alloc, stopped)?;
-        Ok(reopened(alloc, small_config(alloc, self.cycles)?, &contents)?)
-    }
-
-    /// What calls of the queue return once it was stopped and opened again.
-    fn push_again(
-        &self,
-        alloc: Global,
-        stopped: &Stopped,
-        calls: &[Call],
-        out: &mut String,
-    ) -> Result<(), Fail> {
-        let mut fixture = self.opened_again(alloc, stopped)?;
-        fixture.answers(alloc, calls, out)
-    }
 }
 
 /// What a stopped queue holds.
 fn push_held(alloc: Global, stopped: &Stopped, out: &mut String) -> Result<(), Fail> {
     let contents = recover(alloc, stopped)?;
-    push_contents(alloc, &contents, out)
-}
-
-/// Contents as text.
-pub fn push_contents(alloc: Global, contents: &Contents, out: &mut String) -> Result<(), Fail> {
-    let text = contents_text(alloc, contents)?;
-    Ok(out.push_str(text.as_str())?)
+    Ok(out.push_str(contents_text(alloc, &contents)?.as_str())?)
 }
 
 /// The cells of the first slot that are not 0, from this one on, each after its number.
@@ -180,28 +142,77 @@ fn push_published(stopped: &Stopped, cells: &[u32], out: &mut String) -> Result<
     write!(out, "at {}", stopped.write_position(0))
 }
 
-/// Lives through this one in a queue of this configuration, and compares what is returned.
-pub fn assert_life(
-    rt: &impl Abort,
+/// Makes these calls in turn. Fails if one of them does not return what is wanted.
+pub fn expect_calls(
     alloc: Global,
-    config: Config,
-    life: &Life,
+    row: &str,
+    fixture: &mut Fixture,
+    calls: Calls,
 ) -> Result<(), Fail> {
-    let mut answers = String::new(alloc);
-    life.push_answers(alloc, config, &mut answers)?;
-    assert_text(rt, answers.as_str(), life.answers);
+    for (number, (call, want)) in calls.iter().enumerate() {
+        let answer = fixture.answer_text(alloc, *call)?;
+        expect_answer(row, number, answer.as_str(), want)?;
+    }
     Ok(())
 }
 
-/// Compares what is returned with what is wanted.
-pub fn assert_text(rt: &impl Abort, answers: &str, want: &str) {
-    assert_eq!(rt; answers, want);
+/// The same of a queue that was opened again.
+fn expect_calls_again(
+    alloc: Global,
+    row: &str,
+    mut fixture: Fixture,
+    calls: Calls,
+) -> Result<(), Fail> {
+    let row = format!(in alloc; "{row}, opened again")?;
+    expect_calls(alloc, row.as_str(), &mut fixture, calls)
 }
 
-/// Lives through each of these, and compares what is returned.
-pub fn assert_lives(rt: &impl Abort, alloc: Global, lives: &[Life]) -> Result<(), Fail> {
-    for life in lives {
-        assert_life(rt, alloc, small_config(alloc, life.cycles)?, life)?;
+impl Life {
+    /// The queue, opened again with what it held when it was stopped.
+    fn opened_again(&self, alloc: Global, stopped: &Stopped) -> Result<Fixture, Fail> {
+        let contents = recover(alloc, stopped)?;
+        Ok(reopened(alloc, small_config(alloc, self.cycles)?, &contents)?)
+    }
+
+    /// Fails if a queue that was stopped is not as wanted.
+    fn expect_stopped(&self, alloc: Global, row: &str, stopped: &Stopped) -> Result<(), Fail> {
+        if let End::Reopened(calls) = self.end {
+            return expect_calls_again(alloc, row, self.opened_again(alloc, stopped)?, calls);
+        }
+        let mut text = String::new(alloc);
+        self.end.push_stopped(alloc, stopped, &mut text)?;
+        expect_end(row, text.as_str(), self.end.want())
+    }
+
+    /// Fails if a call of this queue does not return what is wanted, or if the queue is not as wanted at its end.
+    fn expect_lived(&self, alloc: Global, row: &str, mut fixture: Fixture) -> Result<(), Fail> {
+        expect_calls(alloc, row, &mut fixture, self.calls)?;
+        let stopped = match self.end {
+            End::Dropped => return Ok(()),
+            End::Refused(want) => return expect_end(row, "no refusal", want),
+            End::StoppedBeside(_) | End::Published(_, _) => fixture.stop_beside(),
+            End::Stopped(_) | End::Cells(_, _) | End::Reopened(_) => fixture.stop(),
+        };
+        self.expect_stopped(alloc, row, &stopped)
+    }
+
+    /// Fails if a queue of this configuration does not live so. The row is named in the fault.
+    pub fn expect(&self, alloc: Global, row: &str, config: Config) -> Result<(), Fail> {
+        match self.start.queue(alloc, config) {
+            Ok(fixture) => self.expect_lived(alloc, row, fixture),
+            Err(refusal) => {
+                let refusal = format!(in alloc; "{refusal}")?;
+                expect_end(row, refusal.as_str(), self.end.want())
+            }
+        }
+    }
+}
+
+/// Fails if a queue with cycles of 64 cells does not live as one of these.
+pub fn expect_lives(alloc: Global, lives: &[Life]) -> Result<(), Fail> {
+    for (number, life) in lives.iter().enumerate() {
+        let row = format!(in alloc; "life {number}")?;
+        life.expect(alloc, row.as_str(), small_config(alloc, life.cycles)?)?;
     }
     Ok(())
 }

@@ -1,26 +1,26 @@
 //! What is left of queues that are stopped.
-use crate::lives::{End, Life, Start, assert_lives};
-use crate::queues::Call;
+use crate::lives::{End, Life, Start, expect_lives};
+use crate::queues::{Call, Calls};
 use cq_fixtures::{DAY, expect_row, small_config};
 use cq_image::image;
 use std::alloc::Global;
 use std::test::Fail;
 
 /// "hello", and seven bytes of another message, during which no other caller appends.
-const BEGUN_BEHIND_HELLO: &[Call] = &[
-    Call::Append(0, "hello"),
-    Call::Begin(0, 12),
-    Call::Put("1234567"),
-    Call::AppendAndRead("x"),
+const BEGUN_BEHIND_HELLO: Calls = &[
+    (Call::Append(0, "hello"), "0"),
+    (Call::Begin(0, 12), "begun"),
+    (Call::Put("1234567"), "put"),
+    (Call::AppendAndRead("x"), "Busy, 0 hello"),
 ];
 
 /// The same, but the other message is dropped first.
-const DROPPED_BEHIND_HELLO: &[Call] = &[
-    Call::Append(0, "hello"),
-    Call::Begin(0, 12),
-    Call::Put("1234567"),
-    Call::DropWriting,
-    Call::AppendAndRead("x"),
+const DROPPED_BEHIND_HELLO: Calls = &[
+    (Call::Append(0, "hello"), "0"),
+    (Call::Begin(0, 12), "begun"),
+    (Call::Put("1234567"), "put"),
+    (Call::DropWriting, "dropped"),
+    (Call::AppendAndRead("x"), "Busy, 0 hello"),
 ];
 
 static KEPT: [Life; 8] = [
@@ -29,67 +29,59 @@ static KEPT: [Life; 8] = [
         cycles: 4,
         start: Start::New(0),
         calls: BEGUN_BEHIND_HELLO,
-        end: End::Stopped,
-        answers: "0; begun; put; Busy, 0 hello; 0[hello;] at [0]",
+        end: End::Stopped("0[hello;] at [0]"),
     },
     Life {
         cycles: 4,
         start: Start::New(0),
         calls: BEGUN_BEHIND_HELLO,
-        end: End::Reopened(&[Call::Append(0, "x")]),
-        answers: "0; begun; put; Busy, 0 hello; 1; ",
+        end: End::Reopened(&[(Call::Append(0, "x"), "1")]),
     },
     Life {
         cycles: 4,
         start: Start::New(0),
         calls: DROPPED_BEHIND_HELLO,
-        end: End::Stopped,
-        answers: "0; begun; put; dropped; Busy, 0 hello; 0[hello;] at [0]",
+        end: End::Stopped("0[hello;] at [0]"),
     },
     Life {
         cycles: 4,
         start: Start::New(0),
         calls: DROPPED_BEHIND_HELLO,
-        end: End::Reopened(&[Call::Append(0, "x")]),
-        answers: "0; begun; put; dropped; Busy, 0 hello; 1; ",
+        end: End::Reopened(&[(Call::Append(0, "x"), "1")]),
     },
     // Cycles without messages are kept.
     Life {
         cycles: 4,
         start: Start::New(0),
-        calls: &[Call::Advance(5 * DAY)],
-        end: End::Stopped,
-        answers: "cycle 5; 0[] 5[] at [0]",
+        calls: &[(Call::Advance(5 * DAY), "cycle 5")],
+        end: End::Stopped("0[] 5[] at [0]"),
     },
     // What a queue was opened with is kept.
     Life {
         cycles: 4,
         start: Start::Held(&[(0, &["hello", "ab"]), (5, &[]), (9, &["z"])], &[1]),
         calls: &[],
-        end: End::Stopped,
-        answers: "0[hello;ab;] 5[] 9[z;] at [1]",
+        end: End::Stopped("0[hello;ab;] 5[] 9[z;] at [1]"),
     },
     // A queue without cycles is refused.
     Life {
         cycles: 4,
         start: Start::Held(&[], &[0]),
         calls: &[],
-        end: End::Dropped,
-        answers: "BadContents",
+        end: End::Refused("BadContents"),
     },
     // A new queue has the cycle of its moment.
     Life {
         cycles: 4,
         start: Start::New(5 * DAY),
         calls: &[],
-        end: End::Stopped,
-        answers: "5[] at [0]",
+        end: End::Stopped("5[] at [0]"),
     },
 ];
 
 #[test]
 fn a_stopped_queue_keeps_what_is_complete(rt: HostRuntime) -> Result<(), Fail> {
-    assert_lives(&rt, rt.alloc(), &KEPT)
+    expect_lives(rt.alloc(), &KEPT)
 }
 
 /// The image of a cycle without messages that has ended, or that has not.

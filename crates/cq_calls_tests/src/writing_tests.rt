@@ -1,5 +1,5 @@
 //! Messages that are begun, filled, and completed or given up.
-use crate::lives::{End, Life, Start, assert_lives};
+use crate::lives::{End, Life, Start, expect_lives};
 use crate::queues::Call;
 use std::test::Fail;
 
@@ -9,122 +9,114 @@ static WRITTEN: [Life; 8] = [
         cycles: 4,
         start: Start::New(0),
         calls: &[
-            Call::Begin(0, 20),
-            Call::Put("h"),
-            Call::Put("el"),
-            Call::Put("lo, w"),
-            Call::Put(""),
-            Call::Put("orld"),
-            Call::Put("!!!!"),
-            Call::Complete,
-            Call::Append(0, "x"),
+            (Call::Begin(0, 20), "begun"),
+            (Call::Put("h"), "put"),
+            (Call::Put("el"), "put"),
+            (Call::Put("lo, w"), "put"),
+            (Call::Put(""), "put"),
+            (Call::Put("orld"), "put"),
+            (Call::Put("!!!!"), "put"),
+            (Call::Complete, "0"),
+            (Call::Append(0, "x"), "1"),
         ],
-        end: End::StoppedBeside,
-        answers: "begun; put; put; put; put; put; put; 0; 1; 0[hello, world!!!!;x;] at [0]",
+        end: End::StoppedBeside("0[hello, world!!!!;x;] at [0]"),
     },
     // No more bytes go in than fit.
     Life {
         cycles: 4,
         start: Start::New(0),
         calls: &[
-            Call::Begin(0, 5),
-            Call::Put("hello!"),
-            Call::Put("hello"),
-            Call::Put("!"),
-            Call::Put(""),
-            Call::Complete,
+            (Call::Begin(0, 5), "begun"),
+            (Call::Put("hello!"), "NoRoom"),
+            (Call::Put("hello"), "put"),
+            (Call::Put("!"), "NoRoom"),
+            (Call::Put(""), "put"),
+            (Call::Complete, "0"),
         ],
-        end: End::StoppedBeside,
-        answers: "begun; NoRoom; put; NoRoom; put; 0; 0[hello;] at [0]",
+        end: End::StoppedBeside("0[hello;] at [0]"),
     },
     // One of which nothing was put is not completed, and can be filled then.
     Life {
         cycles: 4,
         start: Start::New(0),
         calls: &[
-            Call::Begin(0, 5),
-            Call::Complete,
-            Call::Put("a"),
-            Call::Complete,
+            (Call::Begin(0, 5), "begun"),
+            (Call::Complete, "EmptyMessage"),
+            (Call::Put("a"), "put"),
+            (Call::Complete, "0"),
         ],
-        end: End::StoppedBeside,
-        answers: "begun; EmptyMessage; put; 0; 0[a;] at [0]",
+        end: End::StoppedBeside("0[a;] at [0]"),
     },
     // The next message is whole in the place of one that was longer.
     Life {
         cycles: 4,
         start: Start::New(0),
         calls: &[
-            Call::Begin(0, 20),
-            Call::Put("12345678901234567890"),
-            Call::GiveUp,
-            Call::Append(0, "a"),
-            Call::Append(0, "b"),
+            (Call::Begin(0, 20), "begun"),
+            (Call::Put("12345678901234567890"), "put"),
+            (Call::GiveUp, "given up"),
+            (Call::Append(0, "a"), "0"),
+            (Call::Append(0, "b"), "1"),
         ],
-        end: End::StoppedBeside,
-        answers: "begun; put; given up; 0; 1; 0[a;b;] at [0]",
+        end: End::StoppedBeside("0[a;b;] at [0]"),
     },
     // So is one that another caller appends there.
     Life {
         cycles: 4,
         start: Start::New(0),
         calls: &[
-            Call::Append(0, "a"),
-            Call::Begin(0, 20),
-            Call::Put("12345678901234567890"),
-            Call::GiveUp,
-            Call::AppendBeside("b"),
-            Call::Append(0, "c"),
+            (Call::Append(0, "a"), "0"),
+            (Call::Begin(0, 20), "begun"),
+            (Call::Put("12345678901234567890"), "put"),
+            (Call::GiveUp, "given up"),
+            (Call::AppendBeside("b"), "1"),
+            (Call::Append(0, "c"), "2"),
         ],
-        end: End::StoppedBeside,
-        answers: "0; begun; put; given up; 1; 2; 0[a;b;c;] at [0]",
+        end: End::StoppedBeside("0[a;b;c;] at [0]"),
     },
     // One of which nothing was put is given up too.
     Life {
         cycles: 4,
         start: Start::New(0),
         calls: &[
-            Call::Begin(0, 1),
-            Call::GiveUp,
-            Call::Begin(0, 1),
-            Call::Put("a"),
-            Call::Complete,
+            (Call::Begin(0, 1), "begun"),
+            (Call::GiveUp, "given up"),
+            (Call::Begin(0, 1), "begun"),
+            (Call::Put("a"), "put"),
+            (Call::Complete, "0"),
         ],
-        end: End::StoppedBeside,
-        answers: "begun; given up; begun; put; 0; 0[a;] at [0]",
+        end: End::StoppedBeside("0[a;] at [0]"),
     },
     // No other caller appends before a message that was begun is completed.
     Life {
         cycles: 4,
         start: Start::New(0),
         calls: &[
-            Call::Begin(0, 5),
-            Call::AppendBeside("b"),
-            Call::Put("hello"),
-            Call::AppendBeside("b"),
-            Call::Complete,
-            Call::AppendBeside("b"),
-            Call::Append(0, "c"),
+            (Call::Begin(0, 5), "begun"),
+            (Call::AppendBeside("b"), "Busy"),
+            (Call::Put("hello"), "put"),
+            (Call::AppendBeside("b"), "Busy"),
+            (Call::Complete, "0"),
+            (Call::AppendBeside("b"), "1"),
+            (Call::Append(0, "c"), "2"),
         ],
-        end: End::StoppedBeside,
-        answers: "begun; Busy; put; Busy; 0; 1; 2; 0[hello;b;c;] at [0]",
+        end: End::StoppedBeside("0[hello;b;c;] at [0]"),
     },
     // One that was dropped is in no list, nor is any after it.
     Life {
         cycles: 4,
         start: Start::New(0),
         calls: &[
-            Call::Append(0, "hello"),
-            Call::Begin(0, 12),
-            Call::Put("1234567"),
-            Call::AppendBeside("x"),
+            (Call::Append(0, "hello"), "0"),
+            (Call::Begin(0, 12), "begun"),
+            (Call::Put("1234567"), "put"),
+            (Call::AppendBeside("x"), "Busy"),
         ],
-        end: End::StoppedBeside,
-        answers: "0; begun; put; Busy; 0[hello;] at [0]",
+        end: End::StoppedBeside("0[hello;] at [0]"),
     },
 ];
 
 #[test]
 fn messages_are_filled_and_completed_or_given_up(rt: HostRuntime) -> Result<(), Fail> {
-    assert_lives(&rt, rt.alloc(), &WRITTEN)
+    expect_lives(rt.alloc(), &WRITTEN)
 }
