@@ -120,7 +120,7 @@ const READ_BACK: &str = "0[a;] ended\n5[b;] open\n\
 0000004c 40000020 table 0 112 0 0 0 0 0 0 0\n00000070 00000001 data 0 62\n";
 
 #[test]
-fn a_snapshot_beside_a_claim_has_images(rt: HostRuntime) -> Result<(), Fail> {
+fn a_snapshot_during_a_claim_has_images(rt: HostRuntime) -> Result<(), Fail> {
     let mut text = String::new(rt.alloc());
     push_imaged(rt.alloc(), BEFORE_SNAPSHOT, &mut text)?;
     expect_text(text, READ_BACK)

@@ -1,4 +1,6 @@
 //! Queues whose opener is their only caller.
+//!
+//! The calls are not those of `queues`: a reader of a journal returns a message or none, and no reason.
 use crate::lives::Start;
 use cq_cycle::Index;
 use cq_fixtures::{

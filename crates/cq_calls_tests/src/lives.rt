@@ -62,7 +62,7 @@ pub enum End {
     /// What it holds once it was stopped.
     Stopped(&'static str),
     /// What it holds once a caller stopped it that met no other.
-    StoppedBeside(&'static str),
+    StoppedByOther(&'static str),
     /// Which cells of its first cycle are not 0 once it was stopped, from this one on.
     Cells(u32, &'static str),
     /// What these cells of its first cycle hold once a caller stopped it that met no other, and its write position.
@@ -78,19 +78,21 @@ impl End {
             End::Dropped | End::Reopened(_) => "",
             End::Refused(want)
             | End::Stopped(want)
-            | End::StoppedBeside(want)
+            | End::StoppedByOther(want)
             | End::Cells(_, want)
             | End::Published(_, want) => want,
         }
     }
 
-    /// What is checked of a queue that was stopped.
-    fn push_stopped(self, alloc: Global, stopped: &Stopped, out: &mut String) -> Result<(), Fail> {
+    /// What is checked of a queue that was stopped, as text.
+    fn text(self, alloc: Global, stopped: &Stopped) -> Result<String, Fail> {
         match self {
-            End::Dropped | End::Refused(_) | End::Reopened(_) => Ok(()),
-            End::Stopped(_) | End::StoppedBeside(_) => push_held(alloc, stopped, out),
-            End::Cells(from, _) => push_cells(stopped, from, out),
-            End::Published(cells, _) => Ok(push_published(stopped, cells, out)?),
+            End::Dropped | End::Refused(_) | End::Reopened(_) => Ok(String::new(alloc)),
+            End::Stopped(_) | End::StoppedByOther(_) => {
+                contents_text(alloc, &recover(alloc, stopped)?)
+            }
+            End::Cells(from, _) => Ok(cells_text(alloc, stopped, from)?),
+            End::Published(cells, _) => Ok(published_text(alloc, stopped, cells)?),
         }
     }
 }
@@ -107,39 +109,36 @@ pub struct Life {
     pub end: End,
 }
 
-/// What a stopped queue holds.
-fn push_held(alloc: Global, stopped: &Stopped, out: &mut String) -> Result<(), Fail> {
-    let contents = recover(alloc, stopped)?;
-    Ok(out.push_str(contents_text(alloc, &contents)?.as_str())?)
-}
-
 /// The cells of the first slot that are not 0, from this one on, each after its number.
-fn push_cells(stopped: &Stopped, from: u32, out: &mut String) -> Result<(), Fail> {
+fn cells_text(alloc: Global, stopped: &Stopped, from: u32) -> Result<String, AllocError> {
+    let mut text = String::new(alloc);
     let cells = stopped.config().layout().cells();
     for k in from..cells {
-        push_cell(k, stopped.cell(0, k), out)?;
+        push_cell(k, stopped.cell(0, k), &mut text)?;
     }
-    Ok(())
+    Ok(text)
 }
 
 /// A cell after its number, if it is not 0.
-fn push_cell(k: u32, cell: u32, out: &mut String) -> Result<(), AllocError> {
+fn push_cell(k: u32, cell: u32, text: &mut String) -> Result<(), AllocError> {
     if cell == 0 {
         return Ok(());
     }
-    write!(out, "{k}:{cell:08x} ")
+    write!(text, "{k}:{cell:08x} ")
 }
 
 /// What cells of the first slot hold, and its write position.
-fn push_published(stopped: &Stopped, cells: &[u32], out: &mut String) -> Result<(), AllocError> {
+fn published_text(alloc: Global, stopped: &Stopped, cells: &[u32]) -> Result<String, AllocError> {
+    let mut text = String::new(alloc);
     let count = stopped.config().layout().cells();
     let _cycles = stopped.config().cycles();
     for k in cells {
         if *k < count {
-            write!(out, "{} ", stopped.cell(0, *k))?;
+            write!(text, "{} ", stopped.cell(0, *k))?;
         }
     }
-    write!(out, "at {}", stopped.write_position(0))
+    write!(text, "at {}", stopped.write_position(0))?;
+    Ok(text)
 }
 
 /// Makes these calls in turn. Fails if one of them does not return what is wanted.
@@ -179,8 +178,7 @@ impl Life {
         if let End::Reopened(calls) = self.end {
             return expect_calls_again(alloc, row, self.opened_again(alloc, stopped)?, calls);
         }
-        let mut text = String::new(alloc);
-        self.end.push_stopped(alloc, stopped, &mut text)?;
+        let text = self.end.text(alloc, stopped)?;
         expect_end(row, text.as_str(), self.end.want())
     }
 
@@ -190,7 +188,7 @@ impl Life {
         let stopped = match self.end {
             End::Dropped => return Ok(()),
             End::Refused(want) => return expect_end(row, "no refusal", want),
-            End::StoppedBeside(_) | End::Published(_, _) => fixture.stop_beside(),
+            End::StoppedByOther(_) | End::Published(_, _) => fixture.stop_by_other(),
             End::Stopped(_) | End::Cells(_, _) | End::Reopened(_) => fixture.stop(),
         };
         self.expect_stopped(alloc, row, &stopped)

@@ -20,7 +20,7 @@ static PLACES: [Life; 5] = [
             (Call::Begin(0, 1_073_741_823), "CycleFull"),
             (Call::Append(0, "a"), "0"),
         ],
-        end: End::StoppedBeside("0[a;] at [0]"),
+        end: End::StoppedByOther("0[a;] at [0]"),
     },
     // The longest message that fits has 136 bytes.
     Life {
@@ -30,7 +30,7 @@ static PLACES: [Life; 5] = [
             (Call::Begin(0, 137), "CycleFull"),
             (Call::Begin(0, 136), "begun"),
         ],
-        end: End::StoppedBeside("0[] at [0]"),
+        end: End::StoppedByOther("0[] at [0]"),
     },
     // No cycle is left.
     Life {
@@ -44,7 +44,7 @@ static PLACES: [Life; 5] = [
             (Call::Put("a"), "put"),
             (Call::Complete, "21474836480"),
         ],
-        end: End::StoppedBeside("0[] 5[a;] at [0]"),
+        end: End::StoppedByOther("0[] 5[a;] at [0]"),
     },
     // A message goes into the current cycle if its moment's is past.
     Life {
@@ -58,7 +58,7 @@ static PLACES: [Life; 5] = [
             (Call::Complete, "21474836480"),
             (Call::Append(9 * DAY, "c"), "38654705664"),
         ],
-        end: End::StoppedBeside("0[a;] 5[b;] 9[c;] at [0]"),
+        end: End::StoppedByOther("0[a;] 5[b;] 9[c;] at [0]"),
     },
     // An appender goes on from where it was, after what others appended since.
     Life {
@@ -66,15 +66,15 @@ static PLACES: [Life; 5] = [
         start: Start::New(0),
         calls: &[
             (Call::Append(0, "a"), "0"),
-            (Call::AppendBeside("b"), "1"),
-            (Call::AppendBeside("c"), "2"),
+            (Call::AppendByNew("b"), "1"),
+            (Call::AppendByNew("c"), "2"),
             (Call::Begin(0, 1), "begun"),
             (Call::Put("d"), "put"),
             (Call::Complete, "3"),
-            (Call::AppendBeside("e"), "4"),
+            (Call::AppendByNew("e"), "4"),
             (Call::Append(5 * DAY, "f"), "21474836480"),
         ],
-        end: End::StoppedBeside("0[a;b;c;d;e;] 5[f;] at [0]"),
+        end: End::StoppedByOther("0[a;b;c;d;e;] 5[f;] at [0]"),
     },
 ];
 

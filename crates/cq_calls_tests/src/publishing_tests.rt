@@ -33,7 +33,7 @@ static PUBLISHED: [Life; 8] = [
     Life {
         cycles: 1,
         start: Start::New(0),
-        calls: &[(HELLO, "0"), (Call::AppendBeside("hello"), "1")],
+        calls: &[(HELLO, "0"), (Call::AppendByNew("hello"), "1")],
         end: End::Published(&[11, 20, 21], "76 112 124 at 532575944705"),
     },
     Life {

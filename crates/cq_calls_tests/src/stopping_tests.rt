@@ -7,20 +7,20 @@ use std::alloc::Global;
 use std::test::Fail;
 
 /// "hello", and seven bytes of another message, during which no other caller appends.
-const BEGUN_BEHIND_HELLO: Calls = &[
+const BEGUN_AFTER_HELLO: Calls = &[
     (Call::Append(0, "hello"), "0"),
     (Call::Begin(0, 12), "begun"),
     (Call::Put("1234567"), "put"),
-    (Call::AppendAndRead("x"), "Busy, 0 hello"),
+    (Call::AppendAndReadByNew("x"), "Busy, 0 hello"),
 ];
 
 /// The same, but the other message is dropped first.
-const DROPPED_BEHIND_HELLO: Calls = &[
+const DROPPED_AFTER_HELLO: Calls = &[
     (Call::Append(0, "hello"), "0"),
     (Call::Begin(0, 12), "begun"),
     (Call::Put("1234567"), "put"),
     (Call::DropWriting, "dropped"),
-    (Call::AppendAndRead("x"), "Busy, 0 hello"),
+    (Call::AppendAndReadByNew("x"), "Busy, 0 hello"),
 ];
 
 static KEPT: [Life; 8] = [
@@ -28,25 +28,25 @@ static KEPT: [Life; 8] = [
     Life {
         cycles: 4,
         start: Start::New(0),
-        calls: BEGUN_BEHIND_HELLO,
+        calls: BEGUN_AFTER_HELLO,
         end: End::Stopped("0[hello;] at [0]"),
     },
     Life {
         cycles: 4,
         start: Start::New(0),
-        calls: BEGUN_BEHIND_HELLO,
+        calls: BEGUN_AFTER_HELLO,
         end: End::Reopened(&[(Call::Append(0, "x"), "1")]),
     },
     Life {
         cycles: 4,
         start: Start::New(0),
-        calls: DROPPED_BEHIND_HELLO,
+        calls: DROPPED_AFTER_HELLO,
         end: End::Stopped("0[hello;] at [0]"),
     },
     Life {
         cycles: 4,
         start: Start::New(0),
-        calls: DROPPED_BEHIND_HELLO,
+        calls: DROPPED_AFTER_HELLO,
         end: End::Reopened(&[(Call::Append(0, "x"), "1")]),
     },
     // Cycles without messages are kept.

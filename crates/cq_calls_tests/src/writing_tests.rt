@@ -19,7 +19,7 @@ static WRITTEN: [Life; 8] = [
             (Call::Complete, "0"),
             (Call::Append(0, "x"), "1"),
         ],
-        end: End::StoppedBeside("0[hello, world!!!!;x;] at [0]"),
+        end: End::StoppedByOther("0[hello, world!!!!;x;] at [0]"),
     },
     // No more bytes go in than fit.
     Life {
@@ -33,7 +33,7 @@ static WRITTEN: [Life; 8] = [
             (Call::Put(""), "put"),
             (Call::Complete, "0"),
         ],
-        end: End::StoppedBeside("0[hello;] at [0]"),
+        end: End::StoppedByOther("0[hello;] at [0]"),
     },
     // One of which nothing was put is not completed, and can be filled then.
     Life {
@@ -45,7 +45,7 @@ static WRITTEN: [Life; 8] = [
             (Call::Put("a"), "put"),
             (Call::Complete, "0"),
         ],
-        end: End::StoppedBeside("0[a;] at [0]"),
+        end: End::StoppedByOther("0[a;] at [0]"),
     },
     // The next message is whole in the place of one that was longer.
     Life {
@@ -58,7 +58,7 @@ static WRITTEN: [Life; 8] = [
             (Call::Append(0, "a"), "0"),
             (Call::Append(0, "b"), "1"),
         ],
-        end: End::StoppedBeside("0[a;b;] at [0]"),
+        end: End::StoppedByOther("0[a;b;] at [0]"),
     },
     // So is one that another caller appends there.
     Life {
@@ -69,10 +69,10 @@ static WRITTEN: [Life; 8] = [
             (Call::Begin(0, 20), "begun"),
             (Call::Put("12345678901234567890"), "put"),
             (Call::GiveUp, "given up"),
-            (Call::AppendBeside("b"), "1"),
+            (Call::AppendByNew("b"), "1"),
             (Call::Append(0, "c"), "2"),
         ],
-        end: End::StoppedBeside("0[a;b;c;] at [0]"),
+        end: End::StoppedByOther("0[a;b;c;] at [0]"),
     },
     // One of which nothing was put is given up too.
     Life {
@@ -85,7 +85,7 @@ static WRITTEN: [Life; 8] = [
             (Call::Put("a"), "put"),
             (Call::Complete, "0"),
         ],
-        end: End::StoppedBeside("0[a;] at [0]"),
+        end: End::StoppedByOther("0[a;] at [0]"),
     },
     // No other caller appends before a message that was begun is completed.
     Life {
@@ -93,14 +93,14 @@ static WRITTEN: [Life; 8] = [
         start: Start::New(0),
         calls: &[
             (Call::Begin(0, 5), "begun"),
-            (Call::AppendBeside("b"), "Busy"),
+            (Call::AppendByNew("b"), "Busy"),
             (Call::Put("hello"), "put"),
-            (Call::AppendBeside("b"), "Busy"),
+            (Call::AppendByNew("b"), "Busy"),
             (Call::Complete, "0"),
-            (Call::AppendBeside("b"), "1"),
+            (Call::AppendByNew("b"), "1"),
             (Call::Append(0, "c"), "2"),
         ],
-        end: End::StoppedBeside("0[hello;b;c;] at [0]"),
+        end: End::StoppedByOther("0[hello;b;c;] at [0]"),
     },
     // One that was dropped is in no list, nor is any after it.
     Life {
@@ -110,9 +110,9 @@ static WRITTEN: [Life; 8] = [
             (Call::Append(0, "hello"), "0"),
             (Call::Begin(0, 12), "begun"),
             (Call::Put("1234567"), "put"),
-            (Call::AppendBeside("x"), "Busy"),
+            (Call::AppendByNew("x"), "Busy"),
         ],
-        end: End::StoppedBeside("0[hello;] at [0]"),
+        end: End::StoppedByOther("0[hello;] at [0]"),
     },
 ];
 

@@ -1,21 +1,25 @@
-//! Calls of endpoints, and what they return, as text. What a call returns is put after the text `out`.
+//! Calls of endpoints, and what they return, as text.
+//!
+//! The calls of appenders and tailers in `cq_calls_tests` have the same names and texts. An endpoint gives what its appender
+//! refuses as `Refused(..)`. What tailers find is written here and there, since `cq_fixtures` is below `cq_tail`.
 use cq_cycle::Index;
-use cq_endpoint::{At, Direction, Endpoint, Found, Sought, Take};
-use cq_fixtures::{lists_text, message_text};
-use cq_model::Message;
+use cq_endpoint::{At, AtInto, Direction, Endpoint, Found, FoundInto, Take, TakeInto};
+use cq_fixtures::{
+    done_text, expect_answer, index_text, lists_text, message_text, number_text, shown_text,
+};
 use std::alloc::{AllocError, Global};
 use std::fmt::Debug;
 use std::test::Fail;
 
-/// A call of an endpoint.
+/// A call of an endpoint. Those that read into a buffer are given one of this many dots.
 #[derive(Clone, Copy)]
 pub enum Call {
     /// Appends this text at a moment.
     Append(u64, &'static str),
     /// Begins the cycle of a moment.
     Advance(u64),
-    /// Begins a message of at most this many bytes at moment 0.
-    Begin(u32),
+    /// Begins a message at a moment, of at most this many bytes.
+    Begin(u64, u32),
     /// Puts this text into the message that was begun.
     Put(&'static str),
     /// Completes the message that was begun.
@@ -24,10 +28,16 @@ pub enum Call {
     GiveUp,
     /// Reads the next message.
     Next,
+    /// Reads the next message into a buffer.
+    NextInto(usize),
     /// Reads the message at an index.
     ReadAt(u64),
+    /// Reads the message at an index into a buffer.
+    ReadAtInto(u64, usize),
     /// Takes a message by a name.
     Take(&'static str),
+    /// Takes a message by a name into a buffer.
+    TakeInto(&'static str, usize),
     /// Drops the cycles below this one.
     DropBefore(u32),
     /// Moves a name from one position to another.
@@ -42,181 +52,179 @@ pub enum Call {
     ToEnd,
     /// Turns this way.
     Turn(Direction),
-    /// Asks where it reads, and for the end that it has seen.
-    Stands,
+    /// Asks where it reads.
+    Cursor,
+    /// Asks for the end that it has seen.
+    SeenEnd,
     /// Takes a snapshot.
     Snapshot,
 }
 
-/// A result that is shown as it is.
-fn push_shown<T: Debug>(answer: &T, out: &mut String) -> Result<(), AllocError> {
-    write!(out, "{answer:?}")
-}
-
-/// A number, or why there is none.
-fn push_number<E: Debug>(answer: &Result<u64, E>, out: &mut String) -> Result<(), AllocError> {
-    match answer {
-        Ok(number) => write!(out, "{number}"),
-        Err(fault) => push_shown(fault, out),
-    }
-}
-
-/// A message that is read or taken.
-fn push_message(
-    alloc: Global,
-    index: Index,
-    message: &Message,
-    out: &mut String,
-) -> Result<(), Fail> {
-    let text = message_text(alloc, index, message)?;
-    Ok(out.push_str(text.as_str())?)
-}
+/// Calls of an endpoint in turn, each with what it returns.
+pub type Calls = &'static [(Call, &'static str)];
 
 /// What is read next.
-fn push_found(
-    alloc: Global,
-    answer: &Result<Found, AllocError>,
-    out: &mut String,
-) -> Result<(), Fail> {
-    let word = match answer {
-        Ok(Found::Message(index, message)) => return push_message(alloc, *index, message, out),
-        Ok(Found::NotYet) => "NotYet",
-        Ok(Found::BeforeStart) => "BeforeStart",
-        Err(fault) => return Ok(push_shown(fault, out)?),
-    };
-    Ok(out.push_str(word)?)
+fn found_text(alloc: Global, answer: &Result<Found, AllocError>) -> Result<String, Fail> {
+    match answer {
+        Ok(Found::Message(index, message)) => message_text(alloc, *index, message),
+        other => shown_text(alloc, other),
+    }
 }
 
 /// What is read at an index.
-fn push_at(
-    alloc: Global,
-    index: Index,
-    answer: &Result<At, AllocError>,
-    out: &mut String,
-) -> Result<(), Fail> {
-    let word = match answer {
-        Ok(At::Message(message)) => return push_message(alloc, index, message, out),
-        Ok(At::NotYet) => "NotYet",
-        Ok(At::Never) => "Never",
-        Ok(At::Gone) => "Gone",
-        Err(fault) => return Ok(push_shown(fault, out)?),
-    };
-    Ok(out.push_str(word)?)
+fn at_text(alloc: Global, index: Index, answer: &Result<At, AllocError>) -> Result<String, Fail> {
+    match answer {
+        Ok(At::Message(message)) => message_text(alloc, index, message),
+        other => shown_text(alloc, other),
+    }
 }
 
 /// What is taken.
-fn push_taken<E: Debug>(
-    alloc: Global,
-    answer: &Result<Take, E>,
-    out: &mut String,
-) -> Result<(), Fail> {
+fn taken_text<E: Debug>(alloc: Global, answer: &Result<Take, E>) -> Result<String, Fail> {
     match answer {
-        Ok(Take::Taken(index, message)) => push_message(alloc, *index, message, out),
-        Ok(Take::NotYet) => Ok(out.push_str("NotYet")?),
-        Ok(Take::Moved(position)) => Ok(write!(out, "Moved {position}")?),
-        Err(fault) => Ok(push_shown(fault, out)?),
+        Ok(Take::Taken(index, message)) => message_text(alloc, *index, message),
+        other => shown_text(alloc, other),
     }
 }
 
-/// What the move of a name returns.
-fn push_sought<E: Debug>(answer: &Result<Sought, E>, out: &mut String) -> Result<(), AllocError> {
-    match answer {
-        Ok(sought) => push_shown(sought, out),
-        Err(fault) => push_shown(fault, out),
+/// What is read next into a buffer: a message's index and length.
+fn found_into_text(alloc: Global, found: FoundInto) -> Result<String, Fail> {
+    match found {
+        FoundInto::Message(index, len) => Ok(format!(in alloc; "{} {len}", index.value())?),
+        other => Ok(format!(in alloc; "{other:?}")?),
     }
+}
+
+/// What is read at an index into a buffer: a message's length.
+fn at_into_text(alloc: Global, at: AtInto) -> Result<String, Fail> {
+    match at {
+        AtInto::Message(len) => Ok(format!(in alloc; "{len}")?),
+        other => Ok(format!(in alloc; "{other:?}")?),
+    }
+}
+
+/// What is taken into a buffer: a message's index and length.
+fn taken_into_text<E: Debug>(alloc: Global, taken: &Result<TakeInto, E>) -> Result<String, Fail> {
+    match taken {
+        Ok(TakeInto::Taken(index, len)) => Ok(format!(in alloc; "{} {len}", index.value())?),
+        other => shown_text(alloc, other),
+    }
+}
+
+/// A buffer of dots that a call may fill.
+fn new_buffer(alloc: Global, size: usize) -> Result<Vec<u8>, AllocError> {
+    Vec::from_elem(alloc, b'.', size)
+}
+
+/// What a read into a buffer returns, and then the whole buffer.
+fn with_buffer(alloc: Global, answer: &str, buffer: &[u8]) -> Result<String, Fail> {
+    let text = str::from_utf8(buffer)?;
+    Ok(format!(in alloc; "{answer} [{text}]")?)
+}
+
+/// What the next read into a buffer of this size returns.
+fn next_into_text(alloc: Global, endpoint: &mut Endpoint, size: usize) -> Result<String, Fail> {
+    let mut buffer = new_buffer(alloc, size)?;
+    let found = endpoint.next_into(buffer.as_mut_slice());
+    with_buffer(
+        alloc,
+        found_into_text(alloc, found)?.as_str(),
+        buffer.as_slice(),
+    )
+}
+
+/// What a read at an index into a buffer of this size returns.
+fn read_at_into_text(
+    alloc: Global,
+    endpoint: &mut Endpoint,
+    index: u64,
+    size: usize,
+) -> Result<String, Fail> {
+    let mut buffer = new_buffer(alloc, size)?;
+    let at = endpoint.read_at_into(Index::of_value(index), buffer.as_mut_slice());
+    with_buffer(alloc, at_into_text(alloc, at)?.as_str(), buffer.as_slice())
+}
+
+/// What a take into a buffer of this size returns.
+fn take_into_text(
+    alloc: Global,
+    endpoint: &mut Endpoint,
+    name: &str,
+    size: usize,
+) -> Result<String, Fail> {
+    let mut buffer = new_buffer(alloc, size)?;
+    let taken = endpoint.take_into(name, buffer.as_mut_slice());
+    with_buffer(
+        alloc,
+        taken_into_text(alloc, &taken)?.as_str(),
+        buffer.as_slice(),
+    )
+}
+
+/// What a snapshot gives.
+fn snapshot_text(alloc: Global, endpoint: &mut Endpoint) -> Result<String, Fail> {
+    let lists = endpoint.snapshot(alloc)?;
+    Ok(lists_text(alloc, lists.as_slice())?)
 }
 
 impl Call {
-    /// What a call returns that appends.
-    fn push_appending(self, endpoint: &mut Endpoint, out: &mut String) -> Result<(), AllocError> {
+    /// What this call of an endpoint returns.
+    pub fn answer_text(self, alloc: Global, endpoint: &mut Endpoint) -> Result<String, Fail> {
         match self {
             Call::Append(moment, text) => {
-                push_number(
-                    &endpoint.append(moment, text.as_bytes()).map(Index::value),
-                    out,
-                )
+                index_text(alloc, &endpoint.append(moment, text.as_bytes()))
             }
-            Call::Advance(moment) => { push_number(&endpoint.advance(moment).map(u64::from), out) }
-            Call::Begin(room) => push_shown(&endpoint.begin(0, room), out),
-            Call::Put(text) => push_shown(&endpoint.put(text.as_bytes()), out),
-            Call::Complete => push_number(&endpoint.complete().map(Index::value), out),
-            _ => push_shown(&endpoint.roll_back(), out),
-        }
-    }
-
-    /// What a call returns that moves the endpoint.
-    fn push_moving(self, endpoint: &mut Endpoint, out: &mut String) -> Result<(), AllocError> {
-        match self {
-            Call::MoveTo(index) => push_shown(&endpoint.move_to(Index::of_value(index)), out),
-            Call::ToStart => {
-                endpoint.to_start();
-                out.push_str("start")
+            Call::Advance(moment) => {
+                number_text(alloc, "cycle ", &endpoint.advance(moment).map(u64::from))
             }
-            Call::ToEnd => push_shown(&endpoint.to_end(), out),
-            Call::Turn(way) => {
-                endpoint.direction(way);
-                out.push_str("turned")
-            }
-            _ => push_shown(&(endpoint.cursor(), endpoint.seen_end()), out),
-        }
-    }
-
-    /// What a call returns that drops cycles or asks for a name.
-    fn push_naming(self, endpoint: &mut Endpoint, out: &mut String) -> Result<(), AllocError> {
-        match self {
-            Call::DropBefore(cycle) => {
-                push_number(&endpoint.drop_before(cycle).map(u64::from), out)
-            }
-            Call::Seek(name, from, to) => push_sought(&endpoint.seek(name, from, to), out),
-            Call::Position(name) => push_number(&endpoint.position(name), out),
-            _ => out.push_str("no call"),
-        }
-    }
-
-    /// What a call returns that reads.
-    fn push_reading(
-        self,
-        alloc: Global,
-        endpoint: &mut Endpoint,
-        out: &mut String,
-    ) -> Result<(), Fail> {
-        match self {
-            Call::Next => push_found(alloc, &endpoint.next(alloc), out),
+            Call::Begin(moment, room) => done_text(alloc, "begun", &endpoint.begin(moment, room)),
+            Call::Put(text) => done_text(alloc, "put", &endpoint.put(text.as_bytes())),
+            Call::Complete => index_text(alloc, &endpoint.complete()),
+            Call::GiveUp => done_text(alloc, "given up", &endpoint.roll_back()),
+            Call::Next => found_text(alloc, &endpoint.next(alloc)),
+            Call::NextInto(size) => next_into_text(alloc, endpoint, size),
             Call::ReadAt(index) => {
                 let index = Index::of_value(index);
-                push_at(alloc, index, &endpoint.read_at(alloc, index), out)
+                at_text(alloc, index, &endpoint.read_at(alloc, index))
             }
-            Call::Take(name) => push_taken(alloc, &endpoint.take(alloc, name), out),
-            _ => {
-                let lists = endpoint.snapshot(alloc)?;
-                Ok(out.push_str(lists_text(alloc, lists.as_slice())?.as_str())?)
+            Call::ReadAtInto(index, size) => read_at_into_text(alloc, endpoint, index, size),
+            Call::Take(name) => taken_text(alloc, &endpoint.take(alloc, name)),
+            Call::TakeInto(name, size) => take_into_text(alloc, endpoint, name, size),
+            Call::DropBefore(cycle) => {
+                number_text(alloc, "floor ", &endpoint.drop_before(cycle).map(u64::from))
             }
+            Call::Seek(name, from, to) => shown_text(alloc, &endpoint.seek(name, from, to)),
+            Call::Position(name) => number_text(alloc, "at ", &endpoint.position(name)),
+            Call::MoveTo(index) => {
+                let is_moved = endpoint.move_to(Index::of_value(index));
+                Ok(String::from_str(alloc, if is_moved { "moved" } else { "stays" })?)
+            }
+            Call::ToStart => {
+                endpoint.to_start();
+                Ok(String::from_str(alloc, "start")?)
+            }
+            Call::ToEnd => Ok(format!(in alloc; "end {}", endpoint.to_end())?),
+            Call::Turn(way) => {
+                endpoint.direction(way);
+                Ok(String::from_str(alloc, "turned")?)
+            }
+            Call::Cursor => Ok(format!(in alloc; "at {}", endpoint.cursor())?),
+            Call::SeenEnd => Ok(format!(in alloc; "end {}", endpoint.seen_end())?),
+            Call::Snapshot => snapshot_text(alloc, endpoint),
         }
     }
+}
 
-    /// What this call of an endpoint returns.
-    pub fn push_answer(
-        self,
-        alloc: Global,
-        endpoint: &mut Endpoint,
-        out: &mut String,
-    ) -> Result<(), Fail> {
-        match self {
-            Call::Append(_, _)
-            | Call::Advance(_)
-            | Call::Begin(_)
-            | Call::Put(_)
-            | Call::Complete
-            | Call::GiveUp => Ok(self.push_appending(endpoint, out)?),
-            Call::MoveTo(_) | Call::ToStart | Call::ToEnd | Call::Turn(_) | Call::Stands => {
-                Ok(self.push_moving(endpoint, out)?)
-            }
-            Call::DropBefore(_) | Call::Seek(_, _, _) | Call::Position(_) => {
-                Ok(self.push_naming(endpoint, out)?)
-            }
-            Call::Next | Call::ReadAt(_) | Call::Take(_) | Call::Snapshot => {
-                self.push_reading(alloc, endpoint, out)
-            }
-        }
+/// Makes these calls of an endpoint in turn. Fails if one of them does not return what is wanted.
+pub fn expect_calls(
+    alloc: Global,
+    row: &str,
+    endpoint: &mut Endpoint,
+    calls: Calls,
+) -> Result<(), Fail> {
+    for (number, (call, want)) in calls.iter().enumerate() {
+        let answer = call.answer_text(alloc, endpoint)?;
+        expect_answer(row, number, answer.as_str(), want)?;
     }
+    Ok(())
 }

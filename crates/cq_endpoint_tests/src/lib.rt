@@ -13,8 +13,6 @@ mod meeting_tests;
 #[cfg(test)]
 mod new_queues;
 #[cfg(test)]
-mod room_calls;
-#[cfg(test)]
 mod room_tests;
 #[cfg(test)]
 mod thread_tests;

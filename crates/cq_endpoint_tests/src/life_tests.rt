@@ -2,8 +2,10 @@
 use crate::calls::Call;
 use crate::new_queues::two_endpoints;
 use cq_endpoint::{Direction, Endpoint};
-use cq_fixtures::{DAY, contents_of, contents_text, expect, expect_text, small_config};
-use cq_shown::{CreateError, Stopped, recover};
+use cq_fixtures::{
+    DAY, contents_of, contents_text, expect, expect_answer, expect_end, expect_text, small_config,
+};
+use cq_shown::{CreateError, recover};
 use std::alloc::Global;
 use std::test::Fail;
 
@@ -16,181 +18,170 @@ enum Who {
     Second,
 }
 
-/// A new queue with four cycles of 64 cells, each of a day, and the name "reader": calls of its endpoints, and what
-/// they return.
+/// A new queue with four cycles of 64 cells, each of a day, and the name "reader".
 struct Life {
-    calls: &'static [(Who, Call)],
-    answers: &'static str,
+    /// Calls of its endpoints in turn, each with what it returns.
+    calls: &'static [(Who, Call, &'static str)],
+    /// What it holds once the last endpoint stopped it.
+    end: &'static str,
 }
 
-/// What the calls of two endpoints return.
-fn push_calls(
+/// Makes the calls of two endpoints in turn. Fails if one of them does not return what is wanted.
+fn expect_calls(
     alloc: Global,
-    calls: &[(Who, Call)],
+    row: &str,
+    calls: &[(Who, Call, &str)],
     first: &mut Endpoint,
     second: &mut Endpoint,
-    out: &mut String,
 ) -> Result<(), Fail> {
-    for (who, call) in calls {
-        match who {
-            Who::First => call.push_answer(alloc, first, out)?,
-            Who::Second => call.push_answer(alloc, second, out)?,
-        }
-        out.push_str("; ")?;
+    for (number, (who, call, want)) in calls.iter().enumerate() {
+        let answer = match who {
+            Who::First => call.answer_text(alloc, first)?,
+            Who::Second => call.answer_text(alloc, second)?,
+        };
+        expect_answer(row, number, answer.as_str(), want)?;
     }
     Ok(())
 }
 
-/// What a stopped queue holds.
-fn push_stopped(alloc: Global, stopped: &Stopped, out: &mut String) -> Result<(), Fail> {
-    let contents = recover(alloc, stopped)?;
-    Ok(out.push_str(contents_text(alloc, &contents)?.as_str())?)
-}
-
-/// What is left once the last endpoint stopped the queue.
-fn push_left(alloc: Global, last: Endpoint, out: &mut String) -> Result<(), Fail> {
+/// What a queue holds that an endpoint stops as the last one.
+fn stopped_text(alloc: Global, last: Endpoint) -> Result<String, Fail> {
     match last.stop() {
-        Ok(stopped) => push_stopped(alloc, &stopped, out),
+        Ok(stopped) => contents_text(alloc, &recover(alloc, &stopped)?),
         Err(_endpoint) => Err(Fail::new("the last endpoint did not stop the queue")),
     }
 }
 
-/// What is left once the first endpoint stopped the queue. It may not while the second one lives.
-fn push_end(
-    alloc: Global,
-    first: Endpoint,
-    second: Endpoint,
-    out: &mut String,
-) -> Result<(), Fail> {
+/// What a queue holds once the first endpoint stopped it. It may not while the second one lives.
+fn end_text(alloc: Global, first: Endpoint, second: Endpoint) -> Result<String, Fail> {
     match first.stop() {
         Ok(_stopped) => Err(Fail::new("the queue was stopped while another endpoint lived")),
         Err(first) => {
             drop(second);
-            push_left(alloc, first, out)
+            stopped_text(alloc, first)
         }
     }
 }
 
-/// What the calls return, and what is left once the last endpoint stopped the queue.
-fn push_life(alloc: Global, calls: &[(Who, Call)], out: &mut String) -> Result<(), Fail> {
-    let (mut first, mut second) = two_endpoints(alloc)?;
-    push_calls(alloc, calls, &mut first, &mut second, out)?;
-    push_end(alloc, first, second, out)
-}
-
-/// The same, as text.
-fn answers(alloc: Global, calls: &[(Who, Call)]) -> Result<String, Fail> {
-    let mut out = String::new(alloc);
-    push_life(alloc, calls, &mut out)?;
-    Ok(out)
+impl Life {
+    /// Fails if a call does not return what is wanted, or if the queue does not hold it at the end.
+    fn expect(&self, alloc: Global, row: &str) -> Result<(), Fail> {
+        let (mut first, mut second) = two_endpoints(alloc)?;
+        expect_calls(alloc, row, self.calls, &mut first, &mut second)?;
+        expect_end(row, end_text(alloc, first, second)?.as_str(), self.end)
+    }
 }
 
 static LIVES: [Life; 5] = [
     // One appends, and the other reads both ways.
     Life {
         calls: &[
-            (Who::First, Call::Append(0, "a")),
-            (Who::First, Call::Append(0, "b")),
-            (Who::Second, Call::Next),
-            (Who::Second, Call::Next),
-            (Who::Second, Call::Next),
-            (Who::Second, Call::Turn(Direction::Backwards)),
-            (Who::Second, Call::Next),
-            (Who::Second, Call::Stands),
-            (Who::Second, Call::ToStart),
-            (Who::Second, Call::Next),
-            (Who::Second, Call::ToEnd),
-            (Who::Second, Call::MoveTo(0)),
-            (Who::Second, Call::MoveTo(7)),
-            (Who::Second, Call::Stands),
-            (Who::Second, Call::ReadAt(1)),
-            (Who::Second, Call::ReadAt(2)),
-            (Who::First, Call::Snapshot),
+            (Who::First, Call::Append(0, "a"), "0"),
+            (Who::First, Call::Append(0, "b"), "1"),
+            (Who::Second, Call::Next, "0 a"),
+            (Who::Second, Call::Next, "1 b"),
+            (Who::Second, Call::Next, "NotYet"),
+            (Who::Second, Call::Turn(Direction::Backwards), "turned"),
+            (Who::Second, Call::Next, "1 b"),
+            (Who::Second, Call::Cursor, "at 1"),
+            (Who::Second, Call::SeenEnd, "end 2"),
+            (Who::Second, Call::ToStart, "start"),
+            (Who::Second, Call::Next, "BeforeStart"),
+            (Who::Second, Call::ToEnd, "end 2"),
+            (Who::Second, Call::MoveTo(0), "moved"),
+            (Who::Second, Call::MoveTo(7), "stays"),
+            (Who::Second, Call::Cursor, "at 0"),
+            (Who::Second, Call::SeenEnd, "end 2"),
+            (Who::Second, Call::ReadAt(1), "1 b"),
+            (Who::Second, Call::ReadAt(2), "NotYet"),
+            (Who::First, Call::Snapshot, "0[a;b;] "),
         ],
-        answers: "0; 1; 0 a; 1 b; NotYet; turned; 1 b; (1, 2); start; BeforeStart; 2; true; false; (0, 2); 1 b; NotYet; \
-0[a;b;] ; 0[a;b;] at [0]",
+        end: "0[a;b;] at [0]",
     },
     // A message is put in parts, and keeps the other one from writing. Meanwhile its endpoint begins no other.
     Life {
         calls: &[
-            (Who::First, Call::Put("x")),
-            (Who::First, Call::Complete),
-            (Who::First, Call::GiveUp),
-            (Who::First, Call::Begin(0)),
-            (Who::First, Call::Begin(5)),
-            (Who::First, Call::Begin(5)),
-            (Who::First, Call::Append(0, "b")),
-            (Who::First, Call::Advance(DAY)),
-            (Who::Second, Call::Append(0, "b")),
-            (Who::First, Call::Complete),
-            (Who::First, Call::Put("hel")),
-            (Who::First, Call::Put("lo!")),
-            (Who::First, Call::Put("lo")),
-            (Who::First, Call::Next),
-            (Who::First, Call::Complete),
-            (Who::First, Call::Next),
-            (Who::Second, Call::Append(0, "b")),
-            (Who::First, Call::Complete),
+            (Who::First, Call::Put("x"), "NotWriting"),
+            (Who::First, Call::Complete, "NotWriting"),
+            (Who::First, Call::GiveUp, "NotWriting"),
+            (Who::First, Call::Begin(0, 0), "Refused(BadRoom)"),
+            (Who::First, Call::Begin(0, 5), "begun"),
+            (Who::First, Call::Begin(0, 5), "Writing"),
+            (Who::First, Call::Append(0, "b"), "Writing"),
+            (Who::First, Call::Advance(DAY), "Writing"),
+            (Who::Second, Call::Append(0, "b"), "Refused(Busy)"),
+            (Who::First, Call::Complete, "EmptyMessage"),
+            (Who::First, Call::Put("hel"), "put"),
+            (Who::First, Call::Put("lo!"), "NoRoom"),
+            (Who::First, Call::Put("lo"), "put"),
+            (Who::First, Call::Next, "NotYet"),
+            (Who::First, Call::Complete, "0"),
+            (Who::First, Call::Next, "0 hello"),
+            (Who::Second, Call::Append(0, "b"), "1"),
+            (Who::First, Call::Complete, "NotWriting"),
         ],
-        answers: "Err(NotWriting); NotWriting; Err(NotWriting); Err(Refused(BadRoom)); Ok(()); Err(Writing); Writing; Writing; \
-Refused(Busy); EmptyMessage; Ok(()); Err(NoRoom); Ok(()); NotYet; 0; 0 hello; 1; NotWriting; 0[hello;b;] at [0]",
+        end: "0[hello;b;] at [0]",
     },
     // One that is given up, and one that is begun when the queue stops, are in no list.
     Life {
         calls: &[
-            (Who::First, Call::Begin(5)),
-            (Who::First, Call::Put("hello")),
-            (Who::First, Call::GiveUp),
-            (Who::Second, Call::Append(0, "a")),
-            (Who::First, Call::Begin(5)),
-            (Who::First, Call::Put("lost")),
+            (Who::First, Call::Begin(0, 5), "begun"),
+            (Who::First, Call::Put("hello"), "put"),
+            (Who::First, Call::GiveUp, "given up"),
+            (Who::Second, Call::Append(0, "a"), "0"),
+            (Who::First, Call::Begin(0, 5), "begun"),
+            (Who::First, Call::Put("lost"), "put"),
         ],
-        answers: "Ok(()); Ok(()); Ok(()); 0; Ok(()); Ok(()); 0[a;] at [0]",
+        end: "0[a;] at [0]",
     },
     // A name is taken by, asked for and moved; none is moved past what was seen.
     Life {
         calls: &[
-            (Who::First, Call::Append(0, "a")),
-            (Who::First, Call::Append(0, "b")),
-            (Who::Second, Call::Take("reader")),
-            (Who::First, Call::Take("reader")),
-            (Who::First, Call::Take("reader")),
-            (Who::First, Call::Take("other")),
-            (Who::First, Call::Position("reader")),
-            (Who::First, Call::Position("other")),
-            (Who::First, Call::Seek("reader", 0, 1)),
-            (Who::First, Call::Seek("reader", 2, 1)),
-            (Who::First, Call::Seek("reader", 1, 3)),
-            (Who::First, Call::Seek("other", 1, 2)),
-            (Who::First, Call::Seek("other", 1, 3)),
+            (Who::First, Call::Append(0, "a"), "0"),
+            (Who::First, Call::Append(0, "b"), "1"),
+            (Who::Second, Call::Take("reader"), "0 a"),
+            (Who::First, Call::Take("reader"), "1 b"),
+            (Who::First, Call::Take("reader"), "NotYet"),
+            (Who::First, Call::Take("other"), "NoSuchName"),
+            (Who::First, Call::Position("reader"), "at 2"),
+            (Who::First, Call::Position("other"), "NoSuchName"),
+            (Who::First, Call::Seek("reader", 0, 1), "Moved(2)"),
+            (Who::First, Call::Seek("reader", 2, 1), "Done"),
+            (Who::First, Call::Seek("reader", 1, 3), "NotSeen"),
+            (Who::First, Call::Seek("other", 1, 2), "NoSuchName"),
+            (Who::First, Call::Seek("other", 1, 3), "NotSeen"),
         ],
-        answers: "0; 1; 0 a; 1 b; NotYet; NoSuchName; 2; NoSuchName; Moved(2); Done; NotSeen; NoSuchName; NotSeen; \
-0[a;b;] at [1]",
+        end: "0[a;b;] at [1]",
     },
     // Cycles begin, and old ones are dropped if the endpoint has seen a later one.
     Life {
         calls: &[
-            (Who::First, Call::Append(0, "a")),
-            (Who::First, Call::Advance(DAY)),
-            (Who::First, Call::Append(DAY, "b")),
-            (Who::Second, Call::DropBefore(1)),
-            (Who::Second, Call::ToEnd),
-            (Who::Second, Call::DropBefore(1)),
-            (Who::Second, Call::ReadAt(0)),
-            (Who::First, Call::Next),
-            (Who::First, Call::Advance(9 * DAY)),
+            (Who::First, Call::Append(0, "a"), "0"),
+            (Who::First, Call::Advance(DAY), "cycle 1"),
+            (Who::First, Call::Append(DAY, "b"), "4294967296"),
+            (Who::Second, Call::DropBefore(1), "NotSeen"),
+            (Who::Second, Call::ToEnd, "end 4294967297"),
+            (Who::Second, Call::DropBefore(1), "floor 1"),
+            (Who::Second, Call::ReadAt(0), "Gone"),
+            (Who::First, Call::Next, "4294967296 b"),
+            (Who::First, Call::Advance(9 * DAY), "cycle 9"),
         ],
-        answers: "0; 1; 4294967296; NotSeen; 4294967297; 1; Gone; 4294967296 b; 9; 0[a;] 1[b;] 9[] at [0] floor 1",
+        end: "0[a;] 1[b;] 9[] at [0] floor 1",
     },
 ];
 
-#[test]
-fn endpoints_append_and_read(rt: HostRuntime) -> Result<(), Fail> {
-    let alloc = rt.alloc();
-    for life in &LIVES {
-        expect_text(answers(alloc, life.calls)?, life.answers)?;
+/// Fails if a queue does not live as one of these.
+fn expect_lives(alloc: Global, lives: &[Life]) -> Result<(), Fail> {
+    for (number, life) in lives.iter().enumerate() {
+        let row = format!(in alloc; "life {number}")?;
+        life.expect(alloc, row.as_str())?;
     }
     Ok(())
+}
+
+#[test]
+fn endpoints_append_and_read(rt: HostRuntime) -> Result<(), Fail> {
+    expect_lives(rt.alloc(), &LIVES)
 }
 
 /// An endpoint of a queue that is opened with one message.
@@ -199,17 +190,10 @@ fn opened(alloc: Global) -> Result<Endpoint, Fail> {
     Ok(Endpoint::open(alloc, small_config(alloc, 4)?, &contents)?)
 }
 
-/// What an endpoint reads next, as text.
-fn next_text(alloc: Global, endpoint: &mut Endpoint) -> Result<String, Fail> {
-    let mut out = String::new(alloc);
-    Call::Next.push_answer(alloc, endpoint, &mut out)?;
-    Ok(out)
-}
-
 /// What an endpoint of a queue that is opened with one message reads.
 fn opened_text(alloc: Global) -> Result<String, Fail> {
     let mut endpoint = opened(alloc)?;
-    next_text(alloc, &mut endpoint)
+    Call::Next.answer_text(alloc, &mut endpoint)
 }
 
 #[test]

@@ -2,7 +2,7 @@
 ghost use Rattle.std.specs.Prelude.{◌≡◌};
 ghost use Rattle.cq_words.specs.Values.{IsOf};
 
-use crate::calls::Call;
+use crate::calls::{Call, Calls, expect_calls};
 use crate::new_queues::two_endpoints;
 use cq_append::Appender;
 use cq_endpoint::{AppendFault, Endpoint};
@@ -12,23 +12,26 @@ use cq_words::{Caller, Queue};
 use std::alloc::Global;
 use std::test::Fail;
 
-/// A meeting of two endpoints of one queue.
-#[derive(Clone, Copy)]
-enum Meeting {
-    /// One has appended a message that the other has not seen.
-    Appended,
-    /// One has begun a message.
-    Begun,
-}
-
 /// The ends that two endpoints have seen, of which one appends, before they meet and then.
-fn push_ends(one: &mut Endpoint, other: &mut Endpoint, out: &mut String) -> Result<(), Fail>
+fn ends_text(alloc: Global, one: &mut Endpoint, other: &mut Endpoint) -> Result<String, Fail>
     requires { other.old.queue ≡ one.old.queue }
 {
     let _index = one.append(0, b"a")?;
     let before = (one.seen_end(), other.seen_end());
     one.meet(other);
-    Ok(write!(out, "{before:?} {} {}", one.seen_end(), other.seen_end())?)
+    let then = (one.seen_end(), other.seen_end());
+    Ok(format!(in alloc; "{before:?} {then:?}")?)
+}
+
+/// The same of two endpoints of a new queue.
+fn met_text(alloc: Global) -> Result<String, Fail> {
+    let (mut one, mut other) = two_endpoints(alloc)?;
+    ends_text(alloc, &mut one, &mut other)
+}
+
+#[test]
+fn endpoints_meet(rt: HostRuntime) -> Result<(), Fail> {
+    expect_text(met_text(rt.alloc())?, "(0, 0) (1, 1)")
 }
 
 /// One endpoint begins a message of at most five bytes, and another one meets it.
@@ -40,71 +43,24 @@ fn begin_and_meet(one: &mut Endpoint, other: &mut Endpoint) -> Result<(), Append
     Ok(())
 }
 
-/// What these calls of an endpoint return.
-fn push_calls(
-    alloc: Global,
-    calls: &[Call],
-    endpoint: &mut Endpoint,
-    out: &mut String,
-) -> Result<(), Fail> {
-    for call in calls {
-        call.push_answer(alloc, endpoint, out)?;
-        out.push_str("; ")?;
-    }
-    Ok(())
-}
-
-/// What becomes of a message that one endpoint begins as it meets another.
-fn push_completed(
-    alloc: Global,
-    one: &mut Endpoint,
-    other: &mut Endpoint,
-    out: &mut String,
-) -> Result<(), Fail>
-    requires { other.old.queue ≡ one.old.queue }
-{
-    begin_and_meet(one, other)?;
-    push_calls(alloc, &[Call::Put("hello"), Call::Complete], one, out)?;
-    Call::Next.push_answer(alloc, other, out)
-}
-
-/// What comes of a meeting of two endpoints.
-fn push_meeting(
-    alloc: Global,
-    meeting: Meeting,
-    one: &mut Endpoint,
-    other: &mut Endpoint,
-    out: &mut String,
-) -> Result<(), Fail>
-    requires { other.old.queue ≡ one.old.queue }
-{
-    match meeting {
-        Meeting::Appended => push_ends(one, other, out),
-        Meeting::Begun => push_completed(alloc, one, other, out),
-    }
-}
-
-/// The same of two endpoints of a new queue.
-fn push_met(alloc: Global, meeting: Meeting, out: &mut String) -> Result<(), Fail> {
+/// Two endpoints of a new queue, of which the first one has begun a message and then met the other.
+fn met_endpoints(alloc: Global) -> Result<(Endpoint, Endpoint), Fail> {
     let (mut one, mut other) = two_endpoints(alloc)?;
-    push_meeting(alloc, meeting, &mut one, &mut other, out)
+    begin_and_meet(&mut one, &mut other)?;
+    Ok((one, other))
 }
 
-/// The same as text.
-fn met_text(alloc: Global, meeting: Meeting) -> Result<String, Fail> {
-    let mut out = String::new(alloc);
-    push_met(alloc, meeting, &mut out)?;
-    Ok(out)
-}
+/// Calls of the endpoint that has begun a message.
+const COMPLETES: Calls = &[(Call::Put("hello"), "put"), (Call::Complete, "0")];
 
-#[test]
-fn endpoints_meet(rt: HostRuntime) -> Result<(), Fail> {
-    expect_text(met_text(rt.alloc(), Meeting::Appended)?, "(0, 0) 1 1")
-}
+/// A call of the endpoint that it met.
+const READS: Calls = &[(Call::Next, "0 hello")];
 
 #[test]
 fn a_message_that_is_begun_stays_so_over_a_meeting(rt: HostRuntime) -> Result<(), Fail> {
-    expect_text(met_text(rt.alloc(), Meeting::Begun)?, "Ok(()); 0; 0 hello")
+    let (mut one, mut other) = met_endpoints(rt.alloc())?;
+    expect_calls(rt.alloc(), "one endpoint", &mut one, COMPLETES)?;
+    expect_calls(rt.alloc(), "the other", &mut other, READS)
 }
 
 /// An appender and a tailer meet a note one after the other, which is split off a caller.
