@@ -1,5 +1,5 @@
 //! What `drop` does and prints, and what reads and takes return after it.
-use crate::steps::{DAY, Failing, Step, expect, expect_each, expect_failing};
+use crate::steps::{DAY, Failing, Step, Steps, expect, expect_each, expect_failing};
 use std::test::Fail;
 
 /// A floor above the last cycle, which is 20005.
@@ -106,48 +106,42 @@ const FLOOR_1: &[u8] =
 
 /// A floor without an image, and one above the last cycle: all commands that open a queue refuse them and leave all
 /// files as they were. The last cycle itself can be the floor, and `check` does not check floors.
-static HELD: [(&[Step], &str); 3] = [
-    (
-        &[
-            Step::Queue(4),
-            Step::Put("queue.cqc", FLOOR_1),
-            Step::Write(u64::MAX, b"\n"),
-            Step::Read(false, None),
-            Step::Take("nobody"),
-            Step::Drop(1),
+static HELD: [Steps; 3] = [
+    &[
+        (Step::Queue(4), ""),
+        (Step::Put("queue.cqc", FLOOR_1), ""),
+        (Step::Write(u64::MAX, b"\n"), "cq: BadContents"),
+        (Step::Read(false, None), "cq: BadContents"),
+        (Step::Take("nobody"), "cq: BadContents"),
+        (Step::Drop(1), "cq: BadContents"),
+        (
             Step::Text("queue.cqc"),
-            Step::Length("19700101.cqi"),
-        ],
-        "cq: BadContentscq: BadContentscq: BadContentscq: BadContents\
-cq 2\nroll daily\nepoch 0\ncells 64\ncount 8\nspacing 1\ncycles 4\nfloor 1\nname reader 0\n0",
-    ),
-    (
-        &[
-            Step::Queue(4),
-            Step::Write(0, b"a\n"),
-            Step::Put("queue.cqc", FLOOR_1),
-            Step::Write(u64::MAX, b"\n"),
-            Step::Read(false, None),
-            Step::Take("nobody"),
-            Step::Drop(1),
+            "cq 2\nroll daily\nepoch 0\ncells 64\ncount 8\nspacing 1\ncycles 4\nfloor 1\nname reader 0\n",
+        ),
+        (Step::Length("19700101.cqi"), "0"),
+    ],
+    &[
+        (Step::Queue(4), ""),
+        (Step::Write(0, b"a\n"), "0000000000000000\n"),
+        (Step::Put("queue.cqc", FLOOR_1), ""),
+        (Step::Write(u64::MAX, b"\n"), "cq: BadContents"),
+        (Step::Read(false, None), "cq: BadContents"),
+        (Step::Take("nobody"), "cq: BadContents"),
+        (Step::Drop(1), "cq: BadContents"),
+        (
             Step::Text("queue.cqc"),
-            Step::Check,
-        ],
-        "0000000000000000\ncq: BadContentscq: BadContentscq: BadContentscq: BadContents\
-cq 2\nroll daily\nepoch 0\ncells 64\ncount 8\nspacing 1\ncycles 4\nfloor 1\nname reader 0\n\
-19700101.cqi: 1 messages, open\n",
-    ),
-    (
-        &[
-            Step::Queue(4),
-            Step::Write(DAY, b"a\n"),
-            Step::Put("queue.cqc", FLOOR_1),
-            Step::Read(false, None),
-            Step::Take("reader"),
-            Step::Drop(0),
-        ],
-        "0000000100000000\n0000000100000000 a\n0000000100000000 a\n1\n",
-    ),
+            "cq 2\nroll daily\nepoch 0\ncells 64\ncount 8\nspacing 1\ncycles 4\nfloor 1\nname reader 0\n",
+        ),
+        (Step::Check, "19700101.cqi: 1 messages, open\n"),
+    ],
+    &[
+        (Step::Queue(4), ""),
+        (Step::Write(DAY, b"a\n"), "0000000100000000\n"),
+        (Step::Put("queue.cqc", FLOOR_1), ""),
+        (Step::Read(false, None), "0000000100000000 a\n"),
+        (Step::Take("reader"), "0000000100000000 a\n"),
+        (Step::Drop(0), "1\n"),
+    ],
 ];
 
 #[test]

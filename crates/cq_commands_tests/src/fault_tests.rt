@@ -1,7 +1,7 @@
 //! Which fault is reported, and what the folder holds then.
 use crate::images::{HELLO, NINE};
 use crate::steps::{
-    DAY, Failing, MOST_BYTES, Step, Unprinted, expect, expect_each, expect_failing,
+    DAY, Failing, MOST_BYTES, Step, Steps, Unprinted, expect, expect_each, expect_failing,
     push_said_apart, said_anew, said_at, said_by,
 };
 use cq_fixtures::expect_text;
@@ -64,69 +64,51 @@ fn tells_each_image_fault(rt: HostRuntime) -> Result<(), Fail> {
     Ok(())
 }
 
-static CUT: [(&[Step], &str); 6] = [
-    (
-        &[
-            Step::OldQueue(4),
-            Step::Put("19700101.cqi", HELLO),
-            Step::Cut("19700101.cqi", 110),
-            Step::Check,
-        ],
-        "19700101.cqi: Cut at 100\ncq: images at fault",
-    ),
-    (
-        &[
-            Step::OldQueue(4),
-            Step::Put("19700101.cqi", HELLO),
-            Step::Cut("19700101.cqi", 100),
-            Step::Check,
-        ],
-        "19700101.cqi: Cut at 100\ncq: images at fault",
-    ),
-    (
-        &[
-            Step::OldQueue(4),
-            Step::Put("19700101.cqi", HELLO),
-            Step::Cut("19700101.cqi", 112),
-            Step::Check,
-        ],
-        "19700101.cqi: 1 messages, open\n",
-    ),
+static CUT: [Steps; 6] = [
+    &[
+        (Step::OldQueue(4), ""),
+        (Step::Put("19700101.cqi", HELLO), ""),
+        (Step::Cut("19700101.cqi", 110), ""),
+        (Step::Check, "19700101.cqi: Cut at 100\ncq: images at fault"),
+    ],
+    &[
+        (Step::OldQueue(4), ""),
+        (Step::Put("19700101.cqi", HELLO), ""),
+        (Step::Cut("19700101.cqi", 100), ""),
+        (Step::Check, "19700101.cqi: Cut at 100\ncq: images at fault"),
+    ],
+    &[
+        (Step::OldQueue(4), ""),
+        (Step::Put("19700101.cqi", HELLO), ""),
+        (Step::Cut("19700101.cqi", 112), ""),
+        (Step::Check, "19700101.cqi: 1 messages, open\n"),
+    ],
     // Two faulty images, a bad name along with a faulty image, and a faulty image along with a wrong end. The
     // images come before what the command itself was given, except an index that is none.
-    (
-        &[
-            Step::Queue(4),
-            Step::Put("19700102.cqi", b"x"),
-            Step::Put("19700101.cqi", b"yy"),
-            Step::Read(false, None),
-            Step::Write(u64::MAX, b"\n"),
-            Step::Read(false, Some("x")),
-        ],
-        "cq: 19700101.cqi: Cut at 0cq: 19700101.cqi: Cut at 0cq: BadIndex",
-    ),
-    (
-        &[
-            Step::Queue(4),
-            Step::Put("19700101.cqi", b"x"),
-            Step::Put("zzz.cqi", b""),
-            Step::Read(false, None),
-            Step::Write(u64::MAX, b"\n"),
-            Step::Read(false, Some("x")),
-        ],
-        "cq: zzz.cqi: bad cycle namecq: zzz.cqi: bad cycle namecq: BadIndex",
-    ),
-    (
-        &[
-            Step::Queue(4),
-            Step::Put("19700101.cqi", b""),
-            Step::Put("19700102.cqi", b"x"),
-            Step::Read(false, None),
-            Step::Write(u64::MAX, b"\n"),
-            Step::Read(false, Some("x")),
-        ],
-        "cq: 19700102.cqi: Cut at 0cq: 19700102.cqi: Cut at 0cq: BadIndex",
-    ),
+    &[
+        (Step::Queue(4), ""),
+        (Step::Put("19700102.cqi", b"x"), ""),
+        (Step::Put("19700101.cqi", b"yy"), ""),
+        (Step::Read(false, None), "cq: 19700101.cqi: Cut at 0"),
+        (Step::Write(u64::MAX, b"\n"), "cq: 19700101.cqi: Cut at 0"),
+        (Step::Read(false, Some("x")), "cq: BadIndex"),
+    ],
+    &[
+        (Step::Queue(4), ""),
+        (Step::Put("19700101.cqi", b"x"), ""),
+        (Step::Put("zzz.cqi", b""), ""),
+        (Step::Read(false, None), "cq: zzz.cqi: bad cycle name"),
+        (Step::Write(u64::MAX, b"\n"), "cq: zzz.cqi: bad cycle name"),
+        (Step::Read(false, Some("x")), "cq: BadIndex"),
+    ],
+    &[
+        (Step::Queue(4), ""),
+        (Step::Put("19700101.cqi", b""), ""),
+        (Step::Put("19700102.cqi", b"x"), ""),
+        (Step::Read(false, None), "cq: 19700102.cqi: Cut at 0"),
+        (Step::Write(u64::MAX, b"\n"), "cq: 19700102.cqi: Cut at 0"),
+        (Step::Read(false, Some("x")), "cq: BadIndex"),
+    ],
 ];
 
 #[test]
@@ -240,74 +222,83 @@ fn writes_files_before_the_output(rt: HostRuntime) -> Result<(), Fail> {
 }
 
 /// The settings of a new queue that are refused, and which fault comes first.
-static SETTINGS: [(&[Step], &str); 13] = [
-    (
-        &[
-            Step::Queue(1),
+static SETTINGS: [Steps; 13] = [
+    &[
+        (Step::Queue(1), ""),
+        (
             Step::Init("weekly", u64::MAX, 0, u64::MAX, &[]),
-        ],
-        "cq: BadConfig",
-    ),
-    (
-        &[
-            Step::Queue(1),
+            "cq: BadConfig",
+        ),
+    ],
+    &[
+        (Step::Queue(1), ""),
+        (
             Step::Init("daily", u64::MAX, 0, u64::MAX, &[]),
-        ],
-        "cq: queue there already",
-    ),
-    (
-        &[Step::Queue(4), Step::Init("daily", 0, 64, 4, &[])],
-        "cq: queue there already",
-    ),
-    (
-        &[
+            "cq: queue there already",
+        ),
+    ],
+    &[
+        (Step::Queue(4), ""),
+        (
+            Step::Init("daily", 0, 64, 4, &[]),
+            "cq: queue there already",
+        ),
+    ],
+    &[
+        (
             Step::Init("daily", u64::MAX, u64::MAX, u64::MAX, &[]),
-            Step::Check,
-        ],
-        "cq: BadShapecq: no queue here",
-    ),
-    (
-        &[
+            "cq: BadShape",
+        ),
+        (Step::Check, "cq: no queue here"),
+    ],
+    &[
+        (
             Step::Init("daily", u64::MAX, 64, u64::MAX, &[]),
-            Step::Check,
-        ],
-        "cq: BadConfigcq: no queue here",
-    ),
-    (
-        &[Step::Init("weekly", 0, 64, 4, &[]), Step::Check],
-        "cq: BadConfigcq: no queue here",
-    ),
-    (
-        &[Step::Init("daily", 0, 30, 4, &[]), Step::Check],
-        "cq: BadShapecq: no queue here",
-    ),
-    (
-        &[Step::Init("daily", 0, 4_294_967_360, 4, &[]), Step::Check],
-        "cq: BadShapecq: no queue here",
-    ),
-    (
-        &[Step::Init("daily", 0, 30, 0, &[]), Step::Check],
-        "cq: BadShapecq: no queue here",
-    ),
-    (
-        &[Step::Init("daily", 0, 64, 0, &[]), Step::Check],
-        "cq: BadConfigcq: no queue here",
-    ),
-    (
-        &[Step::Init("daily", 0, 64, 65, &[]), Step::Check],
-        "cq: BadConfigcq: no queue here",
-    ),
-    (
-        &[Step::Init("daily", 0, 64, 4_294_967_297, &[]), Step::Check],
-        "cq: BadConfigcq: no queue here",
-    ),
-    (
-        &[
+            "cq: BadConfig",
+        ),
+        (Step::Check, "cq: no queue here"),
+    ],
+    &[
+        (Step::Init("weekly", 0, 64, 4, &[]), "cq: BadConfig"),
+        (Step::Check, "cq: no queue here"),
+    ],
+    &[
+        (Step::Init("daily", 0, 30, 4, &[]), "cq: BadShape"),
+        (Step::Check, "cq: no queue here"),
+    ],
+    &[
+        (
+            Step::Init("daily", 0, 4_294_967_360, 4, &[]),
+            "cq: BadShape",
+        ),
+        (Step::Check, "cq: no queue here"),
+    ],
+    &[
+        (Step::Init("daily", 0, 30, 0, &[]), "cq: BadShape"),
+        (Step::Check, "cq: no queue here"),
+    ],
+    &[
+        (Step::Init("daily", 0, 64, 0, &[]), "cq: BadConfig"),
+        (Step::Check, "cq: no queue here"),
+    ],
+    &[
+        (Step::Init("daily", 0, 64, 65, &[]), "cq: BadConfig"),
+        (Step::Check, "cq: no queue here"),
+    ],
+    &[
+        (
+            Step::Init("daily", 0, 64, 4_294_967_297, &[]),
+            "cq: BadConfig",
+        ),
+        (Step::Check, "cq: no queue here"),
+    ],
+    &[
+        (
             Step::Init("daily", 253_402_300_800_000, 64, 4, &[]),
-            Step::Check,
-        ],
-        "cq: BadConfigcq: no queue here",
-    ),
+            "cq: BadConfig",
+        ),
+        (Step::Check, "cq: no queue here"),
+    ],
 ];
 
 #[test]

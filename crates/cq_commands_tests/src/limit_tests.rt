@@ -1,5 +1,5 @@
 //! Limits of queues, of the input and of files.
-use crate::steps::{DAY, MOST_BYTES, Step, expect, expect_each};
+use crate::steps::{DAY, MOST_BYTES, Step, Steps, expect, expect_each};
 use std::test::Fail;
 
 static FILLED: [(Step, &str); 6] = [
@@ -37,9 +37,9 @@ fn a_queue_has_at_most_64_cycles(rt: HostRuntime) -> Result<(), Fail> {
     expect(rt.alloc(), &DAYS)
 }
 
-static NAMES: [(&[Step], &str); 4] = [
-    (
-        &[Step::Init(
+static NAMES: [Steps; 4] = [
+    &[(
+        Step::Init(
             "daily",
             0,
             64,
@@ -62,11 +62,11 @@ static NAMES: [(&[Step], &str); 4] = [
                 "aaaaaaaaaaaaaaaaaaaaaaaaaaaaaaao",
                 "aaaaaaaaaaaaaaaaaaaaaaaaaaaaaaap",
             ],
-        )],
+        ),
         "",
-    ),
-    (
-        &[Step::Init(
+    )],
+    &[(
+        Step::Init(
             "daily",
             0,
             64,
@@ -74,14 +74,14 @@ static NAMES: [(&[Step], &str); 4] = [
             &[
                 "a", "b", "c", "d", "e", "f", "g", "h", "i", "j", "k", "l", "m", "n", "o", "p", "q",
             ],
-        )],
+        ),
         "cq: BadConfig",
-    ),
-    (
-        &[Step::Init("daily", 0, 64, 1, &["aaaaaaaaaaaaaaaaaaaaaaaaaaaaaaaaa"])],
+    )],
+    &[(
+        Step::Init("daily", 0, 64, 1, &["aaaaaaaaaaaaaaaaaaaaaaaaaaaaaaaaa"]),
         "cq: BadConfig",
-    ),
-    (&[Step::Init("daily", 0, 64, 1, &[""])], "cq: BadConfig"),
+    )],
+    &[(Step::Init("daily", 0, 64, 1, &[""]), "cq: BadConfig")],
 ];
 
 #[test]
@@ -89,15 +89,15 @@ fn a_queue_has_at_most_16_names_of_32_bytes(rt: HostRuntime) -> Result<(), Fail>
     expect_each(rt.alloc(), &NAMES)
 }
 
-static INPUTS: [(&[Step], &str); 2] = [
-    (
-        &[Step::Queue(1), Step::WriteEmpty(0, MOST_BYTES)],
-        "cq: line 1: BadRoom",
-    ),
-    (
-        &[Step::Queue(1), Step::WriteEmpty(0, MOST_BYTES + 1)],
-        "cq: input too long",
-    ),
+static INPUTS: [Steps; 2] = [
+    &[
+        (Step::Queue(1), ""),
+        (Step::WriteEmpty(0, MOST_BYTES), "cq: line 1: BadRoom"),
+    ],
+    &[
+        (Step::Queue(1), ""),
+        (Step::WriteEmpty(0, MOST_BYTES + 1), "cq: input too long"),
+    ],
 ];
 
 #[test]
@@ -105,31 +105,22 @@ fn bounds_the_input(rt: HostRuntime) -> Result<(), Fail> {
     expect_each(rt.alloc(), &INPUTS)
 }
 
-static FILES: [(&[Step], &str); 3] = [
-    (
-        &[
-            Step::Queue(1),
-            Step::Fill("queue.cqc", b'x', MOST_BYTES),
-            Step::Read(false, None),
-        ],
-        "cq: queue.cqc: line 1",
-    ),
-    (
-        &[
-            Step::Queue(1),
-            Step::Fill("queue.cqc", b'x', MOST_BYTES + 1),
-            Step::Read(false, None),
-        ],
-        "cq: file too large: queue.cqc",
-    ),
-    (
-        &[
-            Step::Queue(1),
-            Step::Fill("19700101.cqi", 0, MOST_BYTES + 1),
-            Step::Check,
-        ],
-        "cq: file too large: 19700101.cqi",
-    ),
+static FILES: [Steps; 3] = [
+    &[
+        (Step::Queue(1), ""),
+        (Step::Fill("queue.cqc", b'x', MOST_BYTES), ""),
+        (Step::Read(false, None), "cq: queue.cqc: line 1"),
+    ],
+    &[
+        (Step::Queue(1), ""),
+        (Step::Fill("queue.cqc", b'x', MOST_BYTES + 1), ""),
+        (Step::Read(false, None), "cq: file too large: queue.cqc"),
+    ],
+    &[
+        (Step::Queue(1), ""),
+        (Step::Fill("19700101.cqi", 0, MOST_BYTES + 1), ""),
+        (Step::Check, "cq: file too large: 19700101.cqi"),
+    ],
 ];
 
 #[test]

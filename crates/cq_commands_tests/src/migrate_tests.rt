@@ -1,6 +1,6 @@
 //! What `migrate` makes of a folder of version 1, and which fault it reports.
 use crate::images::{A, HELLO, HELLO_WORLD, NINE};
-use crate::steps::{DAY, Failing, Step, expect, expect_each, expect_failing};
+use crate::steps::{DAY, Failing, Step, Steps, expect, expect_each, expect_failing};
 use std::test::Fail;
 
 /// `queue.cqc` of version 1 after "hello" of cycle 20000 was taken.
@@ -65,125 +65,133 @@ const OF_HOURS: &[u8] =
 const AT_10: &[u8] =
     b"cq 1\nroll daily\nepoch 0\ncells 64\ncount 8\nspacing 1\ncycles 4\nname reader 10\n";
 
-static STAYS: [(&[Step], &str); 9] = [
+static STAYS: [Steps; 9] = [
     // What stays: the floor and the positions, also one that no queue can have, messages that fill a cycle of 64
     // cells, images without messages, and files that are none of the queue's.
-    (
-        &[
-            Step::Put("queue.cqc", OF_HOURS),
-            Step::Put("19700101-01.cqi", HELLO),
-            Step::Put("19700101-02.cqi", A),
-            Step::Migrate,
+    &[
+        (Step::Put("queue.cqc", OF_HOURS), ""),
+        (Step::Put("19700101-01.cqi", HELLO), ""),
+        (Step::Put("19700101-02.cqi", A), ""),
+        (Step::Migrate, ""),
+        (
             Step::Text("queue.cqc"),
+            "cq 2\nroll hourly\nepoch 3600000\ncells 67\ncount 8\nspacing 1\ncycles 4\nfloor 1\nname one 9\n\
+name two 4294967297\n",
+        ),
+        (
             Step::Dump("19700101-02.cqi"),
+            "00000000 40000024 store 2 1 8 1 67 3600000 3600000\n00000028 40000020 top 76 0 0 0 0 0 0 0\n\
+0000004c 40000020 table 0 112 0 0 0 0 0 0 0\n00000070 00000001 data 0 61\n",
+        ),
+        (
             Step::Check,
-            Step::Read(false, None),
-        ],
-        "cq 2\nroll hourly\nepoch 3600000\ncells 67\ncount 8\nspacing 1\ncycles 4\nfloor 1\nname one 9\nname two 4294967297\n\
-00000000 40000024 store 2 1 8 1 67 3600000 3600000\n00000028 40000020 top 76 0 0 0 0 0 0 0\n\
-0000004c 40000020 table 0 112 0 0 0 0 0 0 0\n00000070 00000001 data 0 61\n\
-19700101-01.cqi: 1 messages, ended\n19700101-02.cqi: 1 messages, open\n0000000100000000 a\n",
-    ),
-    (
-        &[
-            Step::Put("queue.cqc", AT_10),
-            Step::Put("19700101.cqi", NINE),
-            Step::Migrate,
+            "19700101-01.cqi: 1 messages, ended\n19700101-02.cqi: 1 messages, open\n",
+        ),
+        (Step::Read(false, None), "0000000100000000 a\n"),
+    ],
+    &[
+        (Step::Put("queue.cqc", AT_10), ""),
+        (Step::Put("19700101.cqi", NINE), ""),
+        (Step::Migrate, ""),
+        (
             Step::Text("queue.cqc"),
-            Step::Read(false, None),
-        ],
-        "cq 2\nroll daily\nepoch 0\ncells 67\ncount 8\nspacing 1\ncycles 4\nname reader 10\ncq: BadContents",
-    ),
+            "cq 2\nroll daily\nepoch 0\ncells 67\ncount 8\nspacing 1\ncycles 4\nname reader 10\n",
+        ),
+        (Step::Read(false, None), "cq: BadContents"),
+    ],
     // Nine times "hello" and "abcd".
-    (
-        &[
-            Step::OldQueue(4),
-            Step::Put("19700101.cqi", NINE),
-            Step::Patch("19700101.cqi", 204, &[0xf4]),
-            Step::Patch("19700101.cqi", 244, b"\x04\0\0\0abcd"),
-            Step::Check,
-            Step::Migrate,
-            Step::Length("19700101.cqi"),
-            Step::Check,
+    &[
+        (Step::OldQueue(4), ""),
+        (Step::Put("19700101.cqi", NINE), ""),
+        (Step::Patch("19700101.cqi", 204, &[0xf4]), ""),
+        (Step::Patch("19700101.cqi", 244, b"\x04\0\0\0abcd"), ""),
+        (Step::Check, "19700101.cqi: 10 messages, open\n"),
+        (Step::Migrate, ""),
+        (Step::Length("19700101.cqi"), "264"),
+        (Step::Check, "19700101.cqi: 10 messages, open\n"),
+        (
             Step::Read(false, Some("0000000000000008")),
-            Step::Write(0, b"z\n"),
-        ],
-        "19700101.cqi: 10 messages, open\n26419700101.cqi: 10 messages, open\n\
-0000000000000008 hello\n0000000000000009 abcd\ncq: line 1: CycleFull",
-    ),
-    (
-        &[
-            Step::OldQueue(4),
-            Step::Put("19700101.cqi", &[0, 0, 0, 0xc0]),
-            Step::Put("19700102.cqi", b""),
-            Step::Put("notes", b"kept"),
-            Step::Migrate,
-            Step::Bytes("19700101.cqi"),
-            Step::Bytes("19700102.cqi"),
-            Step::Text("notes"),
+            "0000000000000008 hello\n0000000000000009 abcd\n",
+        ),
+        (Step::Write(0, b"z\n"), "cq: line 1: CycleFull"),
+    ],
+    &[
+        (Step::OldQueue(4), ""),
+        (Step::Put("19700101.cqi", &[0, 0, 0, 0xc0]), ""),
+        (Step::Put("19700102.cqi", b""), ""),
+        (Step::Put("notes", b"kept"), ""),
+        (Step::Migrate, ""),
+        (Step::Bytes("19700101.cqi"), "000000c0"),
+        (Step::Bytes("19700102.cqi"), ""),
+        (Step::Text("notes"), "kept"),
+        (
             Step::Check,
-        ],
-        "000000c0kept19700101.cqi: 0 messages, ended\n19700102.cqi: 0 messages, open\n",
-    ),
+            "19700101.cqi: 0 messages, ended\n19700102.cqi: 0 messages, open\n",
+        ),
+    ],
     // In a folder without an image, and in one of version 2.
-    (
-        &[
-            Step::OldQueue(4),
-            Step::Migrate,
+    &[
+        (Step::OldQueue(4), ""),
+        (Step::Migrate, ""),
+        (
             Step::Text("queue.cqc"),
-            Step::Put("19700101.cqi", b"x"),
-            Step::Put("zzz.cqi", b""),
-            Step::Migrate,
+            "cq 2\nroll daily\nepoch 0\ncells 67\ncount 8\nspacing 1\ncycles 4\nname reader 0\n",
+        ),
+        (Step::Put("19700101.cqi", b"x"), ""),
+        (Step::Put("zzz.cqi", b""), ""),
+        (Step::Migrate, ""),
+        (
             Step::Text("queue.cqc"),
-            Step::Text("19700101.cqi"),
-        ],
-        "cq 2\nroll daily\nepoch 0\ncells 67\ncount 8\nspacing 1\ncycles 4\nname reader 0\n\
-cq 2\nroll daily\nepoch 0\ncells 67\ncount 8\nspacing 1\ncycles 4\nname reader 0\nx",
-    ),
+            "cq 2\nroll daily\nepoch 0\ncells 67\ncount 8\nspacing 1\ncycles 4\nname reader 0\n",
+        ),
+        (Step::Text("19700101.cqi"), "x"),
+    ],
     // An image of version 2 in a folder of version 1: with three cells more it is accepted, and otherwise its
     // first fault is reported.
-    (
-        &[
-            Step::Init("daily", 0, 67, 4, &["reader"]),
-            Step::Write(0, b"hello\n"),
-            Step::Write(DAY, b"b\n"),
-            Step::OldQueue(4),
-            Step::Put("19700102.cqi", A),
-            Step::Migrate,
+    &[
+        (Step::Init("daily", 0, 67, 4, &["reader"]), ""),
+        (Step::Write(0, b"hello\n"), "0000000000000000\n"),
+        (Step::Write(DAY, b"b\n"), "0000000100000000\n"),
+        (Step::OldQueue(4), ""),
+        (Step::Put("19700102.cqi", A), ""),
+        (Step::Migrate, ""),
+        (
             Step::Check,
+            "19700101.cqi: 1 messages, ended\n19700102.cqi: 1 messages, open\n",
+        ),
+        (
             Step::Read(false, None),
-        ],
-        "0000000000000000\n0000000100000000\n\
-19700101.cqi: 1 messages, ended\n19700102.cqi: 1 messages, open\n0000000000000000 hello\n0000000100000000 a\n",
-    ),
-    (
-        &[
-            Step::Queue(4),
-            Step::Write(0, b"hello\n"),
-            Step::OldQueue(4),
-            Step::Migrate,
+            "0000000000000000 hello\n0000000100000000 a\n",
+        ),
+    ],
+    &[
+        (Step::Queue(4), ""),
+        (Step::Write(0, b"hello\n"), "0000000000000000\n"),
+        (Step::OldQueue(4), ""),
+        (Step::Migrate, "cq: 19700101.cqi: WrongStore at 24"),
+        (
             Step::Text("queue.cqc"),
-        ],
-        "0000000000000000\ncq: 19700101.cqi: WrongStore at 24cq 1\nroll daily\nepoch 0\ncells 64\ncount 8\nspacing 1\ncycles 4\nname reader 0\n",
-    ),
-    (
-        &[
-            Step::OldQueue(4),
-            Step::Put("19700101.cqi", b"\x24\0\0@"),
-            Step::Migrate,
+            "cq 1\nroll daily\nepoch 0\ncells 64\ncount 8\nspacing 1\ncycles 4\nname reader 0\n",
+        ),
+    ],
+    &[
+        (Step::OldQueue(4), ""),
+        (Step::Put("19700101.cqi", b"\x24\0\0@"), ""),
+        (Step::Migrate, "cq: 19700101.cqi: Cut at 0"),
+        (
             Step::Text("queue.cqc"),
-        ],
-        "cq: 19700101.cqi: Cut at 0cq 1\nroll daily\nepoch 0\ncells 64\ncount 8\nspacing 1\ncycles 4\nname reader 0\n",
-    ),
-    (
-        &[
-            Step::OldQueue(4),
-            Step::Put("19700101.cqi", b"\x20\0\0@"),
-            Step::Migrate,
+            "cq 1\nroll daily\nepoch 0\ncells 64\ncount 8\nspacing 1\ncycles 4\nname reader 0\n",
+        ),
+    ],
+    &[
+        (Step::OldQueue(4), ""),
+        (Step::Put("19700101.cqi", b"\x20\0\0@"), ""),
+        (Step::Migrate, "cq: 19700101.cqi: WrongStore at 0"),
+        (
             Step::Text("queue.cqc"),
-        ],
-        "cq: 19700101.cqi: WrongStore at 0cq 1\nroll daily\nepoch 0\ncells 64\ncount 8\nspacing 1\ncycles 4\nname reader 0\n",
-    ),
+            "cq 1\nroll daily\nepoch 0\ncells 64\ncount 8\nspacing 1\ncycles 4\nname reader 0\n",
+        ),
+    ],
 ];
 
 #[test]
@@ -193,61 +201,53 @@ fn keeps_what_a_queue_holds(rt: HostRuntime) -> Result<(), Fail> {
 
 /// A cycle has at most 1,048,576 cells, and all cycles have at most 4,194,304. With three cells more they are within
 /// these limits, or no file changes and the folder is read as before.
-static LIMITS: [(&[Step], &str); 6] = [
-    (
-        &[
-            Step::OldCells(1_048_576, 1),
-            Step::Put("19700102.cqi", A),
-            Step::Patch("19700102.cqi", 24, &[0x00, 0x00, 0x10]),
-            Step::Migrate,
-            Step::Read(false, None),
-        ],
-        "cq: BadShape0000000100000000 a\n",
-    ),
-    (
-        &[
-            Step::OldCells(65_536, 64),
-            Step::Put("19700102.cqi", A),
-            Step::Patch("19700102.cqi", 24, &[0x00, 0x00, 0x01]),
-            Step::Migrate,
-            Step::Read(false, None),
-        ],
-        "cq: BadConfig0000000100000000 a\n",
-    ),
-    (
-        &[
-            Step::OldCells(1_048_574, 4),
-            Step::Migrate,
+static LIMITS: [Steps; 6] = [
+    &[
+        (Step::OldCells(1_048_576, 1), ""),
+        (Step::Put("19700102.cqi", A), ""),
+        (Step::Patch("19700102.cqi", 24, &[0x00, 0x00, 0x10]), ""),
+        (Step::Migrate, "cq: BadShape"),
+        (Step::Read(false, None), "0000000100000000 a\n"),
+    ],
+    &[
+        (Step::OldCells(65_536, 64), ""),
+        (Step::Put("19700102.cqi", A), ""),
+        (Step::Patch("19700102.cqi", 24, &[0x00, 0x00, 0x01]), ""),
+        (Step::Migrate, "cq: BadConfig"),
+        (Step::Read(false, None), "0000000100000000 a\n"),
+    ],
+    &[
+        (Step::OldCells(1_048_574, 4), ""),
+        (Step::Migrate, "cq: BadShape"),
+        (
             Step::Text("queue.cqc"),
-        ],
-        "cq: BadShape\
-cq 1\nroll daily\nepoch 0\ncells 1048574\ncount 8\nspacing 1\ncycles 4\nname reader 0\n",
-    ),
-    (
-        &[
-            Step::OldCells(1_048_573, 4),
-            Step::Migrate,
+            "cq 1\nroll daily\nepoch 0\ncells 1048574\ncount 8\nspacing 1\ncycles 4\nname reader 0\n",
+        ),
+    ],
+    &[
+        (Step::OldCells(1_048_573, 4), ""),
+        (Step::Migrate, ""),
+        (
             Step::Text("queue.cqc"),
-        ],
-        "cq 2\nroll daily\nepoch 0\ncells 1048576\ncount 8\nspacing 1\ncycles 4\nname reader 0\n",
-    ),
-    (
-        &[
-            Step::OldCells(65_534, 64),
-            Step::Migrate,
+            "cq 2\nroll daily\nepoch 0\ncells 1048576\ncount 8\nspacing 1\ncycles 4\nname reader 0\n",
+        ),
+    ],
+    &[
+        (Step::OldCells(65_534, 64), ""),
+        (Step::Migrate, "cq: BadConfig"),
+        (
             Step::Text("queue.cqc"),
-        ],
-        "cq: BadConfig\
-cq 1\nroll daily\nepoch 0\ncells 65534\ncount 8\nspacing 1\ncycles 64\nname reader 0\n",
-    ),
-    (
-        &[
-            Step::OldCells(65_533, 64),
-            Step::Migrate,
+            "cq 1\nroll daily\nepoch 0\ncells 65534\ncount 8\nspacing 1\ncycles 64\nname reader 0\n",
+        ),
+    ],
+    &[
+        (Step::OldCells(65_533, 64), ""),
+        (Step::Migrate, ""),
+        (
             Step::Text("queue.cqc"),
-        ],
-        "cq 2\nroll daily\nepoch 0\ncells 65536\ncount 8\nspacing 1\ncycles 64\nname reader 0\n",
-    ),
+            "cq 2\nroll daily\nepoch 0\ncells 65536\ncount 8\nspacing 1\ncycles 64\nname reader 0\n",
+        ),
+    ],
 ];
 
 #[test]

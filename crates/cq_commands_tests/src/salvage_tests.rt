@@ -1,5 +1,5 @@
 //! What `salvage` prints, and which faults it reports.
-use crate::steps::{DAY, Failing, MOST_BYTES, Step, expect, expect_each, expect_failing};
+use crate::steps::{DAY, Failing, MOST_BYTES, Step, Steps, expect, expect_each, expect_failing};
 use std::test::Fail;
 
 /// A queue with "hello" and "world" in one cycle, whose image is then cut off.
@@ -42,33 +42,27 @@ fn saves_what_lies_before_a_cut_of_an_image(rt: HostRuntime) -> Result<(), Fail>
 }
 
 /// The largest file that is read, one that is larger, and a faulty image along with the one that is named.
-static LARGE: [(&[Step], &str); 3] = [
-    (
-        &[
-            Step::Queue(1),
-            Step::Fill("19700101.cqi", 0, MOST_BYTES),
+static LARGE: [Steps; 3] = [
+    &[
+        (Step::Queue(1), ""),
+        (Step::Fill("19700101.cqi", 0, MOST_BYTES), ""),
+        (Step::Salvage("19700101.cqi"), "Unfinished at 0\n"),
+    ],
+    &[
+        (Step::Queue(1), ""),
+        (Step::Fill("19700101.cqi", 0, MOST_BYTES + 1), ""),
+        (
             Step::Salvage("19700101.cqi"),
-        ],
-        "Unfinished at 0\n",
-    ),
-    (
-        &[
-            Step::Queue(1),
-            Step::Fill("19700101.cqi", 0, MOST_BYTES + 1),
-            Step::Salvage("19700101.cqi"),
-        ],
-        "cq: file too large: 19700101.cqi",
-    ),
-    (
-        &[
-            Step::Queue(4),
-            Step::Write(0, b"a\n"),
-            Step::Put("19700102.cqi", b"x"),
-            Step::Put("zzz.cqi", b""),
-            Step::Salvage("19700101.cqi"),
-        ],
-        "0000000000000000\n0 a\nwhole\n",
-    ),
+            "cq: file too large: 19700101.cqi",
+        ),
+    ],
+    &[
+        (Step::Queue(4), ""),
+        (Step::Write(0, b"a\n"), "0000000000000000\n"),
+        (Step::Put("19700102.cqi", b"x"), ""),
+        (Step::Put("zzz.cqi", b""), ""),
+        (Step::Salvage("19700101.cqi"), "0 a\nwhole\n"),
+    ],
 ];
 
 #[test]

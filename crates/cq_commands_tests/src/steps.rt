@@ -1,9 +1,12 @@
 //! Steps over a folder in memory, and what is said at each.
+//!
+//! A step is a command or a change of a file. Commands share no name with the calls of other tests: they open the queue,
+//! make all their calls of it, and save it.
 use crate::streams::{Broken, BrokenBehind, said};
 use cq_commands::{
     InitSettings, ToolFault, check, drop_before, dump, init, migrate, read, salvage, take, write,
 };
-use cq_fixtures::{expect_text, push_missed};
+use cq_fixtures::{expect_answer, expect_text, push_missed};
 use cq_folder::{Access, FailingFolder, Folder, FolderFault, MemoryFolder};
 use std::alloc::{AllocError, Global};
 use std::io::Write;
@@ -67,6 +70,9 @@ pub enum Step {
     /// Says how many bytes a file has.
     Length(&'static str),
 }
+
+/// Steps in turn, each with what is said at it.
+pub type Steps = &'static [(Step, &'static str)];
 
 /// A command whose writer fails.
 #[derive(Clone, Copy)]
@@ -404,54 +410,38 @@ pub fn said_anew(alloc: Global, steps: &[Step]) -> Result<String, FolderFault> {
     said_by(alloc, &mut folder, steps)
 }
 
-/// Adds to a text what each step says that says something else than its row wants, with its place.
-fn push_missed_steps<F: Folder>(
+/// Takes these steps over a folder. Fails if something else than wanted is said at one of them.
+pub fn expect_steps<F: Folder>(
     alloc: Global,
+    row: &str,
     folder: &mut F,
-    steps: &'static [(Step, &'static str)],
-    text: &mut String,
-) -> Result<(), FolderFault> {
-    for (place, (step, want)) in steps.iter().enumerate() {
-        push_missed(
-            alloc,
-            text,
-            place,
-            said_at(alloc, folder, step)?.as_str(),
-            want,
-        )?;
-    }
-    Ok(())
-}
-
-/// Fails if a step over a new folder says something else than its row wants.
-pub fn expect(alloc: Global, steps: &'static [(Step, &'static str)]) -> Result<(), Fail> {
-    let mut folder = MemoryFolder::new(alloc);
-    let mut missed = String::new(alloc);
-    push_missed_steps(alloc, &mut folder, steps, &mut missed)?;
-    expect_text(missed, "")
-}
-
-/// Adds to a text what lists of steps say, each over a folder of its own, if it is something else than the list's row
-/// wants.
-fn push_missed_lists(
-    alloc: Global,
-    table: &'static [(&'static [Step], &'static str)],
-    text: &mut String,
-) -> Result<(), FolderFault> {
-    for (place, (steps, want)) in table.iter().enumerate() {
-        push_missed(alloc, text, place, said_anew(alloc, steps)?.as_str(), want)?;
-    }
-    Ok(())
-}
-
-/// Fails if a list of steps, over a folder of its own, says something else together than its row wants.
-pub fn expect_each(
-    alloc: Global,
-    table: &'static [(&'static [Step], &'static str)],
+    steps: Steps,
 ) -> Result<(), Fail> {
-    let mut missed = String::new(alloc);
-    push_missed_lists(alloc, table, &mut missed)?;
-    expect_text(missed, "")
+    for (place, (step, want)) in steps.iter().enumerate() {
+        let said = said_at(alloc, folder, step)?;
+        expect_answer(row, place, said.as_str(), want)?;
+    }
+    Ok(())
+}
+
+/// Takes these steps over a new folder. Fails if something else than wanted is said at one of them.
+pub fn expect(alloc: Global, steps: Steps) -> Result<(), Fail> {
+    expect_new(alloc, "one folder", steps)
+}
+
+/// The same for the steps of a row of a table.
+fn expect_new(alloc: Global, row: &str, steps: Steps) -> Result<(), Fail> {
+    let mut folder = MemoryFolder::new(alloc);
+    expect_steps(alloc, row, &mut folder, steps)
+}
+
+/// Takes the steps of each row over a new folder. Fails if something else than wanted is said at one of them.
+pub fn expect_each(alloc: Global, table: &[Steps]) -> Result<(), Fail> {
+    for (number, steps) in table.iter().enumerate() {
+        let row = format!(in alloc; "row {number}")?;
+        expect_new(alloc, row.as_str(), steps)?;
+    }
+    Ok(())
 }
 
 /// A step over a folder of which one call fails.

@@ -1,5 +1,5 @@
 //! What `take` does and prints, and which contents are opened.
-use crate::steps::{DAY, Failing, Step, expect, expect_each, expect_failing};
+use crate::steps::{DAY, Failing, Step, Steps, expect, expect_each, expect_failing};
 use std::test::Fail;
 
 static ONCE: [(Step, &str); 8] = [
@@ -46,62 +46,60 @@ const OF_1: &[u8] =
 
 /// A position without an image, one above the end, and more images than cycles. `write`, `read` and `take` all refuse
 /// them before they check what they were given, and leave all files as they were. The end itself is a position.
-static HELD: [(&[Step], &str); 4] = [
-    (
-        &[
-            Step::Queue(4),
-            Step::Put("queue.cqc", AT_1),
-            Step::Write(u64::MAX, b"\n"),
-            Step::Read(false, None),
-            Step::Take("nobody"),
+static HELD: [Steps; 4] = [
+    &[
+        (Step::Queue(4), ""),
+        (Step::Put("queue.cqc", AT_1), ""),
+        (Step::Write(u64::MAX, b"\n"), "cq: BadContents"),
+        (Step::Read(false, None), "cq: BadContents"),
+        (Step::Take("nobody"), "cq: BadContents"),
+        (
             Step::Text("queue.cqc"),
-            Step::Length("19700101.cqi"),
-        ],
-        "cq: BadContentscq: BadContentscq: BadContents\
-cq 2\nroll daily\nepoch 0\ncells 64\ncount 8\nspacing 1\ncycles 4\nname reader 1\n0",
-    ),
-    (
-        &[
-            Step::Queue(4),
-            Step::Write(0, b"a\n"),
-            Step::Put("queue.cqc", AT_2),
-            Step::Write(u64::MAX, b"\n"),
-            Step::Read(false, None),
-            Step::Take("nobody"),
+            "cq 2\nroll daily\nepoch 0\ncells 64\ncount 8\nspacing 1\ncycles 4\nname reader 1\n",
+        ),
+        (Step::Length("19700101.cqi"), "0"),
+    ],
+    &[
+        (Step::Queue(4), ""),
+        (Step::Write(0, b"a\n"), "0000000000000000\n"),
+        (Step::Put("queue.cqc", AT_2), ""),
+        (Step::Write(u64::MAX, b"\n"), "cq: BadContents"),
+        (Step::Read(false, None), "cq: BadContents"),
+        (Step::Take("nobody"), "cq: BadContents"),
+        (
             Step::Text("queue.cqc"),
+            "cq 2\nroll daily\nepoch 0\ncells 64\ncount 8\nspacing 1\ncycles 4\nname reader 2\n",
+        ),
+        (
             Step::Dump("19700101.cqi"),
-        ],
-        "0000000000000000\ncq: BadContentscq: BadContentscq: BadContents\
-cq 2\nroll daily\nepoch 0\ncells 64\ncount 8\nspacing 1\ncycles 4\nname reader 2\n\
-00000000 40000024 store 2 0 8 1 64 0 86400000\n00000028 40000020 top 76 0 0 0 0 0 0 0\n\
+            "00000000 40000024 store 2 0 8 1 64 0 86400000\n00000028 40000020 top 76 0 0 0 0 0 0 0\n\
 0000004c 40000020 table 0 112 0 0 0 0 0 0 0\n00000070 00000001 data 0 61\n",
-    ),
-    (
-        &[
-            Step::Queue(4),
-            Step::Write(0, b"a\n"),
-            Step::Write(DAY, b"b\n"),
-            Step::Put("queue.cqc", OF_1),
-            Step::Write(u64::MAX, b"\n"),
-            Step::Read(false, None),
-            Step::Take("nobody"),
+        ),
+    ],
+    &[
+        (Step::Queue(4), ""),
+        (Step::Write(0, b"a\n"), "0000000000000000\n"),
+        (Step::Write(DAY, b"b\n"), "0000000100000000\n"),
+        (Step::Put("queue.cqc", OF_1), ""),
+        (Step::Write(u64::MAX, b"\n"), "cq: BadContents"),
+        (Step::Read(false, None), "cq: BadContents"),
+        (Step::Take("nobody"), "cq: BadContents"),
+        (
             Step::Text("queue.cqc"),
+            "cq 2\nroll daily\nepoch 0\ncells 64\ncount 8\nspacing 1\ncycles 1\nname reader 0\n",
+        ),
+        (
             Step::Dump("19700101.cqi"),
-        ],
-        "0000000000000000\n0000000100000000\ncq: BadContentscq: BadContentscq: BadContents\
-cq 2\nroll daily\nepoch 0\ncells 64\ncount 8\nspacing 1\ncycles 1\nname reader 0\n\
-00000000 40000024 store 2 0 8 1 64 0 86400000\n00000028 40000020 top 76 0 0 0 0 0 0 0\n\
+            "00000000 40000024 store 2 0 8 1 64 0 86400000\n00000028 40000020 top 76 0 0 0 0 0 0 0\n\
 0000004c 40000020 table 0 112 0 0 0 0 0 0 0\n00000070 00000001 data 0 61\n00000078 c0000000 end\n",
-    ),
-    (
-        &[
-            Step::Queue(4),
-            Step::Write(0, b"a\n"),
-            Step::Put("queue.cqc", AT_1),
-            Step::Take("reader"),
-        ],
-        "0000000000000000\nnot yet\n",
-    ),
+        ),
+    ],
+    &[
+        (Step::Queue(4), ""),
+        (Step::Write(0, b"a\n"), "0000000000000000\n"),
+        (Step::Put("queue.cqc", AT_1), ""),
+        (Step::Take("reader"), "not yet\n"),
+    ],
 ];
 
 #[test]

@@ -1,6 +1,6 @@
 //! What commands do in a folder of version 1, and with an image of the other version.
 use crate::images::{A, HELLO, HELLO_WORLD, NINE};
-use crate::steps::{DAY, Step, expect, expect_each};
+use crate::steps::{DAY, Step, Steps, expect, expect_each};
 use std::test::Fail;
 
 /// `queue.cqc` of version 1 after "hello" of cycle 20000 was taken.
@@ -58,113 +58,107 @@ const FLOOR_1: &[u8] =
 const AT_10: &[u8] =
     b"cq 1\nroll daily\nepoch 0\ncells 64\ncount 8\nspacing 1\ncycles 4\nname reader 10\n";
 
-static READ: [(&[Step], &str); 10] = [
+static READ: [Steps; 10] = [
     // What is read of version 1: messages that fit into no cycle of version 2, those at or above the floor, and
     // none if no queue can hold what the images do.
-    (
-        &[
-            Step::OldQueue(4),
-            Step::Put("19700101.cqi", NINE),
+    &[
+        (Step::OldQueue(4), ""),
+        (Step::Put("19700101.cqi", NINE), ""),
+        (
             Step::Read(false, Some("0000000000000007")),
-        ],
-        "0000000000000007 hello\n0000000000000008 hello\n",
-    ),
-    (
-        &[
-            Step::Put("queue.cqc", FLOOR_1),
-            Step::Put("19700101.cqi", HELLO),
-            Step::Put("19700102.cqi", A),
-            Step::Read(false, None),
-        ],
-        "0000000100000000 a\n",
-    ),
-    (
-        &[
-            Step::OldQueue(1),
-            Step::Put("19700101.cqi", HELLO),
-            Step::Put("19700102.cqi", A),
-            Step::Read(false, None),
-        ],
-        "cq: BadContents",
-    ),
-    (
-        &[
-            Step::Put("queue.cqc", AT_10),
-            Step::Put("19700101.cqi", NINE),
-            Step::Read(false, None),
-        ],
-        "cq: BadContents",
-    ),
+            "0000000000000007 hello\n0000000000000008 hello\n",
+        ),
+    ],
+    &[
+        (Step::Put("queue.cqc", FLOOR_1), ""),
+        (Step::Put("19700101.cqi", HELLO), ""),
+        (Step::Put("19700102.cqi", A), ""),
+        (Step::Read(false, None), "0000000100000000 a\n"),
+    ],
+    &[
+        (Step::OldQueue(1), ""),
+        (Step::Put("19700101.cqi", HELLO), ""),
+        (Step::Put("19700102.cqi", A), ""),
+        (Step::Read(false, None), "cq: BadContents"),
+    ],
+    &[
+        (Step::Put("queue.cqc", AT_10), ""),
+        (Step::Put("19700101.cqi", NINE), ""),
+        (Step::Read(false, None), "cq: BadContents"),
+    ],
     // An image of version 2 in a folder of version 1, and one of version 1 in a folder of version 2: whole, and
     // cut off after the first header.
-    (
-        &[
-            Step::Queue(4),
-            Step::Write(0, b"hello\n"),
-            Step::OldQueue(4),
+    &[
+        (Step::Queue(4), ""),
+        (Step::Write(0, b"hello\n"), "0000000000000000\n"),
+        (Step::OldQueue(4), ""),
+        (
             Step::Check,
-            Step::Read(false, None),
+            "19700101.cqi: WrongStore at 0\ncq: images at fault",
+        ),
+        (Step::Read(false, None), "cq: 19700101.cqi: WrongStore at 0"),
+        (
             Step::Dump("19700101.cqi"),
-            Step::Salvage("19700101.cqi"),
-        ],
-        "0000000000000000\n19700101.cqi: WrongStore at 0\ncq: images at fault\
-cq: 19700101.cqi: WrongStore at 0cq: 19700101.cqi: WrongStore at 0WrongStore at 0\n",
-    ),
-    (
-        &[
-            Step::OldQueue(4),
-            Step::Put("19700101.cqi", b"\x24\0\0@"),
+            "cq: 19700101.cqi: WrongStore at 0",
+        ),
+        (Step::Salvage("19700101.cqi"), "WrongStore at 0\n"),
+    ],
+    &[
+        (Step::OldQueue(4), ""),
+        (Step::Put("19700101.cqi", b"\x24\0\0@"), ""),
+        (
             Step::Check,
-        ],
-        "19700101.cqi: WrongStore at 0\ncq: images at fault",
-    ),
-    (
-        &[
-            Step::Queue(4),
-            Step::Put("19700101.cqi", NINE),
+            "19700101.cqi: WrongStore at 0\ncq: images at fault",
+        ),
+    ],
+    &[
+        (Step::Queue(4), ""),
+        (Step::Put("19700101.cqi", NINE), ""),
+        (
             Step::Check,
-            Step::Read(false, None),
+            "19700101.cqi: WrongStore at 0\ncq: images at fault",
+        ),
+        (Step::Read(false, None), "cq: 19700101.cqi: WrongStore at 0"),
+        (
             Step::Dump("19700101.cqi"),
-            Step::Salvage("19700101.cqi"),
-            Step::Write(0, b"a\n"),
-            Step::Take("reader"),
-            Step::Drop(0),
-        ],
-        "19700101.cqi: WrongStore at 0\ncq: images at fault\
-cq: 19700101.cqi: WrongStore at 0cq: 19700101.cqi: WrongStore at 0WrongStore at 0\n\
-cq: 19700101.cqi: WrongStore at 0cq: 19700101.cqi: WrongStore at 0cq: 19700101.cqi: WrongStore at 0",
-    ),
-    (
-        &[
-            Step::Queue(4),
-            Step::Put("19700101.cqi", b"\x18\0\0@"),
+            "cq: 19700101.cqi: WrongStore at 0",
+        ),
+        (Step::Salvage("19700101.cqi"), "WrongStore at 0\n"),
+        (Step::Write(0, b"a\n"), "cq: 19700101.cqi: WrongStore at 0"),
+        (Step::Take("reader"), "cq: 19700101.cqi: WrongStore at 0"),
+        (Step::Drop(0), "cq: 19700101.cqi: WrongStore at 0"),
+    ],
+    &[
+        (Step::Queue(4), ""),
+        (Step::Put("19700101.cqi", b"\x18\0\0@"), ""),
+        (
             Step::Check,
-        ],
-        "19700101.cqi: WrongStore at 0\ncq: images at fault",
-    ),
+            "19700101.cqi: WrongStore at 0\ncq: images at fault",
+        ),
+    ],
     // An image without messages is the same in both versions.
-    (
-        &[
-            Step::OldQueue(4),
-            Step::Put("19700101.cqi", &[0, 0, 0, 0xc0]),
-            Step::Put("19700102.cqi", b""),
+    &[
+        (Step::OldQueue(4), ""),
+        (Step::Put("19700101.cqi", &[0, 0, 0, 0xc0]), ""),
+        (Step::Put("19700102.cqi", b""), ""),
+        (
             Step::Check,
-            Step::Read(false, None),
-            Step::Write(DAY, b"a\n"),
-        ],
-        "19700101.cqi: 0 messages, ended\n19700102.cqi: 0 messages, open\ncq: OldVersion",
-    ),
-    (
-        &[
-            Step::Queue(4),
-            Step::Put("19700101.cqi", &[0, 0, 0, 0xc0]),
-            Step::Put("19700102.cqi", b""),
+            "19700101.cqi: 0 messages, ended\n19700102.cqi: 0 messages, open\n",
+        ),
+        (Step::Read(false, None), ""),
+        (Step::Write(DAY, b"a\n"), "cq: OldVersion"),
+    ],
+    &[
+        (Step::Queue(4), ""),
+        (Step::Put("19700101.cqi", &[0, 0, 0, 0xc0]), ""),
+        (Step::Put("19700102.cqi", b""), ""),
+        (
             Step::Check,
-            Step::Read(false, None),
-            Step::Write(DAY, b"a\n"),
-        ],
-        "19700101.cqi: 0 messages, ended\n19700102.cqi: 0 messages, open\n0000000100000000\n",
-    ),
+            "19700101.cqi: 0 messages, ended\n19700102.cqi: 0 messages, open\n",
+        ),
+        (Step::Read(false, None), ""),
+        (Step::Write(DAY, b"a\n"), "0000000100000000\n"),
+    ],
 ];
 
 #[test]
