@@ -1,5 +1,5 @@
 //! Reads into a buffer, after a read backwards that allocated memory for the places of messages. They allocate nothing:
-//! `docs/refused_memory.py rooms` counts the growths of memory of both tests, which have to be as many.
+//! `docs/refused_memory.py buffers` counts the growths of memory of both tests, which have to be equally many.
 
 ghost use Rattle.std.specs.Prelude.{◌≡◌, None};
 ghost use Rattle.cq_words.specs.Values.{IsOf};

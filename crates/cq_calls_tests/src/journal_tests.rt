@@ -2,12 +2,11 @@
 //!
 //! The calls are not those of `queues`: a reader of a journal returns a message or none, and no reason.
 use crate::lives::Start;
-use cq_cycle::Index;
 use cq_fixtures::{
-    Cycles, DAY, contents_text, expect_answer, expect_end, message_text, small_config,
+    Cycles, DAY, contents_text, expect_answer, expect_end, message_or_none, small_config,
 };
 use cq_journal::{Journal, JournalReader, JournalWriter};
-use cq_model::{Contents, Message};
+use cq_model::Contents;
 use cq_tail::Direction;
 use std::alloc::{AllocError, Global};
 use std::test::Fail;
@@ -70,20 +69,12 @@ fn appended_text(
     }
 }
 
-/// A message with its index as text, or none.
-fn found_text(alloc: Global, found: &Option<(Index, Message)>) -> Result<String, Fail> {
-    match found {
-        Some((index, message)) => message_text(alloc, *index, message),
-        None => Ok(String::from_str(alloc, "none")?),
-    }
-}
-
 /// What a call of a reader returns.
 fn answer_text(alloc: Global, reader: &mut JournalReader, call: Call) -> Result<String, Fail> {
     match call {
-        Call::Next => found_text(alloc, &reader.next(alloc)?),
+        Call::Next => message_or_none(alloc, &reader.next(alloc)?),
         Call::Take(name) => match reader.take(alloc, name) {
-            Ok(taken) => found_text(alloc, &taken),
+            Ok(taken) => message_or_none(alloc, &taken),
             Err(fault) => Ok(format!(in alloc; "{fault}")?),
         },
     }

@@ -11,22 +11,15 @@ use cq_callers::{
 };
 use cq_cycle::Index;
 use cq_endpoint::{Endpoint, Found};
-use cq_fixtures::{DAY, expect, expect_row, expect_text, message_text, small_config};
-use cq_model::Message;
+use cq_fixtures::{
+    DAY, expect, expect_row, expect_text, message_or_none, message_text, small_config,
+};
 use cq_tail::Tailer;
 use cq_words::{Caller, Queue};
 use std::alloc::Global;
 use std::sync::Wait;
 use std::test::Fail;
 use std::thread::Threads;
-
-/// A message that was returned, as text.
-fn answer_text(alloc: Global, answer: Option<(Index, Message)>) -> Result<String, Fail> {
-    match answer {
-        Some((index, message)) => message_text(alloc, index, &message),
-        None => Ok(String::from_str(alloc, "none")?),
-    }
-}
 
 /// What was read, as text.
 fn found_text(alloc: Global, found: Found) -> Result<String, Fail> {
@@ -46,14 +39,14 @@ fn a_first_message_is_read(rt: HostRuntime) -> Result<(), Fail> {
 fn a_message_is_appended_and_read(rt: HostRuntime) -> Result<(), Fail> {
     let alloc = rt.alloc();
     let read = append_then_read(alloc, small_config(alloc, 4)?, 0, b"hello")?;
-    expect_text(answer_text(alloc, read)?, "0 hello")
+    expect_text(message_or_none(alloc, &read)?, "0 hello")
 }
 
 #[test]
 fn a_message_is_sent_by_an_endpoint(rt: HostRuntime) -> Result<(), Fail> {
     let alloc = rt.alloc();
     let read = sent(alloc, small_config(alloc, 4)?, 0, b"hello")?;
-    expect_text(answer_text(alloc, read)?, "0 hello")
+    expect_text(message_or_none(alloc, &read)?, "0 hello")
 }
 
 /// What an endpoint reads next into a buffer.
@@ -129,7 +122,7 @@ fn taken_text(alloc: Global, queue: &Queue, tailer: &mut Tailer) -> Result<Strin
     requires { IsOf queue.now tailer.old.caller }
 {
     let taken = take_next(alloc, queue, tailer, "reader")?;
-    answer_text(alloc, taken)
+    message_or_none(alloc, &taken)
 }
 
 /// What a tailer that is split off a caller takes first.
@@ -146,7 +139,7 @@ fn next_text(alloc: Global, queue: &Queue, tailer: &mut Tailer) -> Result<String
     ensures { IsOf queue.now tailer.new.caller }
 {
     let read = next_message(alloc, queue, tailer)?;
-    answer_text(alloc, read)
+    message_or_none(alloc, &read)
 }
 
 /// What a caller reads first.
@@ -195,7 +188,7 @@ fn new_queue_taken<R: Threads + Wait + Sync>(
 fn threads_append_and_one_message_is_taken(rt: HostRuntime) -> Result<(), Fail> {
     let (one, two, index, taken) = new_queue_taken(&rt, rt.alloc())?;
     expect(one && two, "both threads append")?;
-    expect(index == Some(Index::new(0, 2)), "the index behind them")?;
+    expect(index == Some(Index::new(0, 2)), "the index after theirs")?;
     expect_text(taken, "0 hello")
 }
 
@@ -277,7 +270,7 @@ fn drop_and_read(alloc: Global, queue: &Queue, tailer: &mut Tailer) -> Result<(u
 }
 
 /// The same by a tailer that a caller becomes.
-fn read_behind(alloc: Global, queue: &Queue, caller: Caller) -> Result<(u32, String), Fail>
+fn read_after_drop(alloc: Global, queue: &Queue, caller: Caller) -> Result<(u32, String), Fail>
     requires of { IsOf queue.now caller }
     requires claim { caller.view.claim ≡ None }
 {
@@ -286,15 +279,15 @@ fn read_behind(alloc: Global, queue: &Queue, caller: Caller) -> Result<(u32, Str
 }
 
 /// The same of a new queue with a message in each of two cycles.
-fn new_queue_behind(alloc: Global) -> Result<(u32, String), Fail> {
+fn new_queue_dropped(alloc: Global) -> Result<(u32, String), Fail> {
     let (queue, mut caller) = Queue::create(alloc, small_config(alloc, 4)?, 0)?;
     append_old_and_new(&queue, &mut caller)?;
-    read_behind(alloc, &queue, caller)
+    read_after_drop(alloc, &queue, caller)
 }
 
 #[test]
 fn old_cycles_are_dropped(rt: HostRuntime) -> Result<(), Fail> {
-    let (floor, read) = new_queue_behind(rt.alloc())?;
+    let (floor, read) = new_queue_dropped(rt.alloc())?;
     expect_row(floor == 5, u64::from(floor))?;
     expect_text(read, "21474836480 new")
 }

@@ -11,6 +11,14 @@ pub fn message_text(alloc: Global, index: Index, message: &Message) -> Result<St
     Ok(format!(in alloc; "{} {}", index.value(), text)?)
 }
 
+/// Gives a message as text, after its index, or `none` if there is no message.
+pub fn message_or_none(alloc: Global, answer: &Option<(Index, Message)>) -> Result<String, Fail> {
+    match answer {
+        Some((index, message)) => message_text(alloc, *index, message),
+        None => Ok(String::from_str(alloc, "none")?),
+    }
+}
+
 /// Gives what a call returned as it is, or why it did nothing.
 pub fn shown_text<T: Debug, E: Debug>(
     alloc: Global,
