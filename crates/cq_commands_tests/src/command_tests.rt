@@ -1,10 +1,10 @@
 //! What the commands do and print.
-use crate::steps::{DAY, Step, expect, push_said_apart, said_by};
+use crate::steps::{Step, expect, push_said_apart, said_by};
 use crate::streams::said;
 use crate::word_tests::words_of;
 use cq_command_line::parse;
 use cq_commands::{Order, run};
-use cq_fixtures::expect_text;
+use cq_fixtures::{DAY, expect_text};
 use cq_folder::{Folder, FolderFault, MemoryFolder};
 use std::alloc::Global;
 use std::test::Fail;
@@ -178,7 +178,7 @@ fn ran_and_checked<F: Folder>(
 }
 
 /// What an order writes after these steps, and what `check` says then.
-fn ran_behind(alloc: Global, before: &[Step], order: &Order) -> Result<String, FolderFault> {
+fn ran_after(alloc: Global, before: &[Step], order: &Order) -> Result<String, FolderFault> {
     let mut folder = MemoryFolder::new(alloc);
     said_by(alloc, &mut folder, before)?;
     ran_and_checked(alloc, &mut folder, order)
@@ -187,7 +187,7 @@ fn ran_behind(alloc: Global, before: &[Step], order: &Order) -> Result<String, F
 /// The same of the order that the arguments of a line are.
 fn line_ran(alloc: Global, before: &[Step], line: &str) -> Result<String, Fail> {
     let order = order_of(alloc, line)?;
-    Ok(ran_behind(alloc, before, &order)?)
+    Ok(ran_after(alloc, before, &order)?)
 }
 
 /// A queue with "hello" in cycle 1.

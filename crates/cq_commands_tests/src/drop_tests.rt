@@ -1,5 +1,8 @@
 //! What `drop` does and prints, and what reads and takes return after it.
-use crate::steps::{DAY, Failing, Step, Steps, expect, expect_each, expect_failing};
+use crate::steps::{
+    AT_START, Failing, Step, Steps, TWO_CYCLES, expect, expect_each, expect_failing,
+};
+use cq_fixtures::DAY;
 use std::test::Fail;
 
 /// A floor above the last cycle, which is 20005.
@@ -149,20 +152,9 @@ fn opens_no_floor_that_a_queue_cannot_have(rt: HostRuntime) -> Result<(), Fail> 
     expect_each(rt.alloc(), &HELD)
 }
 
-/// `queue.cqc` as long as nothing is dropped.
-const AT_START: &str =
-    "cq 2\nroll daily\nepoch 0\ncells 64\ncount 8\nspacing 1\ncycles 4\nname reader 0\n";
-
-/// The same if reads begin at cycle 1.
+/// `queue.cqc` if reads begin at cycle 1.
 const FROM_1: &str =
     "cq 2\nroll daily\nepoch 0\ncells 64\ncount 8\nspacing 1\ncycles 4\nfloor 1\nname reader 0\n";
-
-/// A queue with "hello" in cycle 0 and "a" in cycle 1.
-const TWO_CYCLES: &[Step] = &[
-    Step::Queue(4),
-    Step::Write(0, b"hello\n"),
-    Step::Write(DAY, b"a\n"),
-];
 
 static FAILING: Failing = Failing {
     before: TWO_CYCLES,

@@ -1,8 +1,8 @@
 //! A folder may list its names in any order: commands return the same.
 use crate::falling::FallingFolder;
 use crate::images::{A, HELLO};
-use crate::steps::{DAY, Step, Steps, expect_each, expect_steps, said_by};
-use cq_fixtures::expect_text;
+use crate::steps::{Step, Steps, expect_each, expect_steps, said_by};
+use cq_fixtures::{DAY, expect_text};
 use cq_folder::{Access, Folder, FolderFault};
 use std::alloc::Global;
 use std::test::Fail;
@@ -181,6 +181,6 @@ static TWO: [Steps; 8] = [
 ];
 
 #[test]
-fn tells_the_same_fault_in_any_order(rt: HostRuntime) -> Result<(), Fail> {
+fn reports_the_same_fault_in_any_order(rt: HostRuntime) -> Result<(), Fail> {
     expect_in_any_order(rt.alloc(), &TWO)
 }

@@ -1,10 +1,10 @@
 //! Which fault is reported, and what the folder holds then.
 use crate::images::{HELLO, NINE};
 use crate::steps::{
-    DAY, Failing, MOST_BYTES, Step, Steps, Unprinted, expect, expect_each, expect_failing,
+    Failing, MOST_BYTES, Step, Steps, TWO_CYCLES, Unprinted, expect, expect_each, expect_failing,
     push_said_apart, said_anew, said_at, said_by,
 };
-use cq_fixtures::expect_text;
+use cq_fixtures::{DAY, expect_text};
 use cq_folder::{Folder, FolderFault, MemoryFolder};
 use std::alloc::{AllocError, Global};
 use std::test::Fail;
@@ -56,7 +56,7 @@ fn wanted_of(alloc: Global, want: &str) -> Result<String, AllocError> {
 }
 
 #[test]
-fn tells_each_image_fault(rt: HostRuntime) -> Result<(), Fail> {
+fn reports_each_image_fault(rt: HostRuntime) -> Result<(), Fail> {
     for &(at, bytes, want) in &WRONG {
         let wanted = wanted_of(rt.alloc(), want)?;
         expect_text(faults_of(rt.alloc(), at, bytes)?, wanted.as_str())?;
@@ -201,7 +201,7 @@ static STREAMS: [(Step, &str); 5] = [
 ];
 
 #[test]
-fn tells_the_first_fault_of_streams(rt: HostRuntime) -> Result<(), Fail> {
+fn reports_the_first_fault_of_streams(rt: HostRuntime) -> Result<(), Fail> {
     expect(rt.alloc(), &STREAMS)
 }
 
@@ -308,14 +308,7 @@ fn refuses_settings(rt: HostRuntime) -> Result<(), Fail> {
 
 static NOWHERE: [(Step, &str); 1] = [(Step::Check, "cq: no queue here")];
 
-/// A queue with "hello" in cycle 0 and "a" in cycle 1.
-const TWO_CYCLES: &[Step] = &[
-    Step::Queue(4),
-    Step::Write(0, b"hello\n"),
-    Step::Write(DAY, b"a\n"),
-];
-
-/// What `check` says of it.
+/// What `check` says of the two cycles.
 const BOTH: &str = "19700101.cqi: 1 messages, ended\n19700102.cqi: 1 messages, open\n";
 
 /// The calls of a command that reads all images: it comes in, then the list, `queue.cqc`, and the images.
@@ -514,7 +507,7 @@ cq: 19700101.cqi: wrong end|cq: 19700101.cqi: wrong end",
 ];
 
 /// What `check`, `read` and `write` say if this file was put.
-fn said_beside(
+fn said_with(
     alloc: Global,
     file: &'static str,
     bytes: &'static [u8],
@@ -538,9 +531,9 @@ fn said_apart<F: Folder>(alloc: Global, folder: &mut F) -> Result<String, Folder
 }
 
 #[test]
-fn tells_the_first_fault(rt: HostRuntime) -> Result<(), Fail> {
+fn reports_the_first_fault(rt: HostRuntime) -> Result<(), Fail> {
     for &(file, bytes, want) in &PUT {
-        expect_text(said_beside(rt.alloc(), file, bytes)?, want)?;
+        expect_text(said_with(rt.alloc(), file, bytes)?, want)?;
     }
     Ok(())
 }

@@ -1,5 +1,6 @@
 //! Limits of queues, of the input and of files.
-use crate::steps::{DAY, MOST_BYTES, Step, Steps, expect, expect_each};
+use crate::steps::{MOST_BYTES, Step, Steps, expect, expect_each};
+use cq_fixtures::DAY;
 use std::test::Fail;
 
 static FILLED: [(Step, &str); 6] = [

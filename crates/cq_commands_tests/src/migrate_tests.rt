@@ -1,14 +1,15 @@
 //! What `migrate` makes of a folder of version 1, and which fault it reports.
 use crate::images::{A, HELLO, HELLO_WORLD, NINE};
-use crate::steps::{DAY, Failing, Step, Steps, expect, expect_each, expect_failing};
+use crate::steps::{Failing, Step, Steps, expect, expect_each, expect_failing};
+use cq_fixtures::DAY;
 use std::test::Fail;
 
 /// `queue.cqc` of version 1 after "hello" of cycle 20000 was taken.
-const BEHIND_HELLO: &[u8] =
+const AFTER_HELLO: &[u8] =
     b"cq 1\nroll daily\nepoch 0\ncells 64\ncount 8\nspacing 1\ncycles 4\nname reader 85899345920001\n";
 
 /// The same of version 2, with three cells more.
-const NEW_BEHIND_HELLO: &str =
+const NEW_AFTER_HELLO: &str =
     "cq 2\nroll daily\nepoch 0\ncells 67\ncount 8\nspacing 1\ncycles 4\nname reader 85899345920001\n";
 
 /// The image of cycle 20000 with "hello" and "world" in version 2, in cycles of 67 cells.
@@ -20,10 +21,10 @@ const NEW_HELLO_WORLD: &str =
 05000000776f726c64000000";
 
 static ROW: [(Step, &str); 18] = [
-    (Step::Put("queue.cqc", BEHIND_HELLO), ""),
+    (Step::Put("queue.cqc", AFTER_HELLO), ""),
     (Step::Put("20241004.cqi", HELLO_WORLD), ""),
     (Step::Migrate, ""),
-    (Step::Text("queue.cqc"), NEW_BEHIND_HELLO),
+    (Step::Text("queue.cqc"), NEW_AFTER_HELLO),
     (Step::Length("20241004.cqi"), "136"),
     (Step::Bytes("20241004.cqi"), NEW_HELLO_WORLD),
     (
@@ -38,12 +39,12 @@ static ROW: [(Step, &str); 18] = [
     ),
     // Once more, and if the image was written before and `queue.cqc` was not.
     (Step::Migrate, ""),
-    (Step::Text("queue.cqc"), NEW_BEHIND_HELLO),
+    (Step::Text("queue.cqc"), NEW_AFTER_HELLO),
     (Step::Bytes("20241004.cqi"), NEW_HELLO_WORLD),
-    (Step::Put("queue.cqc", BEHIND_HELLO), ""),
+    (Step::Put("queue.cqc", AFTER_HELLO), ""),
     (Step::Read(false, None), "cq: 20241004.cqi: WrongStore at 0"),
     (Step::Migrate, ""),
-    (Step::Text("queue.cqc"), NEW_BEHIND_HELLO),
+    (Step::Text("queue.cqc"), NEW_AFTER_HELLO),
     (Step::Bytes("20241004.cqi"), NEW_HELLO_WORLD),
     (
         Step::Write(1_728_000_000_000, b"more\n"),
@@ -256,7 +257,7 @@ fn needs_room_for_three_cells_more(rt: HostRuntime) -> Result<(), Fail> {
 }
 
 /// A folder of version 1 with "hello" in cycle 0, which ended, and "a" in cycle 1.
-const TWO_CYCLES: &[Step] = &[
+const OLD_CYCLES: &[Step] = &[
     Step::OldQueue(4),
     Step::Put("19700101.cqi", HELLO),
     Step::Put("19700102.cqi", A),
@@ -295,7 +296,7 @@ cq 2\nroll daily\nepoch 0\ncells 67\ncount 8\nspacing 1\ncycles 4\nname reader 0
 
 /// The calls of a migration: it comes in, then the list, `queue.cqc`, the images, and all files at once.
 static FAILING: Failing = Failing {
-    before: TWO_CYCLES,
+    before: OLD_CYCLES,
     step: Step::Migrate,
     after: FILES,
     table: &[
@@ -312,7 +313,7 @@ static FAILING: Failing = Failing {
 
 /// The same if all files are saved nevertheless.
 static SAVED: Failing = Failing {
-    before: TWO_CYCLES,
+    before: OLD_CYCLES,
     step: Step::Migrate,
     after: FILES,
     table: &[(6, "cq: file fault: 19700101.cqi", NEW)],
@@ -334,7 +335,7 @@ const AGAIN: &[Step] = &[
 ];
 
 static FAILING_ONCE: Failing = Failing {
-    before: TWO_CYCLES,
+    before: OLD_CYCLES,
     step: Step::Migrate,
     after: AGAIN,
     table: &[
@@ -349,7 +350,7 @@ static FAILING_ONCE: Failing = Failing {
 };
 
 static SAVED_ONCE: Failing = Failing {
-    before: TWO_CYCLES,
+    before: OLD_CYCLES,
     step: Step::Migrate,
     after: AGAIN,
     table: &[(6, "cq: file fault: 19700101.cqi", NEW)],

@@ -133,6 +133,6 @@ static FAULTY: [Row; 4] = [
 ];
 
 #[test]
-fn no_command_is_inside_while_it_tells_of_faults(rt: HostRuntime) -> Result<(), Fail> {
+fn no_command_is_inside_while_it_reports_faults(rt: HostRuntime) -> Result<(), Fail> {
     expect_outside(rt.alloc(), &OLD, &FAULTY)
 }

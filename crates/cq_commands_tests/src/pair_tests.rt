@@ -1,8 +1,8 @@
 //! Two faults that compete, over a folder that lists its names in falling order: the first one of the command's order
 //! is reported.
 use crate::falling::FallingFolder;
-use crate::steps::{DAY, MOST_BYTES, Step, Unprinted, said_at, said_by};
-use cq_fixtures::{expect_text, push_missed};
+use crate::steps::{MOST_BYTES, Step, Unprinted, said_at, said_by};
+use cq_fixtures::{DAY, expect_text, push_missed};
 use cq_folder::{FailingFolder, FolderFault};
 use std::alloc::Global;
 use std::test::Fail;
@@ -578,7 +578,7 @@ static MIGRATE: [Pair; 12] = [
 ];
 
 #[test]
-fn migrate_tells_the_first(rt: HostRuntime) -> Result<(), Fail> {
+fn migrate_reports_the_first(rt: HostRuntime) -> Result<(), Fail> {
     expect_first(rt.alloc(), &MIGRATE)
 }
 
@@ -655,6 +655,6 @@ static WRITE: [Pair; 10] = [
 ];
 
 #[test]
-fn write_tells_the_first(rt: HostRuntime) -> Result<(), Fail> {
+fn write_reports_the_first(rt: HostRuntime) -> Result<(), Fail> {
     expect_first(rt.alloc(), &WRITE)
 }

@@ -1,5 +1,6 @@
 //! What `salvage` prints, and which faults it reports.
-use crate::steps::{DAY, Failing, MOST_BYTES, Step, Steps, expect, expect_each, expect_failing};
+use crate::steps::{Failing, MOST_BYTES, Step, Steps, expect, expect_each, expect_failing};
+use cq_fixtures::DAY;
 use std::test::Fail;
 
 /// A queue with "hello" and "world" in one cycle, whose image is then cut off.
@@ -71,7 +72,7 @@ fn looks_at_the_named_file_alone(rt: HostRuntime) -> Result<(), Fail> {
 }
 
 /// A queue with "hello" in cycle 0 and "a" in cycle 1, of which the second image is cut off.
-const TWO_CYCLES: &[Step] = &[
+const CUT_OFF: &[Step] = &[
     Step::Queue(4),
     Step::Write(0, b"hello\n"),
     Step::Write(DAY, b"a\n"),
@@ -82,7 +83,7 @@ const TWO_CYCLES: &[Step] = &[
 const BOTH: &str = "19700101.cqi: 1 messages, ended\n19700102.cqi: Cut at 112\ncq: images at fault";
 
 static FAILING: Failing = Failing {
-    before: TWO_CYCLES,
+    before: CUT_OFF,
     step: Step::Salvage("19700101.cqi"),
     after: &[Step::Check],
     table: &[

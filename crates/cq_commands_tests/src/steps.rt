@@ -2,18 +2,15 @@
 //!
 //! A step is a command or a change of a file. Commands share no name with the calls of other tests: they open the queue,
 //! make all their calls of it, and save it.
-use crate::streams::{Broken, BrokenBehind, said};
+use crate::streams::{Broken, BrokenAfter, said};
 use cq_commands::{
     InitSettings, ToolFault, check, drop_before, dump, init, migrate, read, salvage, take, write,
 };
-use cq_fixtures::{expect_answer, expect_text, push_missed};
+use cq_fixtures::{DAY, expect_answer, expect_text, push_missed};
 use cq_folder::{Access, FailingFolder, Folder, FolderFault, MemoryFolder};
 use std::alloc::{AllocError, Global};
 use std::io::Write;
 use std::test::Fail;
-
-/// One day in milliseconds.
-pub const DAY: u64 = 86_400_000;
 
 /// The most bytes of a file, and of the input of `write`.
 pub const MOST_BYTES: usize = 8_388_608;
@@ -71,6 +68,17 @@ pub enum Step {
     Length(&'static str),
 }
 
+/// A queue with "hello" in cycle 0 and "a" in cycle 1.
+pub const TWO_CYCLES: &[Step] = &[
+    Step::Queue(4),
+    Step::Write(0, b"hello\n"),
+    Step::Write(DAY, b"a\n"),
+];
+
+/// Its `queue.cqc`, as long as nothing is taken or dropped.
+pub const AT_START: &str =
+    "cq 2\nroll daily\nepoch 0\ncells 64\ncount 8\nspacing 1\ncycles 4\nname reader 0\n";
+
 /// Steps in turn, each with what is said at it.
 pub type Steps = &'static [(Step, &'static str)];
 
@@ -103,7 +111,7 @@ pub fn said_at<F: Folder>(
             made(alloc, folder, roll, epoch, cells, cycles, names)
         }
         Step::WriteEmpty(moment, lines) => written_empty(alloc, folder, moment, lines),
-        Step::WriteBroken(moment, behind) => written_broken(alloc, folder, moment, behind),
+        Step::WriteBroken(moment, lines) => written_broken(alloc, folder, moment, lines),
         Step::Unprinted(command) => said_unprinted(alloc, folder, command),
         Step::WriteDays(days) => written_each_day(alloc, folder, days),
         Step::Text(file) => text_of(alloc, folder, file),
@@ -250,9 +258,9 @@ fn written_broken<F: Folder>(
     alloc: Global,
     folder: &mut F,
     moment: u64,
-    behind: usize,
+    lines: usize,
 ) -> Result<String, FolderFault> {
-    let mut input = BrokenBehind { left: behind };
+    let mut input = BrokenAfter { left: lines };
     let done = write(alloc, folder, moment, &mut input, &mut Broken);
     said(alloc, done, &[])
 }
@@ -466,11 +474,11 @@ fn said_failing(alloc: Global, failing: &Failing, number: u64) -> Result<String,
         false => FailingFolder::new(folder, number),
         true => FailingFolder::written(folder, number),
     };
-    said_and_behind(alloc, folder, failing)
+    said_and_after(alloc, folder, failing)
 }
 
 /// What is said at the step over a folder of which one call fails, and after it.
-fn said_and_behind(
+fn said_and_after(
     alloc: Global,
     mut folder: FailingFolder<MemoryFolder>,
     failing: &Failing,
@@ -487,9 +495,9 @@ fn push_missed_calls(
     failing: &'static Failing,
     text: &mut String,
 ) -> Result<(), FolderFault> {
-    for (number, want, behind) in failing.table {
+    for (number, want, after) in failing.table {
         let said = said_failing(alloc, failing, *number)?;
-        let want = format!(in alloc; "{want}|{behind}")?;
+        let want = format!(in alloc; "{want}|{after}")?;
         push_missed(alloc, text, *number as usize, said.as_str(), want.as_str())?;
     }
     Ok(())

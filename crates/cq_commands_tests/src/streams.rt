@@ -20,12 +20,12 @@ pub fn said(
 
 /// A reader that fails after this many line feeds.
 #[derive(Drop)]
-pub struct BrokenBehind {
+pub struct BrokenAfter {
     /// How many are left.
     pub left: usize,
 }
 
-impl Read for BrokenBehind {
+impl Read for BrokenAfter {
     fn read(&mut self, buf: &mut [u8]) -> io::Result<usize> {
         if self.left == 0 {
             return Err(io::Error::from(ErrorKind::Other));

@@ -1,5 +1,8 @@
 //! What `take` does and prints, and which contents are opened.
-use crate::steps::{DAY, Failing, Step, Steps, expect, expect_each, expect_failing};
+use crate::steps::{
+    AT_START, Failing, Step, Steps, TWO_CYCLES, expect, expect_each, expect_failing,
+};
+use cq_fixtures::DAY;
 use std::test::Fail;
 
 static ONCE: [(Step, &str); 8] = [
@@ -144,20 +147,9 @@ fn takes_each_message_once_by_a_name(rt: HostRuntime) -> Result<(), Fail> {
     expect(rt.alloc(), &TWO_NAMES)
 }
 
-/// `queue.cqc` as long as nothing is taken.
-const AT_START: &str =
-    "cq 2\nroll daily\nepoch 0\ncells 64\ncount 8\nspacing 1\ncycles 4\nname reader 0\n";
-
-/// The same after "hello" was taken.
-const BEHIND_HELLO: &str =
+/// `queue.cqc` after "hello" was taken.
+const AFTER_HELLO: &str =
     "cq 2\nroll daily\nepoch 0\ncells 64\ncount 8\nspacing 1\ncycles 4\nname reader 1\n";
-
-/// A queue with "hello" in cycle 0 and "a" in cycle 1.
-const TWO_CYCLES: &[Step] = &[
-    Step::Queue(4),
-    Step::Write(0, b"hello\n"),
-    Step::Write(DAY, b"a\n"),
-];
 
 static FAILING: Failing = Failing {
     before: TWO_CYCLES,
@@ -170,7 +162,7 @@ static FAILING: Failing = Failing {
         (4, "cq: file fault: 19700101.cqi", AT_START),
         (5, "cq: file fault: 19700102.cqi", AT_START),
         (6, "cq: file fault: queue.cqc", AT_START),
-        (7, "0000000000000000 hello\n", BEHIND_HELLO),
+        (7, "0000000000000000 hello\n", AFTER_HELLO),
     ],
     writes: false,
 };
@@ -180,7 +172,7 @@ static SAVED: Failing = Failing {
     before: TWO_CYCLES,
     step: Step::Take("reader"),
     after: &[Step::Text("queue.cqc")],
-    table: &[(6, "cq: file fault: queue.cqc", BEHIND_HELLO)],
+    table: &[(6, "cq: file fault: queue.cqc", AFTER_HELLO)],
     writes: true,
 };
 

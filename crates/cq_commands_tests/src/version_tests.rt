@@ -1,15 +1,16 @@
 //! What commands do in a folder of version 1, and with an image of the other version.
 use crate::images::{A, HELLO, HELLO_WORLD, NINE};
-use crate::steps::{DAY, Step, Steps, expect, expect_each};
+use crate::steps::{Step, Steps, expect, expect_each};
+use cq_fixtures::DAY;
 use std::test::Fail;
 
 /// `queue.cqc` of version 1 after "hello" of cycle 20000 was taken.
-const BEHIND_HELLO: &[u8] =
+const AFTER_HELLO: &[u8] =
     b"cq 1\nroll daily\nepoch 0\ncells 64\ncount 8\nspacing 1\ncycles 4\nname reader 85899345920001\n";
 
 /// No command of those that change a queue changes a file, and the others do what they do in any folder.
 static OLD: [(Step, &str); 13] = [
-    (Step::Put("queue.cqc", BEHIND_HELLO), ""),
+    (Step::Put("queue.cqc", AFTER_HELLO), ""),
     (Step::Put("20241004.cqi", HELLO_WORLD), ""),
     (Step::Length("20241004.cqi"), "124"),
     (Step::Write(1_728_000_000_000, b"more\n"), "cq: OldVersion"),
