@@ -39,6 +39,7 @@ CALLS = {
     "saved_set_position": (WORD, HANDLE, WORD, LONG),
     "saved_set_floor": (WORD, HANDLE, WORD),
     "open": (WORD, HANDLE, HANDLE),
+    "text": (SIZE, WORD, BYTES, SIZE),
     "size": (SIZE, WORD),
 }
 

@@ -1,7 +1,7 @@
-ghost use Rattle.std.specs.Prelude.{◌≡◌, ◌≤◌, IfNone, IfSome};
+ghost use Rattle.std.specs.Prelude.{◌≡◌, ◌≤◌, IfNone, IfSome, length};
 ghost use Rattle.linnetshelf.specs.Statuses.{number};
 
-/// How a call went. C has its number.
+/// How a call went. C has its number, which is its place in this list, from 0.
 #[derive(Clone, Copy, Debug, PartialEq, Eq)]
 pub enum Status {
     /// The call is done.
@@ -76,145 +76,133 @@ pub enum Status {
     OutOfMemory,
 }
 
+/// Each status with its text in English, in the order of their numbers.
+static STATUSES: [(Status, &str); 35] = [
+    (Status::Done, "it is done"),
+    (Status::NotYet, "there is no such message yet"),
+    (Status::BeforeStart, "there is no earlier message"),
+    (
+        Status::Never,
+        "no message will ever stand there: its cycle is below the current one",
+    ),
+    (
+        Status::Gone,
+        "reads pass over the cycle of this index, which was dropped",
+    ),
+    (
+        Status::NoMessage,
+        "no message stands at this index, or its cycle was dropped; the endpoint stays where it is",
+    ),
+    (
+        Status::NoRoom,
+        "the room is too small; the answer has the length that is needed",
+    ),
+    (
+        Status::Moved,
+        "the name stands elsewhere and was not moved; the answer has its position",
+    ),
+    (Status::Busy, "another endpoint is writing"),
+    (
+        Status::CycleFull,
+        "a message of this length does not fit behind those of the current cycle",
+    ),
+    (
+        Status::NoCycleLeft,
+        "the moment lies in a later cycle, and the queue has as many cycles as it may have",
+    ),
+    (
+        Status::BadRoom,
+        "no message has this length, which is 0 or above 2^30 - 1 bytes",
+    ),
+    (Status::BadMoment, "the moment lies in no cycle"),
+    (
+        Status::Writing,
+        "the endpoint has begun a message, which is to be completed or given up first",
+    ),
+    (Status::NotWriting, "the endpoint has begun no message"),
+    (
+        Status::PastRoom,
+        "the bytes would pass the room with which the message was begun",
+    ),
+    (
+        Status::EmptyMessage,
+        "nothing was put: a message has at least one byte",
+    ),
+    (
+        Status::NotSeen,
+        "the position or the cycle lies behind the end that the endpoint has seen",
+    ),
+    (
+        Status::NoSuchName,
+        "the queue declares no tailer of this name",
+    ),
+    (Status::BadDirection, "no direction has this number"),
+    (Status::BadSettings, "a setting is outside its limits"),
+    (
+        Status::BadContents,
+        "no queue of these settings holds these cycles, positions and floor",
+    ),
+    (
+        Status::BehindOpen,
+        "the cycle before has not ended, and nothing stands behind that",
+    ),
+    (
+        Status::Cut,
+        "the image ends before a record does, or where a message must follow",
+    ),
+    (
+        Status::BadHeader,
+        "four bytes of the image that are not a header stand where one must be",
+    ),
+    (Status::Unfinished, "a record of the image is not complete"),
+    (
+        Status::WrongStore,
+        "the store record of the image is not that of the cycle and the settings",
+    ),
+    (
+        Status::WrongTable,
+        "a table of the image is missing, or has a wrong size or a wrong entry",
+    ),
+    (
+        Status::BadPadding,
+        "a byte of the image behind a message, up to the next four bytes, is not 0",
+    ),
+    (
+        Status::AfterEnd,
+        "bytes follow the end of data of the image",
+    ),
+    (
+        Status::OverShape,
+        "a message of the image does not fit the settings behind those before it",
+    ),
+    (Status::NoSuchPlace, "there are not as many cycles or names"),
+    (Status::InUse, "other endpoints of the queue live"),
+    (
+        Status::WrongKind,
+        "the handle holds something else than this call is for",
+    ),
+    (Status::OutOfMemory, "there was no memory"),
+];
+
 impl Status {
     /// Returns its number for C.
     pub fn number(self) -> u32
         ensures { result ≡ number self }
     {
-        match self {
-            Status::Done => 0,
-            Status::NotYet => 1,
-            Status::BeforeStart => 2,
-            Status::Never => 3,
-            Status::Gone => 4,
-            Status::NoMessage => 5,
-            Status::NoRoom => 6,
-            Status::Moved => 7,
-            Status::Busy => 8,
-            Status::CycleFull => 9,
-            Status::NoCycleLeft => 10,
-            Status::BadRoom => 11,
-            Status::BadMoment => 12,
-            Status::Writing => 13,
-            Status::NotWriting => 14,
-            Status::PastRoom => 15,
-            Status::EmptyMessage => 16,
-            Status::NotSeen => 17,
-            Status::NoSuchName => 18,
-            Status::BadDirection => 19,
-            Status::BadSettings => 20,
-            Status::BadContents => 21,
-            Status::BehindOpen => 22,
-            Status::Cut => 23,
-            Status::BadHeader => 24,
-            Status::Unfinished => 25,
-            Status::WrongStore => 26,
-            Status::WrongTable => 27,
-            Status::BadPadding => 28,
-            Status::AfterEnd => 29,
-            Status::OverShape => 30,
-            Status::NoSuchPlace => 31,
-            Status::InUse => 32,
-            Status::WrongKind => 33,
-            Status::OutOfMemory => 34,
-        }
+        self as u32
     }
 
     /// Returns the status of a number, if one has it.
     pub fn of_number(asked: u32) -> Option<Status>
         ensures found { IfSome result (λ status. number status ≡ asked) }
-        ensures none { IfNone result (35 ≤ asked) }
+        ensures none { IfNone result (length STATUSES ≤ asked) }
     {
-        match asked {
-            0 => Some(Status::Done),
-            1 => Some(Status::NotYet),
-            2 => Some(Status::BeforeStart),
-            3 => Some(Status::Never),
-            4 => Some(Status::Gone),
-            5 => Some(Status::NoMessage),
-            6 => Some(Status::NoRoom),
-            7 => Some(Status::Moved),
-            8 => Some(Status::Busy),
-            9 => Some(Status::CycleFull),
-            10 => Some(Status::NoCycleLeft),
-            11 => Some(Status::BadRoom),
-            12 => Some(Status::BadMoment),
-            13 => Some(Status::Writing),
-            14 => Some(Status::NotWriting),
-            15 => Some(Status::PastRoom),
-            16 => Some(Status::EmptyMessage),
-            17 => Some(Status::NotSeen),
-            18 => Some(Status::NoSuchName),
-            19 => Some(Status::BadDirection),
-            20 => Some(Status::BadSettings),
-            21 => Some(Status::BadContents),
-            22 => Some(Status::BehindOpen),
-            23 => Some(Status::Cut),
-            24 => Some(Status::BadHeader),
-            25 => Some(Status::Unfinished),
-            26 => Some(Status::WrongStore),
-            27 => Some(Status::WrongTable),
-            28 => Some(Status::BadPadding),
-            29 => Some(Status::AfterEnd),
-            30 => Some(Status::OverShape),
-            31 => Some(Status::NoSuchPlace),
-            32 => Some(Status::InUse),
-            33 => Some(Status::WrongKind),
-            34 => Some(Status::OutOfMemory),
-            _ => None,
-        }
+        let (status, _) = STATUSES.get(asked as usize)?;
+        Some(*status)
     }
 
     /// Returns the text of this status, in English.
     pub fn text(self) -> &'static str {
-        match self {
-            Status::Done => "it is done",
-            Status::NotYet => "there is no such message yet",
-            Status::BeforeStart => "there is no earlier message",
-            Status::Never => "no message will ever stand there: its cycle is below the current one",
-            Status::Gone => "reads pass over the cycle of this index, which was dropped",
-            Status::NoMessage =>
-                "no message stands at this index, or its cycle was dropped; the endpoint stays where it is",
-            Status::NoRoom => "the room is too small; the answer has the length that is needed",
-            Status::Moved =>
-                "the name stands elsewhere and was not moved; the answer has its position",
-            Status::Busy => "another endpoint is writing",
-            Status::CycleFull =>
-                "a message of this length does not fit behind those of the current cycle",
-            Status::NoCycleLeft =>
-                "the moment lies in a later cycle, and the queue has as many cycles as it may have",
-            Status::BadRoom => "no message has this length, which is 0 or above 2^30 - 1 bytes",
-            Status::BadMoment => "the moment lies in no cycle",
-            Status::Writing =>
-                "the endpoint has begun a message, which is to be completed or given up first",
-            Status::NotWriting => "the endpoint has begun no message",
-            Status::PastRoom => "the bytes would pass the room with which the message was begun",
-            Status::EmptyMessage => "nothing was put: a message has at least one byte",
-            Status::NotSeen =>
-                "the position or the cycle lies behind the end that the endpoint has seen",
-            Status::NoSuchName => "the queue declares no tailer of this name",
-            Status::BadDirection => "no direction has this number",
-            Status::BadSettings => "a setting is outside its limits",
-            Status::BadContents =>
-                "no queue of these settings holds these cycles, positions and floor",
-            Status::BehindOpen => "the cycle before has not ended, and nothing stands behind that",
-            Status::Cut => "the image ends before a record does, or where a message must follow",
-            Status::BadHeader =>
-                "four bytes of the image that are not a header stand where one must be",
-            Status::Unfinished => "a record of the image is not complete",
-            Status::WrongStore =>
-                "the store record of the image is not that of the cycle and the settings",
-            Status::WrongTable =>
-                "a table of the image is missing, or has a wrong size or a wrong entry",
-            Status::BadPadding =>
-                "a byte of the image behind a message, up to the next four bytes, is not 0",
-            Status::AfterEnd => "bytes follow the end of data of the image",
-            Status::OverShape =>
-                "a message of the image does not fit the settings behind those before it",
-            Status::NoSuchPlace => "there are not as many cycles or names",
-            Status::InUse => "other endpoints of the queue live",
-            Status::WrongKind => "the handle holds something else than this call is for",
-            Status::OutOfMemory => "there was no memory",
-        }
+        STATUSES[self as usize].1
     }
 }

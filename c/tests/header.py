@@ -1,0 +1,46 @@
+"""The statuses of the header: each has the name and the number that it has in the library, a comment, and a text."""
+import ctypes
+import re
+from pathlib import Path
+
+from library import call
+
+TOP = Path(__file__).resolve().parents[2]
+NO_STATUS = "no status has this number"
+
+
+def in_header():
+    """The statuses of the header, each as a name and a number. A line without a comment is an error."""
+    header = (TOP / "c/linnetshelf.h").read_text()
+    (lines,) = re.findall(r"typedef enum \{\n(.*?)\} linnetshelf_status;", header, re.S)
+    found = [re.fullmatch(r"    LINNETSHELF_(\w+) = (\d+), /\* .+ \*/", line) for line in lines.splitlines()]
+    return [(it[1], int(it[2])) for it in found]
+
+
+def in_source():
+    """The statuses of the library's source in the order of their numbers, each as a name and a text."""
+    source = (TOP / "crates/linnetshelf/src/status.rt").read_text()
+    (rows,) = re.findall(r"static STATUSES: .*? = \[\n(.*?)\n\];", source, re.S)
+    found = re.findall(r'\(\s*Status::(\w+),\s*"([^"]+)",?\s*\)', rows)
+    assert len(found) == rows.count("Status::")
+    return [(re.sub(r"(?<!^)(?=[A-Z])", "_", name).upper(), text) for name, text in found]
+
+
+def in_library():
+    """The texts that the library has, from 0 to the last number of a status."""
+    texts, room = [], ctypes.create_string_buffer(128)
+    while True:
+        length = call("text", len(texts), room, len(room))
+        text = room.raw[:length].decode()
+        if text == NO_STATUS:
+            return texts
+        texts.append(text)
+
+
+def main():
+    source = in_source()
+    assert in_header() == [(name, number) for number, (name, _) in enumerate(source)]
+    assert in_library() == [text for _, text in source]
+
+
+main()
