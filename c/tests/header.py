@@ -1,4 +1,4 @@
-"""The statuses of the header: each has the name and the number that it has in the library, a comment, and a text."""
+"""The header against the library: each status has its name, its number, a comment and a text, and each roll its number."""
 import ctypes
 import re
 from pathlib import Path
@@ -7,6 +7,11 @@ from library import call
 
 TOP = Path(__file__).resolve().parents[2]
 NO_STATUS = "no status has this number"
+
+
+def snake(name):
+    """A name of the source as the header writes it."""
+    return re.sub(r"(?<!^)(?=[A-Z])", "_", name).upper()
 
 
 def in_header():
@@ -23,7 +28,7 @@ def in_source():
     (rows,) = re.findall(r"static STATUSES: .*? = \[\n(.*?)\n\];", source, re.S)
     found = re.findall(r'\(\s*Status::(\w+),\s*"([^"]+)",?\s*\)', rows)
     assert len(found) == rows.count("Status::")
-    return [(re.sub(r"(?<!^)(?=[A-Z])", "_", name).upper(), text) for name, text in found]
+    return [(snake(name), text) for name, text in found]
 
 
 def in_library():
@@ -37,10 +42,25 @@ def in_library():
         texts.append(text)
 
 
+def rolls_in_header():
+    """The rolls of the header, each as a name and a number."""
+    header = (TOP / "c/linnetshelf.h").read_text()
+    (rolls,) = re.findall(r"How long a cycle is\. \*/\nenum \{ (.*?) \};", header)
+    return [(name, int(number)) for name, number in re.findall(r"LINNETSHELF_(\w+) = (\d+)", rolls)]
+
+
+def rolls_in_source():
+    """The rolls of the library's source in the order of their numbers."""
+    source = (TOP / "crates/cq_cycle/src/roll.rt").read_text()
+    (rolls,) = re.findall(r"pub const ROLLS: .*? = \[(.*?)\];", source, re.S)
+    return [snake(name) for name in re.findall(r"Roll::(\w+)", rolls)]
+
+
 def main():
     source = in_source()
     assert in_header() == [(name, number) for number, (name, _) in enumerate(source)]
     assert in_library() == [text for _, text in source]
+    assert rolls_in_header() == [(name, number) for number, name in enumerate(rolls_in_source())]
 
 
 main()

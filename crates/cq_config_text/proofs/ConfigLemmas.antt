@@ -1,11 +1,14 @@
 -- A text is that of one list of settings and positions and of one floor at most, and then has no faulty line.
-use Rattle.std.proofs.Common.{◌≡◌, ◌==◌, ◌⊎◌, Bool, cond, ℕ, ◌+◌, ◌<◌, ◌^◌, List, [], ◌∷◌, ◌++◌, drop, get_or, length, refl, ap, sym, ◌∙◌, subst, arith, true, false, ◌&&◌, None, Some, Result, Ok, Err, IfOk, IfErr, inl, inr, codes, option_map}
+use Rattle.std.proofs.Common.{◌≡◌, ◌==◌, ◌⊎◌, Bool, cond, ℕ, ◌+◌, ◌<◌, ◌^◌, List, [], ◌∷◌, ◌++◌, drop, get_or, length, refl, ap, sym, ◌∙◌, subst, arith, true, false, ◌&&◌, Option, None, Some, Result, Ok, Err, IfOk, IfErr, inl, inr, codes, option_map}
 use Rattle.std.proofs.lemmas.Fmt.{decimal_injective}
 use Rattle.std.proofs.lemmas.List.Elements.{All-head}
 use Rattle.std.specs.Fmt.{decimal}
+use Rattle.std.specs.List.{find}
+use Rattle.std.specs.Str.{bytes_eq}
 use Rattle.cq_cycle.specs.RollWord.{roll_word}
 use Rattle.cq_cycle.specs.declared.roll.Roll.{Roll}
-use Rattle.cq_cycle.specs.declared.roll.Roll.TheVariants.{Daily, Hourly, Minutely}
+use Rattle.cq_cycle.specs.declared.roll.Roll.TheVariants.{Daily}
+use Rattle.cq_cycle.specs.declared.roll.TheConstants.{ROLLS}
 use Rattle.cq_layout.specs.Layout.{layout_in}
 use Rattle.cq_layout.specs.Shape.{measures}
 use Rattle.cq_layout.specs.declared.store_record.StoreVersion.{StoreVersion}
@@ -136,16 +139,16 @@ config_at_no_fault settings positions floor writable =
     ∙ rest_at_no_fault settings.names positions writable.declared floor writable.low (floor == 0) refl
 
 -- what lines of the same words say
+abbrev roll_of : List ℕ → Option Roll
+roll_of word = find (λ roll. bytes_eq word (roll_word roll)) ROLLS
+
+roll_of_word : (roll : Roll) → roll_of (roll_word roll) ≡ Some roll
+roll_of_word Daily = refl
+roll_of_word _ = refl
+
 roll_word_injective : (one other : Roll) → roll_word one ≡ roll_word other → one ≡ other
-roll_word_injective Daily Daily same = refl
-roll_word_injective Daily Hourly same = absurd (omega (arith, ap length same))
-roll_word_injective Daily Minutely same = absurd (omega (arith, ap length same))
-roll_word_injective Hourly Daily same = absurd (omega (arith, ap length same))
-roll_word_injective Hourly Hourly same = refl
-roll_word_injective Hourly Minutely same = absurd (omega (arith, ap length same))
-roll_word_injective Minutely Daily same = absurd (omega (arith, ap length same))
-roll_word_injective Minutely Hourly same = absurd (omega (arith, ap length same))
-roll_word_injective Minutely Minutely same = refl
+roll_word_injective one other same =
+    let first = roll_of_word one in let second = roll_of_word other in let both = ap roll_of same in cc
 
 version_word_injective : (one other : FolderVersion) → version_word one ≡ version_word other → one ≡ other
 version_word_injective First First same = refl

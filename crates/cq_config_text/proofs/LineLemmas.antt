@@ -8,12 +8,13 @@ use Rattle.std.proofs.lemmas.Slice.Eq.{bytes_eq-Decides}
 use Rattle.std.proofs.lemmas.Str.Parse.{digit_at}
 use Rattle.std.specs.Cmp.Lexicographic.{pointwise}
 use Rattle.std.specs.Fmt.{decimal}
-use Rattle.std.specs.List.{join_with_byte, list_all, slice_split}
+use Rattle.std.specs.List.{join_with_byte, list_all, list_any, slice_split}
 use Rattle.std.specs.Str.{bytes_eq}
 use Rattle.std.specs.Str.Parse.{digits_value}
 use Rattle.cq_cycle.specs.RollWord.{roll_word}
 use Rattle.cq_cycle.specs.declared.roll.Roll.{Roll}
-use Rattle.cq_cycle.specs.declared.roll.Roll.TheVariants.{Daily, Hourly, Minutely}
+use Rattle.cq_cycle.specs.declared.roll.Roll.TheVariants.{Daily}
+use Rattle.cq_cycle.specs.declared.roll.TheConstants.{ROLLS}
 use Rattle.cq_model.specs.Settings.{IsNameByte}
 use Rattle.cq_config_text.specs.ConfigText.{Form, IsNameWord, has_form, is_name, is_name_byte, is_number, is_positive, is_roll, is_version}
 use Rattle.cq_config_text.specs.Version.{version_word}
@@ -51,9 +52,8 @@ name_printed word is k d below = high (get_or word k d) (is.bytes k d below) whe
   high byte is = grind arith
 
 pub roll_printed : (roll : Roll) → IsPrinted (roll_word roll)
-roll_printed Daily = text_printed (codes "daily") refl
-roll_printed Hourly = text_printed (codes "hourly") refl
-roll_printed Minutely = text_printed (codes "minutely") refl
+roll_printed Daily = text_printed (roll_word Daily) refl
+roll_printed roll = text_printed (roll_word roll) refl
 
 pub version_printed : (version : FolderVersion) → IsPrinted (version_word version)
 version_printed First = text_printed (codes "1") refl
@@ -94,21 +94,20 @@ positive_passes word n some fits spelled =
 
 pub roll_tested : (word : List ℕ) → is_roll word ≡ true → (roll : Roll) × (word ≡ roll_word roll)
 roll_tested word passes =
-    elim (or_true (bytes_eq word (codes "daily")) (bytes_eq word (codes "hourly") || (bytes_eq word (codes "minutely") || false)) passes) [
-      | inl daily ↦ (Daily, (bytes_eq-Decides word (codes "daily")).0 daily)
-      | inr other ↦ elim (or_true (bytes_eq word (codes "hourly")) (bytes_eq word (codes "minutely") || false) other) [
-        | inl hourly ↦ (Hourly, (bytes_eq-Decides word (codes "hourly")).0 hourly)
-        | inr last ↦ elim (or_true (bytes_eq word (codes "minutely")) false last) [
-          | inl minutely ↦ (Minutely, (bytes_eq-Decides word (codes "minutely")).0 minutely)
-          | inr none ↦ absurd (cc)
+    one_of ROLLS passes
+  where
+    one_of : (rolls : List Roll) → list_any (λ roll. bytes_eq word (roll_word roll)) rolls ≡ true
+        → (roll : Roll) × (word ≡ roll_word roll)
+    one_of [] passes = absurd (cc)
+    one_of (roll ∷ rolls) passes =
+        elim (or_true (bytes_eq word (roll_word roll)) (list_any (λ roll. bytes_eq word (roll_word roll)) rolls) passes) [
+          | inl is ↦ (roll, (bytes_eq-Decides word (roll_word roll)).0 is)
+          | inr other ↦ one_of rolls other
         ]
-      ]
-    ]
 
 roll_word_passes : (roll : Roll) → is_roll (roll_word roll) ≡ true
 roll_word_passes Daily = refl
-roll_word_passes Hourly = refl
-roll_word_passes Minutely = refl
+roll_word_passes _ = refl
 
 pub roll_passes : (word : List ℕ) (roll : Roll) → word ≡ roll_word roll → is_roll word ≡ true
 roll_passes word roll spelled = ap is_roll spelled ∙ roll_word_passes roll

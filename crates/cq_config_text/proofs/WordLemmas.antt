@@ -1,5 +1,5 @@
 -- Words of a line: numbers, rolls and names.
-use Rattle.std.proofs.Common.{◌≡◌, ℕ, zero, suc, ◌<◌, ◌≤◌, ◌^◌, List, All, length, get_or, refl, ap, sym, ◌∙◌, subst, arith, true, nat_lt, Some, Ok, Err, Result, IfSome, codes}
+use Rattle.std.proofs.Common.{◌≡◌, ℕ, zero, suc, ◌<◌, ◌≤◌, ◌^◌, List, All, length, get_or, refl, ap, sym, ◌∙◌, subst, arith, true, nat_lt, Some, Ok, Err, Result, IfSome}
 use Rattle.std.proofs.lemmas.Fmt.{decimal_is_IsNumeral, decimal_digit, decimal-digits_value, first_decimal, IsAscii-decimal, parse-decimal}
 use Rattle.std.proofs.lemmas.Str.{IsUtf8-from_ascii}
 use Rattle.std.proofs.lemmas.Str.Ascii.{IsAscii-from_all}
@@ -13,7 +13,7 @@ use Rattle.std.specs.Str.{IsUtf8, all_ascii_digits}
 use Rattle.std.specs.Str.Parse.{ParsesUnsigned}
 use Rattle.cq_cycle.specs.RollWord.{roll_word}
 use Rattle.cq_cycle.specs.declared.roll.Roll.{Roll}
-use Rattle.cq_cycle.specs.declared.roll.Roll.TheVariants.{Daily, Hourly, Minutely}
+use Rattle.cq_cycle.specs.declared.roll.Roll.TheVariants.{Daily}
 use Rattle.cq_model.specs.Settings.{IsNameByte}
 use Rattle.cq_config_text.specs.ConfigText.{IsNameWord}
 
@@ -76,6 +76,5 @@ ascii_text word passes =
 pub roll_is_text : (word : List ℕ) (roll : Roll) → word ≡ roll_word roll → IsUtf8 word
 roll_is_text word roll spelled = subst IsUtf8 (sym spelled) (word_is_text roll) where
   word_is_text : (roll : Roll) → IsUtf8 (roll_word roll)
-  word_is_text Daily = ascii_text (codes "daily") refl
-  word_is_text Hourly = ascii_text (codes "hourly") refl
-  word_is_text Minutely = ascii_text (codes "minutely") refl
+  word_is_text Daily = ascii_text (roll_word Daily) refl
+  word_is_text roll = ascii_text (roll_word roll) refl

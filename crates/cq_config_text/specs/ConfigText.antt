@@ -6,7 +6,7 @@ use Rattle.std.specs.Fmt.{decimal}
 use Rattle.std.specs.List.{flat_map, join_with_byte, list_all, list_any, slice_split, zip}
 use Rattle.std.specs.Str.{bytes_eq}
 use Rattle.std.specs.Str.Parse.{digits_value}
-use Rattle.cq_cycle.specs.declared.roll.Roll.TheVariants.{Daily, Hourly, Minutely}
+use Rattle.cq_cycle.specs.declared.roll.TheConstants.{ROLLS}
 use Rattle.cq_cycle.specs.RollWord.{roll_word}
 use Rattle.cq_model.specs.Settings.{IsNameByte, Settings}
 use Rattle.cq_config_text.specs.declared.version.FolderVersion.TheVariants.{First, Second}
@@ -95,7 +95,7 @@ is_version word = list_any (λ version. bytes_eq word (version_word version)) (F
 
 -- the word names a roll
 abbrev pub is_roll : List ℕ → Bool
-is_roll word = list_any (λ roll. bytes_eq word (roll_word roll)) (Daily ∷ Hourly ∷ Minutely ∷ [])
+is_roll word = list_any (λ roll. bytes_eq word (roll_word roll)) ROLLS
 
 -- a byte of a name
 abbrev pub is_name_byte : ℕ → Bool

@@ -3,7 +3,7 @@
 //!
 //! | item | what it is for |
 //! |---|---|
-//! | `Roll`, `roll_named` | how long a cycle is, and the word for it |
+//! | `Roll`, `ROLLS`, `roll_named` | how long a cycle is, and the word for it |
 //! | `cycle_of`, `BadMoment` | the cycle in which a moment lies |
 //! | `has_cycle`, `LAST_CYCLE`, `LAST_MOMENT` | which cycles a queue may have |
 //! | `Index` | the place of a message: its cycle and its sequence number |
@@ -22,5 +22,5 @@ mod time;
 
 pub use index::Index;
 pub use name::{NameFault, cycle_named, name_of};
-pub use roll::{BadMoment, LAST_CYCLE, LAST_MOMENT, Roll, cycle_of, has_cycle};
+pub use roll::{BadMoment, LAST_CYCLE, LAST_MOMENT, ROLLS, Roll, cycle_of, has_cycle};
 pub use roll_word::roll_named;

@@ -4,7 +4,7 @@ ghost use Rattle.std.specs.Prelude.{◌≡◌, IfSome, Some};
 ghost use Rattle.cq_cycle.specs.declared.roll.Roll.{Roll};
 ghost use Rattle.cq_cycle.specs.RollWord.{roll_word};
 
-use crate::Roll;
+use crate::{ROLLS, Roll};
 use std::fmt;
 
 /// Returns the roll that a word names: `daily`, `hourly` or `minutely` (ours; Chronicle Queue has no rule for it).
@@ -13,11 +13,17 @@ pub fn roll_named(word: &str) -> Option<Roll>
     ensures found { IfSome result (λ roll. word.now ≡ roll_word roll) }
     ensures only { (roll : Roll) → word.now ≡ roll_word roll → result ≡ Some roll }
 {
-    match word {
-        "daily" => Some(Roll::Daily),
-        "hourly" => Some(Roll::Hourly),
-        "minutely" => Some(Roll::Minutely),
-        _ => None,
+    ROLLS.into_iter().find(|roll| word_of(*roll) == word)
+}
+
+/// Returns the word that names a roll.
+fn word_of(roll: Roll) -> &'static str
+    ensures { result.now ≡ roll_word roll }
+{
+    match roll {
+        Roll::Daily => "daily",
+        Roll::Hourly => "hourly",
+        Roll::Minutely => "minutely",
     }
 }
 
@@ -28,10 +34,6 @@ impl fmt::Display for Roll {
     ghost output = { λ roll. Some (roll_word roll) };
 
     fn fmt<W: fmt::Write>(&self, f: &mut fmt::Formatter<W>) -> fmt::Result {
-        f.write_str(match self {
-            Roll::Daily => "daily",
-            Roll::Hourly => "hourly",
-            Roll::Minutely => "minutely",
-        })
+        f.write_str(word_of(*self))
     }
 }

@@ -3,11 +3,11 @@ ghost use Rattle.std.specs.Prelude.{◌≡◌, ◌++◌, ◌∷◌, [], IfErr, I
 ghost use Rattle.std.specs.Str.{IsUtf8};
 ghost use Rattle.cq_model.specs.Settings.{texts};
 ghost use Rattle.cq_text.specs.Lines.{input_lines};
-ghost use Rattle.linnetshelf.specs.Asked.{HasNoNames, HasNoRoll, IsAsked, IsNoName, IsNotMade, roll_number};
+ghost use Rattle.linnetshelf.specs.Asked.{HasNoNames, HasNoRoll, HasNumber, IsAsked, IsNoName, IsNotMade};
 ghost use Rattle.linnetshelf.specs.declared.status.Status.TheVariants.{OutOfMemory};
 
 use crate::status::Status;
-use cq_cycle::Roll;
+use cq_cycle::{ROLLS, Roll};
 use cq_layout::Shape;
 use cq_model::Config;
 use cq_text::InputLines;
@@ -55,15 +55,10 @@ pub(crate) fn config_of(alloc: Global, settings: &Settings, names: &[u8]) -> Res
 
 /// Returns the roll that has this number for C.
 fn roll_of(number: u32) -> Option<Roll>
-    ensures found { IfSome result (λ roll. roll_number roll ≡ number) }
+    ensures found { IfSome result (λ roll. HasNumber roll number) }
     ensures none { IfNone result (HasNoRoll number) }
 {
-    match number {
-        0 => Some(Roll::Daily),
-        1 => Some(Roll::Hourly),
-        2 => Some(Roll::Minutely),
-        _ => None,
-    }
+    ROLLS.get(number as usize).copied()
 }
 
 /// Makes names of the lines of a text.
