@@ -1,10 +1,12 @@
 #!/usr/bin/env python3
 """Makes the wheel of the Python package, with the shared object in it: python/make_wheel.py LIBRARY FOLDER.
 
-It needs no network and no other package. `pip install FOLDER/linnetshelf-*.whl` installs it.
+It needs no network and no other package. `pip install FOLDER/linnetshelf-*.whl` installs it. `pip install` of this folder
+makes it too, with the library in LINNETSHELF_LIBRARY or else out/c, which `c/run build` builds.
 """
 import base64
 import hashlib
+import os
 import pathlib
 import re
 import sys
@@ -31,10 +33,16 @@ def contents(library):
     return info, files
 
 
-def main():
-    if len(sys.argv) != 3:
-        sys.exit(__doc__.strip())
-    library, folder = sys.argv[1:]
+def build_wheel(wheel_directory, config_settings=None, metadata_directory=None):
+    """Makes the wheel for pip, and returns its name."""
+    library = pathlib.Path(os.environ.get("LINNETSHELF_LIBRARY") or HERE.parent / "out" / "c" / "liblinnetshelf.so")
+    if not library.is_file():
+        raise RuntimeError(f"{library} is not there: build the library first, by c/run build, or set LINNETSHELF_LIBRARY")
+    return make(library, wheel_directory).name
+
+
+def make(library, folder):
+    """Makes the wheel in a folder, and returns its path."""
     info, files = contents(library)
     lines = []
     for name, data in files.items():
@@ -46,7 +54,13 @@ def main():
         for name, data in files.items():
             # The same files give the same wheel.
             wheel.writestr(zipfile.ZipInfo(name, (1980, 1, 1, 0, 0, 0)), data, zipfile.ZIP_DEFLATED)
-    print(made)
+    return made
+
+
+def main():
+    if len(sys.argv) != 3:
+        sys.exit(__doc__.strip())
+    print(make(*sys.argv[1:]))
 
 
 if __name__ == "__main__":

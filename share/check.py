@@ -10,6 +10,7 @@ The last line is `N wrong`. The status is 0 if N is 0, and otherwise 1. It needs
 import os
 import pathlib
 import re
+import shlex
 import shutil
 import subprocess
 import sys
@@ -64,15 +65,16 @@ def check_library(check, root, where, folder):
     if not shutil.which("pkg-config"):
         print(f"{where}: not built by pkg-config, which is not there")
         return
-    paths = {**os.environ, "PKG_CONFIG_PATH": f"{root}/lib/pkgconfig", "LD_LIBRARY_PATH": f"{root}/lib"}
+    paths = {**os.environ, "PKG_CONFIG_PATH": f"{root}/lib/pkgconfig"}
     status, flags, said = run("pkg-config", "--cflags", "--libs", "linnetshelf", env=paths)
     check.that(status == 0, f"{where}: pkg-config: {said}")
     said = run("pkg-config", "--modversion", "linnetshelf", env=paths)[1]
     check.that(said.strip() == version(), f"{where}: the version of pkg-config is {said}")
     program = folder / "example"
-    status, _, said = run(os.environ.get("CC", "cc"), TOP / "c" / "example.c", "-o", program, *flags.split())
+    words = [*shlex.split(flags), f"-Wl,-rpath,{root}/lib"]
+    status, _, said = run(os.environ.get("CC", "cc"), TOP / "c" / "example.c", "-o", program, *words)
     check.that(status == 0, f"{where}: c/example.c is not built: {said}")
-    check.that(run(program, env=paths)[:2] == (0, "hello\n"), f"{where}: c/example.c does not print hello")
+    check.that(run(program)[:2] == (0, "hello\n"), f"{where}: c/example.c does not print hello")
 
 
 def check_wheel(check, root, folder):
@@ -82,7 +84,7 @@ def check_wheel(check, root, folder):
     if run(sys.executable, "-m", "pip", "--version")[0]:
         print("the wheel is not installed: there is no pip")
         return
-    words = ["--no-index", "--no-deps", "--disable-pip-version-check", "--root-user-action=ignore", "--target"]
+    words = ["--no-index", "--no-deps", "--disable-pip-version-check", "--target"]
     status, _, said = run(sys.executable, "-m", "pip", "install", *words, folder / "packages", *wheels)
     check.that(status == 0, f"the wheel: {said}")
     code = "import linnetshelf as l; q = l.create(moment=0); q.append(b'hello', 0); print(q.next().data, l.__version__)"
@@ -122,7 +124,7 @@ def main():
     check = Check()
     with tempfile.TemporaryDirectory() as name:
         folder = pathlib.Path(name)
-        root = folder / "prefix"
+        root = folder / "a prefix"
         status, _, said = run(TOP / "install", root)
         check.that(status == 0, f"install: {said}")
         if status == 0:

@@ -1,25 +1,33 @@
 # Completion of cq for bash.
+
+# Adds each line of the input that begins with the word to complete. Nothing in a line is expanded.
+_cq_offer() {
+    local line
+    while IFS= read -r line; do
+        [[ $line != "$1"* ]] || COMPREPLY+=("$line")
+    done
+}
+
 _cq() {
-    local word=${COMP_WORDS[COMP_CWORD]} command=${COMP_WORDS[1]} folder=${COMP_WORDS[2]} words=
+    local word=${COMP_WORDS[COMP_CWORD]} command=${COMP_WORDS[1]} folder=${COMP_WORDS[2]}
+    folder=${folder/#\~\//$HOME/}
     COMPREPLY=()
     if [ "$COMP_CWORD" = 1 ]; then
-        words='echo cycle race init write read take drop check dump salvage migrate help --help'
+        _cq_offer "$word" < <(printf '%s\n' echo cycle race init write read take drop check dump salvage migrate help --help)
     elif [ "${word#-}" != "$word" ]; then
-        words=--help
-        [ "$command" != read ] || words='--help --back --from'
+        _cq_offer "$word" <<<--help
+        [ "$command" != read ] || _cq_offer "$word" < <(printf '%s\n' --back --from)
     else
         case $command:$COMP_CWORD in
-        cycle:2 | init:3) words='daily hourly minutely' ;;
+        cycle:2 | init:3) _cq_offer "$word" < <(printf '%s\n' daily hourly minutely) ;;
         init:2 | write:2 | read:2 | take:2 | drop:2 | check:2 | dump:2 | salvage:2 | migrate:2)
             compopt -o filenames
             mapfile -t COMPREPLY < <(compgen -d -- "$word")
-            return
             ;;
-        cycle:4 | write:3) words=$(date +%s%3N) ;;
-        take:3) words=$(sed -n 's/^name \([^ ]*\) .*/\1/p' "$folder/queue.cqc" 2>/dev/null) ;;
-        dump:3 | salvage:3) words=$(cd "$folder" 2>/dev/null && printf '%s\n' *.cqi) ;;
+        cycle:4 | write:3) _cq_offer "$word" < <(date +%s%3N) ;;
+        take:3) _cq_offer "$word" < <(sed -n 's/^name \([A-Za-z0-9_.-]*\) [0-9]*$/\1/p' "$folder/queue.cqc" 2>/dev/null) ;;
+        dump:3 | salvage:3) _cq_offer "$word" < <(cd "$folder" 2>/dev/null && printf '%s\n' *.cqi | grep -x '[0-9-]*\.cqi') ;;
         esac
     fi
-    mapfile -t COMPREPLY < <(compgen -W "$words" -- "$word")
 }
 complete -F _cq cq

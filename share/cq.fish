@@ -32,5 +32,5 @@ for command in init write read take drop check dump salvage migrate
 end
 complete -c cq -n '__cq_arguments cycle 0; or __cq_arguments init 1' -a 'daily hourly minutely'
 complete -c cq -n '__cq_arguments cycle 2; or __cq_arguments write 1' -a '(date +%s%3N)'
-complete -c cq -n '__cq_arguments take 1' -a "(sed -n 's/^name \([^ ]*\) .*/\1/p' (__cq_folder)/queue.cqc 2>/dev/null)"
+complete -c cq -n '__cq_arguments take 1' -a "(sed -n 's/^name \([A-Za-z0-9_.-]*\) [0-9]*\$/\1/p' (__cq_folder)/queue.cqc 2>/dev/null)"
 complete -c cq -n '__cq_arguments dump 1; or __cq_arguments salvage 1' -a '(path basename (__cq_folder)/*.cqi 2>/dev/null)'

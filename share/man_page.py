@@ -33,7 +33,7 @@ The settings of the queue, the position of each name, and the floor.
 The image of a cycle, named by its time.
 .TP
 .I DIR/queue.save
-The record of a save that was cut short. The next command on the folder finishes it.
+The record of a save that was cut short. The next command that changes the folder finishes it.
 .SH EXIT STATUS
 .TP
 .B 0

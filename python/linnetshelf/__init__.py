@@ -27,6 +27,7 @@ from .errors import (
     NotSeen,
     OutOfMemory,
     Status,
+    Unsaved,
 )
 
 __version__ = "0.1.0"
@@ -55,6 +56,7 @@ __all__ = [
     "Saved",
     "Settings",
     "Status",
+    "Unsaved",
     "create",
     "init",
     "now",

@@ -11,8 +11,8 @@ from dataclasses import dataclass
 from enum import IntEnum
 from typing import TYPE_CHECKING, NamedTuple, Optional, TypeVar, Union
 
-from ._library import Answer, Handle, RawSettings, check, error_of, library
-from .errors import BufferTooSmall, Moved, NoMessage, Status
+from ._library import NO_ENDPOINT, Answer, Handle, RawSettings, check, error_of, library, number
+from .errors import BufferTooSmall, Misused, Moved, NoMessage, Status
 
 if TYPE_CHECKING:
     from ._saved import Saved
@@ -46,18 +46,17 @@ class Settings:
     epoch: when cycle 0 begins, in milliseconds of Unix time.
     """
 
-    cells: int = 65_536
-    index_count: int = 64
+    cells: int = 1_048_576
+    index_count: int = 256
     index_spacing: int = 16
-    cycles: int = 64
+    cycles: int = 4
     roll: Roll = Roll.DAILY
     epoch: int = 0
 
     def raw(self) -> RawSettings:
-        numbers = (self.cells, self.index_count, self.index_spacing, self.cycles, self.roll)
-        if not all(0 <= number < 2**32 for number in numbers) or not 0 <= self.epoch < 2**64:
-            raise error_of(Status.BAD_SETTINGS)
-        return RawSettings(self.epoch, *numbers)
+        words = (self.cells, self.index_count, self.index_spacing, self.cycles, self.roll)
+        epoch = number(self.epoch, 64, Status.BAD_SETTINGS)
+        return RawSettings(epoch, *(number(word, 32, Status.BAD_SETTINGS) for word in words))
 
 
 class Index(int):
@@ -128,23 +127,37 @@ def address_of(data: Buffer) -> object:
     return (ctypes.c_char * view.nbytes).from_buffer(view)
 
 
-def lines_of(names: Iterable[str]) -> bytes:
-    return "\n".join(names).encode()
+def names_of(names: Iterable[str]) -> tuple[tuple[str, ...], bytes]:
+    """Returns names, and the text of lines that the library takes."""
+    found = tuple(names)
+    if isinstance(names, str) or not all(name and "\n" not in name for name in found):
+        raise error_of(Status.BAD_SETTINGS, "names are texts of 1 to 32 letters, digits, '_', '-' and '.'")
+    return found, "\n".join(found).encode()
+
+
+def moment_of(moment: int | None) -> int:
+    """Returns a moment, or the clock's time."""
+    return now() if moment is None else number(moment, 64, Status.BAD_MOMENT)
 
 
 class Owner:
     """Owns a handle. It is ended once, at the latest with this object, and never by another process after fork."""
 
+    # What the handle holds once it is closed.
+    _closed = NO_ENDPOINT
+
     def __init__(self, handle: Handle) -> None:
         self._handle, self._reference, self._process = handle, ctypes.byref(handle), os.getpid()
-        self._end = weakref.finalize(self, self._destroy, handle, self._process)
+        self._end = weakref.finalize(self, self._destroy, handle, self._process, self._closed)
 
     @staticmethod
-    def _destroy(handle: Handle, process: int) -> None:
+    def _destroy(handle: Handle, process: int, closed: Handle) -> None:
         if process == os.getpid():
             # A message that is begun is given up. Otherwise nobody else could write.
             library.roll_back(ctypes.byref(handle))
-            library.destroy(handle)
+            ended = Handle(handle.at)
+            handle.at = closed.at
+            library.destroy(ended)
 
     def _live(self):
         """Returns the handle for a call."""
@@ -215,10 +228,7 @@ class Endpoint(Owner):
 
     def try_append(self, data: Buffer, moment: int | None = None) -> Index | None:
         """Appends a message; returns None if another endpoint is writing."""
-        when = now() if moment is None else moment
-        if not 0 <= when < 2**64:
-            raise error_of(Status.BAD_MOMENT)
-        answer = library.append(self._live(), when, address_of(data), memoryview(data).nbytes)
+        answer = library.append(self._live(), moment_of(moment), address_of(data), memoryview(data).nbytes)
         if answer.status == Status.BUSY:
             return None
         check(answer.status)
@@ -241,11 +251,10 @@ class Endpoint(Owner):
 
         At the end of the block it is appended. If the block raises, it is given up.
         """
-        if not 0 <= most < 2**32:
-            raise error_of(Status.BAD_ROOM)
+        most = number(most, 32, Status.BAD_ROOM)
 
         def attempt() -> bool | None:
-            status = library.begin(self._live(), now() if moment is None else moment, most)
+            status = library.begin(self._live(), moment_of(moment), most)
             if status == Status.BUSY:
                 return None
             check(status)
@@ -266,7 +275,7 @@ class Endpoint(Owner):
 
     def advance(self, moment: int) -> int:
         """Begins the cycle of `moment` if it is later than the current one, and returns the current cycle."""
-        answer = library.advance(self._live(), moment)
+        answer = library.advance(self._live(), moment_of(moment))
         check(answer.status)
         return answer.index
 
@@ -274,27 +283,25 @@ class Endpoint(Owner):
 
     def _grow(self, size: int) -> None:
         # It gets a new buffer, so that views of the old one keep their bytes.
-        self._buffer = bytearray(size)
-        self._address = ctypes.addressof((ctypes.c_char * size).from_buffer(self._buffer))
+        buffer = bytearray(size)
+        self._buffer = buffer, ctypes.addressof((ctypes.c_char * size).from_buffer(buffer)), size
 
-    def _read(self, call: Callable[..., Answer], *arguments: object) -> Answer:
-        """Reads into the endpoint's buffer, which grows if a message is longer."""
-        answer = call(self._live(), *arguments, self._address, len(self._buffer))
-        while answer.status == Status.NO_ROOM:
-            self._grow(max(answer.length, 2 * len(self._buffer)))
-            answer = call(self._live(), *arguments, self._address, len(self._buffer))
-        return answer
-
-    def _message(self, answer: Answer) -> Message:
-        return Message(Index(answer.index), bytes(memoryview(self._buffer)[: answer.length]))
+    def _read(self, call: Callable[..., Answer], *arguments: object) -> tuple[Answer, memoryview]:
+        """Reads into the endpoint's buffer, which grows if a message is longer. Returns the answer with the bytes."""
+        while True:
+            buffer, address, size = self._buffer
+            answer = call(self._live(), *arguments, address, size)
+            if answer.status != Status.NO_ROOM:
+                return answer, memoryview(buffer)[: answer.length]
+            self._grow(max(answer.length, 2 * size))
 
     def next(self) -> Message | None:
         """Reads the next message in the direction of reading; returns None if there is none."""
-        answer = self._read(library.next)
+        answer, data = self._read(library.next)
         if answer.status in (Status.NOT_YET, Status.BEFORE_START):
             return None
         check(answer.status)
-        return self._message(answer)
+        return Message(Index(answer.index), bytes(data))
 
     def __iter__(self) -> Iterator[Message]:
         """Reads message after message, up to the last one that has come."""
@@ -303,16 +310,16 @@ class Endpoint(Owner):
     def views(self) -> Iterator[tuple[Index, memoryview]]:
         """Reads message after message without copying it. A view is valid until the next message is read."""
         while True:
-            answer = self._read(library.next)
+            answer, data = self._read(library.next)
             if answer.status in (Status.NOT_YET, Status.BEFORE_START):
                 return
             check(answer.status)
-            yield Index(answer.index), memoryview(self._buffer)[: answer.length].toreadonly()
+            yield Index(answer.index), data.toreadonly()
 
     def next_into(self, buffer: bytearray | memoryview) -> tuple[Index, int] | None:
         """Reads the next message into a buffer of the caller; returns its index and length, or None.
 
-        BufferTooSmall: the message is longer. It is read by the next call.
+        BufferTooSmall: the message is longer. The next call finds it again.
         """
         view = memoryview(buffer)
         if view.readonly or not view.c_contiguous:
@@ -330,7 +337,8 @@ class Endpoint(Owner):
 
     def peek(self) -> int | None:
         """Returns the length of the next message, or None if there is none. It is not read."""
-        answer = library.next(self._live(), self._address, 0)
+        _, address, _ = self._buffer
+        answer = library.next(self._live(), address, 0)
         return answer.length if answer.status == Status.NO_ROOM else None
 
     def wait(self, timeout: float | None = None) -> bool:
@@ -346,11 +354,9 @@ class Endpoint(Owner):
 
     def __getitem__(self, index: int) -> bytes:
         """Returns the message with this index. NoMessage: none has it. The endpoint stays where it is."""
-        if not 0 <= index < 2**64:
-            raise error_of(Status.NOT_YET, str(index))
-        answer = self._read(library.read_at, index)
+        answer, data = self._read(library.read_at, number(index, 64, Status.NOT_YET))
         check(answer.status, f"index {index:016x}")
-        return bytes(memoryview(self._buffer)[: answer.length])
+        return bytes(data)
 
     def get(self, index: int) -> bytes | None:
         """Returns the message with this index, or None."""
@@ -380,7 +386,7 @@ class Endpoint(Owner):
 
     def move_to(self, index: int) -> bool:
         """Moves to the message with this index, which is read next. Returns False if none has it, and stays."""
-        status = library.move_to(self._live(), index)
+        status = library.move_to(self._live(), index) if 0 <= index < 1 << 64 else Status.NO_MESSAGE
         if status == Status.NO_MESSAGE:
             return False
         check(status)
@@ -415,13 +421,13 @@ class Endpoint(Owner):
     def take(self, name: str) -> Message | None:
         """Takes the next message of a name; returns None if none has come. Of all that take by a name, one alone gets it."""
         word = name.encode()
-        answer = self._read(library.take, word, len(word))
+        answer, data = self._read(library.take, word, len(word))
         while answer.status == Status.MOVED:
-            answer = self._read(library.take, word, len(word))
+            answer, data = self._read(library.take, word, len(word))
         if answer.status == Status.NOT_YET:
             return None
         check(answer.status, name)
-        return self._message(answer)
+        return Message(Index(answer.index), bytes(data))
 
     def takes(self, name: str, timeout: float | None = 0) -> Iterator[Message]:
         """Takes message after message. It ends if none came for `timeout` seconds."""
@@ -439,8 +445,8 @@ class Endpoint(Owner):
         """Moves a name to a position. Moved: it was not at `expect`, or another endpoint moved it meanwhile."""
         self._see_end()
         word = name.encode()
-        before = self.position(name) if expect is None else expect
-        answer = library.seek(self._live(), word, len(word), before, to)
+        before = self.position(name) if expect is None else number(expect, 64, Status.NOT_SEEN)
+        answer = library.seek(self._live(), word, len(word), before, number(to, 64, Status.NOT_SEEN))
         if answer.status == Status.MOVED:
             error = error_of(answer.status, f"position {answer.index:016x}")
             assert isinstance(error, Moved)
@@ -456,14 +462,22 @@ class Endpoint(Owner):
 
         check(library.stop(self._live()))
         self._end.detach()
-        return Saved(self._handle, self.settings, self.names)
+        stopped = Handle(self._handle.at)
+        self._handle.at = NO_ENDPOINT.at
+        return Saved(stopped, self.settings, self.names)
 
     def stop_all(self) -> Saved:
         """Closes all other endpoints of the queue, and stops it. Messages that they have begun are given up."""
-        for other in list(self._queue.endpoints):
-            if other is not self:
-                other.close()
-        return self.stop()
+        while True:
+            for other in list(self._queue.endpoints):
+                if other is not self:
+                    other.close()
+            try:
+                return self.stop()
+            except Misused:
+                # Another thread has split one off meanwhile, from an endpoint that was not closed yet.
+                if all(other is self or other.closed for other in list(self._queue.endpoints)):
+                    raise
 
 
 class Begun:
@@ -485,7 +499,6 @@ def create(settings: Settings = Settings(), names: Iterable[str] = (), moment: i
     Its first cycle is that of `moment`, in milliseconds of Unix time, or of the clock's time. `names` are the named tailers:
     at most 16, each of 1 to 32 letters, digits, `_`, `-` and `.` of ASCII.
     """
-    declared = tuple(names)
-    lines, out = lines_of(declared), Handle()
-    check(library.create(settings.raw(), lines, len(lines), now() if moment is None else moment, out))
+    (declared, lines), out = names_of(names), Handle()
+    check(library.create(settings.raw(), lines, len(lines), moment_of(moment), out))
     return Endpoint(out, QueueFacts(settings, declared))

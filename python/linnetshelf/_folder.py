@@ -4,6 +4,7 @@ They are those of the program cq (docs/FORMATS.md).
 """
 from __future__ import annotations
 
+import contextlib
 import datetime
 import fcntl
 import os
@@ -21,6 +22,8 @@ CONFIG, RECORD, IMAGE = "queue.cqc", "queue.save", ".cqi"
 ROLLS = {"daily": (86_400_000, "%Y%m%d"), "hourly": (3_600_000, "%Y%m%d-%H"), "minutely": (60_000, "%Y%m%d-%H%M")}
 START = datetime.datetime(1970, 1, 1)
 PART = re.compile(r"(queue\.save|queue\.cqc|[^/\n]*\.cqi)\.(0|[1-9][0-9]{0,9})\.part")
+MOST_RECORD_BYTES = 1_048_576
+LAST_CYCLE = 2_147_483_646
 
 
 @dataclass
@@ -45,20 +48,20 @@ class Config:
 
     @classmethod
     def read(cls, text: bytes) -> Config:
-        """Reads the text. It has to be one that `text` makes."""
-        number = r"(0|[1-9][0-9]{0,19})"
-        form = rf"cq 2\nroll (daily|hourly|minutely)\nepoch {number}\ncells {number}\ncount {number}\nspacing {number}\n"
-        form += rf"cycles {number}\n(?:floor {number}\n)?((?:name \S+ {number}\n)*)"
-        lines = text.decode("ascii", "replace")
-        found = re.fullmatch(form, lines)
+        """Reads the text. It has to be one that `text` makes, with numbers within their limits."""
+        word = r"(\d{1,20})"
+        form = rf"cq 2\nroll (daily|hourly|minutely)\nepoch {word}\ncells {word}\ncount {word}\nspacing {word}\n"
+        form += rf"cycles {word}\n(?:floor {word}\n)?((?:name [!-~]+ \d{{1,20}}\n)*)"
+        found = re.fullmatch(form, text.decode("ascii", "replace"), re.A)
         if not found:
-            hint = ": its version is 1, and `cq migrate` makes version 2 of it" if lines.startswith("cq 1\n") else ""
+            hint = ": its version is 1, and `cq migrate` makes version 2 of it" if text.startswith(b"cq 1\n") else ""
             raise FolderFault(f"{CONFIG} is no configuration of version 2{hint}")
-        roll, *numbers, floor, names, _ = found.groups()
-        positions = {name: int(position) for name, position in re.findall(r"name (\S+) (\d+)\n", names)}
-        if len(positions) != names.count("\n"):
-            raise FolderFault(f"{CONFIG} has a name twice")
-        return cls(roll, *map(int, numbers), int(floor or 0), positions)
+        roll, *numbers, floor, lines = found.groups()
+        positions = {name: int(position) for name, position in re.findall(r"name (\S+) (\d+)\n", lines)}
+        config = cls(roll, *map(int, numbers), int(floor or 0), positions)
+        if config.text() != text or config.floor > LAST_CYCLE or any(it >= 1 << 64 for it in positions.values()):
+            raise FolderFault(f"{CONFIG} has a number that is not within its limits, or a name twice")
+        return config
 
     def image_name(self, cycle: int) -> str:
         """Returns the name of the image of a cycle."""
@@ -82,6 +85,9 @@ class Config:
 class Folder:
     """A folder that is entered: its lock is held, and a save that was cut short is finished, or read through."""
 
+    # The folders that a process has entered alone: device, number, and the process.
+    _entered: set[tuple[int, int, int]] = set()
+
     def __init__(self, path: str | os.PathLike[str], is_alone: bool) -> None:
         self.path, self._is_alone = pathlib.Path(path), is_alone
 
@@ -95,30 +101,56 @@ class Folder:
     def enter(self) -> None:
         """Waits for the lock of the folder: alone, or shared with other readers."""
         self._at = os.open(self.path, os.O_RDONLY | os.O_DIRECTORY | os.O_CLOEXEC)
+        found = os.fstat(self._at)
+        self._key, self._owner = (found.st_dev, found.st_ino, os.getpid()), os.getpid()
+        if self._key in self._entered:
+            os.close(self._at)
+            raise FolderFault(f"{self.path} is open in this process already")
         try:
-            fcntl.flock(self._at, fcntl.LOCK_EX if self._is_alone else fcntl.LOCK_SH)
+            is_held = self._lock()
+            if self._is_alone:
+                self._entered.add(self._key)
             self._process, self._left = self._record()
             if self._is_alone:
                 self._finish()
-                self._sweep()
+                # Without locks, a part may be that of a process that is running.
+                if is_held:
+                    self._sweep()
         except BaseException:
             self.leave()
             raise
 
+    def _lock(self) -> bool:
+        """Waits for the lock. Returns False where the system has no locks on folders: none is held then."""
+        try:
+            fcntl.flock(self._at, fcntl.LOCK_EX if self._is_alone else fcntl.LOCK_SH)
+            return True
+        except InterruptedError:
+            raise
+        except OSError:
+            return False
+
     def leave(self) -> None:
-        """Releases the lock."""
+        """Releases the lock. A child after fork has the same one, and leaves it to its parent."""
+        if self._owner == os.getpid():
+            if self._is_alone:
+                self._entered.discard(self._key)
+            with contextlib.suppress(OSError):
+                fcntl.flock(self._at, fcntl.LOCK_UN)
         os.close(self._at)
 
     def has(self, name: str) -> bool:
-        return os.path.lexists(self.path / name)
+        try:
+            os.stat(name, dir_fd=self._at, follow_symlinks=False)
+            return True
+        except FileNotFoundError:
+            return False
 
     def read(self, name: str) -> bytes:
         """Reads a plain file; of a save that was cut short, what it wrote."""
         if name in self._left:
-            try:
+            with contextlib.suppress(FileNotFoundError):
                 return self._read_plain(self._part(name, self._process))
-            except FileNotFoundError:
-                pass
         return self._read_plain(name)
 
     def read_config(self) -> Config:
@@ -129,13 +161,12 @@ class Folder:
 
     def images(self, config: Config) -> Iterator[tuple[str, int]]:
         """Returns the images with their cycles, in the order of the cycles."""
-        names = {name for name in os.listdir(self._at) if name.endswith(IMAGE)}
-        names |= {name for name in self._left if name.endswith(IMAGE)}
+        names = {name for name in [*os.listdir(self._at), *self._left] if name.endswith(IMAGE)}
         for name in sorted(names):
             yield name, config.cycle_of(name)
 
     def save(self, files: dict[str, bytes]) -> None:
-        """Writes files: all of them or none, also if the system stops in between. Those that stay the same are left alone."""
+        """Writes files: all of them or none, also if this process stops in between. Those that stay the same are left alone."""
         changed = {name: data for name, data in files.items() if not (self.has(name) and self._read_plain(name) == data)}
         process = os.getpid()
         try:
@@ -144,30 +175,37 @@ class Folder:
             if len(changed) > 1:
                 lines = ["cq save 1", str(process), *changed, "end"]
                 self._write(RECORD, process, "".join(f"{line}\n" for line in lines).encode())
-                os.rename(self._part(RECORD, process), RECORD, src_dir_fd=self._at, dst_dir_fd=self._at)
+            for name in [RECORD] if len(changed) > 1 else changed:
+                self._place(name, process)
         except BaseException:
             # A rename can fail and be done nevertheless. So the record goes first, and the parts stay if it cannot go.
             for name in [RECORD, *(self._part(name, process) for name in [RECORD, *changed])]:
                 self._remove(name)
             raise
-        if len(changed) > 1:
+        if changed:
             os.fsync(self._at)
-        # From here on they are saved. The next command that is alone does what is left if this stops.
-        self._process, self._left = process, list(changed)
-        self._finish(has_record=len(changed) > 1)
+        if len(changed) > 1:
+            # The files are saved. What fails from here on is done by the next one that is alone.
+            self._process, self._left = process, list(changed)
+            with contextlib.suppress(OSError):
+                self._finish()
 
     def _part(self, name: str, process: int) -> str:
         return f"{name}.{process}.part"
 
+    def _place(self, name: str, process: int) -> None:
+        """Renames the part of a file to the file."""
+        os.rename(self._part(name, process), name, src_dir_fd=self._at, dst_dir_fd=self._at)
+
     def _open(self, name: str, flags: int, mode: int = 0o666) -> int:
         return os.open(name, flags | os.O_NOFOLLOW | os.O_CLOEXEC, mode, dir_fd=self._at)
 
-    def _read_plain(self, name: str) -> bytes:
+    def _read_plain(self, name: str, most: int = -1) -> bytes:
         """Reads a file. A link, a folder or a FIFO of this name is not opened."""
         if not stat.S_ISREG(os.stat(name, dir_fd=self._at, follow_symlinks=False).st_mode):
             raise FolderFault(f"{self.path / name} is no plain file")
         with open(self._open(name, os.O_RDONLY | os.O_NONBLOCK), "rb") as file:
-            return file.read()
+            return file.read(most)
 
     def _write(self, name: str, process: int, data: bytes) -> None:
         """Writes the part of a file, with the mode of the file that it will replace."""
@@ -184,40 +222,40 @@ class Folder:
             os.fsync(file.fileno())
 
     def _remove(self, name: str) -> None:
-        try:
+        with contextlib.suppress(FileNotFoundError):
             os.unlink(name, dir_fd=self._at)
-        except FileNotFoundError:
-            pass
 
     def _record(self) -> tuple[int, list[str]]:
         """Returns the process and the files of a save that was cut short."""
         try:
-            text = self._read_plain(RECORD).decode("utf-8", "replace")
+            text = self._read_plain(RECORD, MOST_RECORD_BYTES + 1)
         except FileNotFoundError:
             return 0, []
-        found = re.fullmatch(r"cq save 1\n(0|[1-9][0-9]{0,9})\n((?:(?:queue\.cqc|[^/\n]*\.cqi)\n)+)end\n", text)
-        if not found or int(found[1]) >= 2**32:
-            raise FolderFault(f"{self.path / RECORD} is no record of a save")
-        return int(found[1]), found[2].splitlines()
+        found = re.fullmatch(rb"cq save 1\n(0|[1-9][0-9]{0,9})\n((?:(?:queue\.cqc|[^/\n]*\.cqi)\n)+)end\n", text)
+        try:
+            if found and len(text) <= MOST_RECORD_BYTES and int(found[1]) < 1 << 32:
+                return int(found[1]), found[2].decode().split("\n")[:-1]
+        except UnicodeDecodeError:
+            pass
+        raise FolderFault(f"{self.path / RECORD} is no record of a save")
 
-    def _finish(self, has_record: bool = True) -> None:
+    def _finish(self) -> None:
         """Renames the parts that are left of a save, and removes its record. A part that is gone has been renamed."""
         if not self._left:
             return
         for name in self._left:
-            try:
-                os.rename(self._part(name, self._process), name, src_dir_fd=self._at, dst_dir_fd=self._at)
-            except FileNotFoundError:
-                pass
+            with contextlib.suppress(FileNotFoundError):
+                self._place(name, self._process)
         os.fsync(self._at)
-        if has_record:
-            self._remove(RECORD)
-            os.fsync(self._at)
+        self._remove(RECORD)
+        # Else the record could come back after the machine stops, when a later save writes parts of the same names.
+        os.fsync(self._at)
         self._process, self._left = 0, []
 
     def _sweep(self) -> None:
         """Removes the parts of saves that were cut short before their record was there."""
         for name in os.listdir(self._at):
             found = PART.fullmatch(name)
-            if found and int(found[2]) < 2**32:
-                self._remove(name)
+            if found and int(found[2]) < 1 << 32:
+                with contextlib.suppress(OSError):
+                    os.unlink(name, dir_fd=self._at)

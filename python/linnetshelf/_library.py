@@ -1,7 +1,8 @@
 """The calls of liblinnetshelf by ctypes, as linnetshelf.h declares them.
 
-Each call on a handle keeps the interpreter's lock, since most take less time than it takes to release it. So no two
-threads are in a call on one handle at once, whatever they do.
+Each call keeps the interpreter's lock, since most take less time than it takes to release it. So no two threads are in a
+call on one handle at once. A thread can close a handle while another is about to call it: so a handle that is closed holds
+something of the other kind from then on, and each call on it returns WRONG_KIND.
 """
 from __future__ import annotations
 
@@ -10,6 +11,7 @@ import ctypes.util
 import os
 import pathlib
 import sys
+from collections.abc import Callable
 
 from .errors import ERRORS, LinnetshelfError, Status
 
@@ -121,5 +123,26 @@ def error_of(status: int, detail: str = "") -> LinnetshelfError:
 
 def check(status: int, detail: str = "") -> None:
     """Raises the exception for a status, unless the call is done."""
+    if status == Status.WRONG_KIND:
+        raise ValueError("it is closed")
     if status != Status.DONE:
         raise error_of(status, detail)
+
+
+def number(value: int, bits: int, status: Status) -> int:
+    """Returns a number that has at most so many bits. Others would be cut off, and raise the exception for a status."""
+    if not 0 <= value < 1 << bits:
+        raise error_of(status, str(value))
+    return value
+
+
+def _made(call: Callable[[Handle], int]) -> Handle:
+    out = Handle()
+    check(call(out))
+    return out
+
+
+# What closed handles hold: an endpoint that is closed holds what is saved of this queue, and the other way round.
+_SMALL = RawSettings(0, 31, 8, 1, 1, 0)
+NO_ENDPOINT = _made(lambda out: library.saved_new(_SMALL, b"", 0, out))
+NO_SAVED = _made(lambda out: library.create(_SMALL, b"", 0, 0, out))

@@ -5,10 +5,10 @@ import os
 from collections.abc import Iterable, Iterator, Mapping
 from typing import NamedTuple
 
-from ._endpoint import Buffer, Endpoint, Index, Owner, QueueFacts, Roll, Settings, address_of, create, lines_of
-from ._folder import Config, Folder
-from ._library import Handle, check, error_of, library
-from .errors import FolderFault, ImageFault, Status
+from ._endpoint import Buffer, Endpoint, Index, Owner, QueueFacts, Roll, Settings, address_of, create, names_of
+from ._folder import CONFIG, Config, Folder
+from ._library import NO_SAVED, Handle, check, error_of, library, number
+from .errors import BadValue, FolderFault, ImageFault, Status, Unsaved
 
 
 class Image(NamedTuple):
@@ -21,6 +21,8 @@ class Image(NamedTuple):
 class Saved(Owner):
     """What was saved of a queue: an image for each cycle, a position for each name, and the floor."""
 
+    _closed = NO_SAVED
+
     def __init__(self, handle: Handle, settings: Settings, names: tuple[str, ...]) -> None:
         super().__init__(handle)
         self.settings, self.names = settings, names
@@ -28,8 +30,7 @@ class Saved(Owner):
     @classmethod
     def new(cls, settings: Settings, names: Iterable[str] = ()) -> Saved:
         """Returns a queue without cycles, to which what was saved is added."""
-        declared = tuple(names)
-        lines, out = lines_of(declared), Handle()
+        (declared, lines), out = names_of(names), Handle()
         check(library.saved_new(settings.raw(), lines, len(lines), out))
         return cls(out, settings, declared)
 
@@ -45,17 +46,21 @@ class Saved(Owner):
         config = files.read_config()
         roll = Roll[config.roll.upper()]
         settings = Settings(config.cells, config.count, config.spacing, config.cycles, roll, config.epoch)
-        saved = cls.new(settings, config.positions)
+        try:
+            saved = cls.new(settings, config.positions)
+        except BadValue as fault:
+            raise FolderFault(f"{files.path / CONFIG}: {fault}", fault.status) from fault
         for name, cycle in files.images(config):
             try:
                 saved.add(cycle, files.read(name))
-            except ImageFault as fault:
+            except (ImageFault, BadValue) as fault:
                 raise FolderFault(f"{files.path / name}: {fault}", fault.status) from fault
         saved.positions, saved.floor = config.positions, config.floor
         return saved
 
     def add(self, cycle: int, image: Buffer) -> None:
         """Adds a cycle after the others. ImageFault: the bytes are no image of it."""
+        cycle = number(cycle, 32, Status.BAD_CONTENTS)
         answer = library.saved_add(self._live(), cycle, address_of(image), memoryview(image).nbytes)
         if Status.CUT <= answer.status <= Status.OVER_SHAPE:
             error = error_of(answer.status, f"byte {answer.index}")
@@ -66,12 +71,14 @@ class Saved(Owner):
 
     def __len__(self) -> int:
         """Returns how many cycles there are."""
-        return library.saved_count(self._live()).index
+        answer = library.saved_count(self._live())
+        check(answer.status)
+        return answer.index
 
     def images(self) -> Iterator[Image]:
         """Makes the image of each cycle, in their order."""
-        # A cycle has four bytes a cell, and after its last record the header of the end.
-        room = bytearray(4 * self.settings.cells + 4)
+        # A cycle has four bytes a cell.
+        room = bytearray(4 * self.settings.cells)
         for k in range(len(self)):
             answer = library.saved_image(self._live(), k, address_of(room), len(room))
             check(answer.status)
@@ -80,49 +87,73 @@ class Saved(Owner):
     @property
     def positions(self) -> dict[str, Index]:
         """The position of each name: the message that is taken next has this index or a later one."""
-        return {name: Index(library.saved_position(self._live(), k).index) for k, name in enumerate(self.names)}
+        found = {}
+        for k, name in enumerate(self.names):
+            answer = library.saved_position(self._live(), k)
+            check(answer.status)
+            found[name] = Index(answer.index)
+        return found
 
     @positions.setter
     def positions(self, positions: Mapping[str, int]) -> None:
         for k, name in enumerate(self.names):
-            check(library.saved_set_position(self._live(), k, positions[name]))
+            position = number(positions[name], 64, Status.BAD_CONTENTS)
+            check(library.saved_set_position(self._live(), k, position))
 
     @property
     def floor(self) -> int:
         """The floor: reads skip all cycles below this one."""
-        return library.saved_floor(self._live()).index
+        answer = library.saved_floor(self._live())
+        check(answer.status)
+        return answer.index
 
     @floor.setter
     def floor(self, floor: int) -> None:
-        check(library.saved_set_floor(self._live(), floor))
+        check(library.saved_set_floor(self._live(), number(floor, 32, Status.BAD_CONTENTS)))
 
-    def open(self) -> Endpoint:
-        """Makes a queue of it, whose last cycle is the current one, and returns its first endpoint. This stays as it is."""
+    @property
+    def is_new(self) -> bool:
+        """Whether no cycle has begun. Then no position and no floor can be other than 0."""
+        if len(self):
+            return False
+        if self.floor or any(self.positions.values()):
+            raise error_of(Status.BAD_CONTENTS, "there is no image, and a position or the floor is not 0")
+        return True
+
+    def open(self, moment: int | None = None) -> Endpoint:
+        """Makes a queue of it, whose last cycle is the current one, and returns its first endpoint. This stays as it is.
+
+        If no cycle has begun, the first one is that of `moment`, in milliseconds of Unix time, or of the clock's time.
+        """
+        if self.is_new:
+            return create(self.settings, self.names, moment)
         out = Handle()
         check(library.open(self._live(), out))
         return Endpoint(out, QueueFacts(self.settings, self.names))
 
     def save(self, folder: str | os.PathLike[str]) -> None:
-        """Makes the files of a folder what this holds: all of them or none, also if the system stops in between."""
+        """Makes a queue of it in a folder that has none. `Journal` is for one that has."""
+        if not self.is_new:
+            self.open().close()
         with Folder(folder, is_alone=True) as files:
+            if files.has(CONFIG):
+                raise FileExistsError(f"{files.path}: a queue is there already")
             self.write(files)
 
     def write(self, files: Folder) -> None:
-        """Does the same in a folder that is entered already, alone."""
+        """Makes the files of a folder what this holds: all of them or none. The folder is entered already, alone."""
         it = self.settings
         positions = {name: int(position) for name, position in self.positions.items()}
         roll = it.roll.name.lower()
         config = Config(roll, it.epoch, it.cells, it.index_count, it.index_spacing, it.cycles, self.floor, positions)
         changes = {config.image_name(image.cycle): image.data for image in self.images()}
-        files.save({**changes, "queue.cqc": config.text()})
+        files.save({**changes, CONFIG: config.text()})
 
 
 def init(folder: str | os.PathLike[str], settings: Settings = Settings(), names: Iterable[str] = ()) -> None:
     """Makes an empty queue in a folder, which is there already, as `cq init` does."""
-    with Saved.new(settings, names) as saved, Folder(folder, is_alone=True) as files:
-        if files.has("queue.cqc"):
-            raise FileExistsError(f"{files.path}: a queue is there already")
-        saved.write(files)
+    with Saved.new(settings, names) as saved:
+        saved.save(folder)
 
 
 class Journal:
@@ -131,31 +162,50 @@ class Journal:
     The folder is locked as long as the queue is open, so other programs wait, `cq` among them. At the end of the block all
     endpoints of the queue are closed, and what it holds is saved, also if the block raises. What was appended since the
     start is lost if the process ends before.
+
+    Unsaved: it could not be saved, as on a full device. The folder is still locked then, and `save` tries again.
     """
 
     def __init__(self, folder: str | os.PathLike[str], moment: int | None = None) -> None:
         """`moment` is when the first cycle of a queue without images begins; None is the clock's time."""
-        self._folder, self._moment = folder, moment
+        self._files, self._moment = Folder(folder, is_alone=True), moment
+        self._last: Endpoint | None = None
+        self._saved: Saved | None = None
 
     def __enter__(self) -> Endpoint:
-        self._files = Folder(self._folder, is_alone=True)
+        self._files.enter()
         try:
-            self._files.enter()
             with Saved.read(self._files) as saved:
-                if len(saved):
-                    self._queue = saved.open()
-                else:
-                    self._queue = create(saved.settings, saved.names, self._moment)
+                queue = saved.open(self._moment)
+            # The queue is stopped by this endpoint, also if the other ones are closed by then.
+            self._last = queue.split()
         except BaseException:
             self._files.leave()
             raise
-        # An endpoint that is closed cannot stop the queue, so one of ours stays.
-        self._last = self._queue.split()
-        return self._queue
+        return queue
 
     def __exit__(self, *error: object) -> None:
+        self.save()
+
+    def save(self) -> None:
+        """Closes the queue's endpoints, saves what it holds, and releases the folder. Nothing is left to do after that."""
+        if self._last is None:
+            return
         try:
-            with self._last.stop_all() as saved:
-                saved.write(self._files)
-        finally:
+            if self._saved is None:
+                self._saved = self._last.stop_all()
+            self._saved.write(self._files)
+        except Exception as fault:
+            unsaved = Unsaved(f"{self._files.path}: nothing was saved: {fault}")
+            unsaved.journal = self
+            raise unsaved from fault
+        self.discard()
+
+    def discard(self) -> None:
+        """Releases the folder without saving what was not saved yet."""
+        for owner in (self._saved, self._last):
+            if owner is not None:
+                owner.close()
+        if self._last is not None:
+            self._last = None
             self._files.leave()

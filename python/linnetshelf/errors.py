@@ -99,7 +99,13 @@ class ImageFault(LinnetshelfError):
 
 
 class FolderFault(LinnetshelfError):
-    """The files of a folder are no queue of version 2."""
+    """The files of a folder are no queue of version 2, or the folder is in use by this process."""
+
+
+class Unsaved(LinnetshelfError):
+    """What a journal held could not be saved, for the reason in `__cause__`. `journal` has it: `journal.save()` tries again."""
+
+    journal = None
 
 
 class OutOfMemory(LinnetshelfError, MemoryError):

@@ -38,6 +38,18 @@ def data_of(messages):
     return [message.data for message in messages]
 
 
+def in_child(call):
+    """Runs a call in a child process, and returns how that ended: 0 if the call returns a true value."""
+    child = os.fork()
+    if child == 0:
+        status = 3
+        try:
+            status = 0 if call() else 1
+        finally:
+            os._exit(status)
+    return os.waitpid(child, 0)[1]
+
+
 class Header(unittest.TestCase):
     """The package says what the header says."""
 
@@ -83,6 +95,7 @@ class Calls(unittest.TestCase):
         self.assertTrue(self.queue.move_to(1))
         self.assertEqual(self.queue.next(), (1, b"1"))
         self.assertFalse(self.queue.move_to(7))
+        self.assertFalse(self.queue.move_to(1 << 64))
         self.assertEqual(self.queue.to_end(), 3)
         self.queue.to_start()
         self.assertEqual(self.queue.next().index, 0)
@@ -126,6 +139,14 @@ class Calls(unittest.TestCase):
             (linnetshelf.NoSuchName, linnetshelf.Status.NO_SUCH_NAME, lambda: self.queue.take("nobody")),
             (linnetshelf.BadValue, linnetshelf.Status.BAD_SETTINGS, lambda: linnetshelf.create(linnetshelf.Settings(cells=1))),
             (linnetshelf.BadValue, linnetshelf.Status.BAD_SETTINGS, lambda: linnetshelf.create(linnetshelf.Settings(cells=-1))),
+            (linnetshelf.BadValue, linnetshelf.Status.BAD_MOMENT, lambda: self.queue.advance(1 << 64)),
+            (linnetshelf.BadValue, linnetshelf.Status.BAD_MOMENT, lambda: self.queue.begin(1, 1 << 64).__enter__()),
+            (linnetshelf.BadValue, linnetshelf.Status.BAD_ROOM, lambda: self.queue.begin(1 << 32, 0).__enter__()),
+            (linnetshelf.NotSeen, linnetshelf.Status.NOT_SEEN, lambda: self.queue.seek("reader", 1 << 64)),
+            *(
+                (linnetshelf.BadValue, linnetshelf.Status.BAD_SETTINGS, lambda names=names: linnetshelf.create(SMALL, names))
+                for names in (["a\nb"], [""], "abc", ["a", "a"], ["x" * 33])
+            ),
         )
         for error, status, call in wrong:
             with self.assertRaises(error) as fault:
@@ -225,18 +246,17 @@ class Calls(unittest.TestCase):
 
     def test_a_child_leaves_what_is_not_its_own(self):
         self.queue.append(b"a", 0)
-        child = os.fork()
-        if child == 0:
-            status = 1
+
+        def works():
             with contextlib.suppress(ValueError):
                 self.queue.next()
-                status = 2
+                return False
             self.queue.close()
             with linnetshelf.create(SMALL, moment=0) as own:
                 own.append(b"x", 0)
-                status = 0 if status == 1 and data_of(own) == [b"x"] else 3
-            os._exit(status)
-        self.assertEqual(os.waitpid(child, 0)[1], 0)
+                return data_of(own) == [b"x"]
+
+        self.assertEqual(in_child(works), 0)
         self.assertEqual(self.queue.next().data, b"a")
 
     def test_threads(self):
@@ -249,19 +269,25 @@ class Calls(unittest.TestCase):
                     for k in range(count):
                         endpoint.append(b"%d %d" % (who, k), 0)
 
-            taken = [[], []]
+            taken, is_written = [[], []], threading.Event()
 
             def take(endpoint, into):
                 with endpoint:
-                    while sum(map(len, taken)) < total:
+                    while True:
+                        is_last = is_written.is_set()
                         into.extend(data_of(endpoint.takes("worker")))
+                        if is_last:
+                            return
 
-            threads = [threading.Thread(target=write, args=(queue.split(), who)) for who in range(writers)]
-            threads += [threading.Thread(target=take, args=(queue.split(), into)) for into in taken]
-            for thread in threads:
+            writing = [threading.Thread(target=write, args=(queue.split(), who)) for who in range(writers)]
+            taking = [threading.Thread(target=take, args=(queue.split(), into)) for into in taken]
+            for thread in [*writing, *taking]:
                 thread.start()
-            seen = data_of(itertools.islice(queue.follow(timeout=60), total))
-            for thread in threads:
+            seen = data_of(itertools.islice(queue.follow(timeout=120), total))
+            for thread in writing:
+                thread.join()
+            is_written.set()
+            for thread in taking:
                 thread.join()
             self.assertIsNone(queue.next())
             for who in range(writers):
@@ -269,12 +295,40 @@ class Calls(unittest.TestCase):
             self.assertEqual(sorted(taken[0] + taken[1]), sorted(seen))
 
 
+    def test_threads_go_on_while_their_endpoints_are_closed(self):
+        """A call that comes too late is refused, wherever its thread was."""
+        before = sys.getswitchinterval()
+        sys.setswitchinterval(1e-6)
+        self.addCleanup(sys.setswitchinterval, before)
+        for _ in range(60):
+            ends = []
+
+            def work(endpoint, call):
+                try:
+                    while True:
+                        call(endpoint)
+                except ValueError as error:
+                    ends.append(str(error))
+
+            queue = linnetshelf.create(SMALL, ["worker"], 0)
+            last = queue.split()
+            calls = (lambda it: it.cursor, lambda it: it.take("worker"), lambda it: it.next(), lambda it: it.to_end())
+            threads = [threading.Thread(target=work, args=(queue.split(), call)) for call in calls]
+            for thread in threads:
+                thread.start()
+            with last.stop_all() as saved:
+                self.assertEqual(len(saved), 1)
+            for thread in threads:
+                thread.join()
+            self.assertEqual(ends, ["it is closed"] * len(calls))
+
+
 def hold(folder, entered, release):
     """Keeps a journal open until it may end."""
     with linnetshelf.Journal(folder) as queue:
         queue.append(b"held", 1_728_000_000_000)
         entered.set()
-        release.wait(20)
+        release.wait(60)
 
 
 @unittest.skipUnless(CQ, "there is no program")
@@ -333,7 +387,7 @@ class Folders(unittest.TestCase):
         entered, release = context.Event(), context.Event()
         holder = context.Process(target=hold, args=(self.folder, entered, release))
         holder.start()
-        self.assertTrue(entered.wait(20))
+        self.assertTrue(entered.wait(60))
         writer = subprocess.Popen([CQ, "write", self.folder, str(self.MOMENT)], stdin=subprocess.PIPE, stdout=subprocess.DEVNULL)
         writer.stdin.write(b"later\n")
         writer.stdin.close()
@@ -342,60 +396,146 @@ class Folders(unittest.TestCase):
         self.assertEqual((writer.poll(), reader.poll()), (None, None))
         release.set()
         holder.join()
-        self.assertEqual((writer.wait(20), reader.wait(20)), (0, 0))
+        self.assertEqual((writer.wait(60), reader.wait(60)), (0, 0))
         self.assertEqual([line[17:] for line in cq("read", self.folder).splitlines()], ["held", "later"])
 
     def test_a_save_that_was_killed_is_whole(self):
-        """A child is killed at each system call of a save in turn: the folder has all of it or nothing, for us and for cq."""
+        """A child is killed at each of these calls of a save in turn: the folder has all of it or nothing, for us and for cq."""
         linnetshelf.init(self.folder, SMALL)
         cq("write", self.folder, self.MOMENT, text="one\n")
         calls = ("rename", "fsync", "unlink", "open", "fchmod")
-        whole, kills, at = "00004e2000000000 one\n00004e2100000000 two\n", 0, 0
-        while True:
-            folder = self.folder / f"copy{at}"
+        whole, kills, status = "00004e2000000000 one\n00004e2100000000 two\n", 0, None
+        while status != 0:
+            folder, at = self.folder / f"copy{kills}", kills
             folder.mkdir()
             for name in ("queue.cqc", "20241004.cqi"):
                 (folder / name).write_bytes((self.folder / name).read_bytes())
-            child = os.fork()
-            if child == 0:
-                counted = [0]
+
+            def saves(folder=folder, at=at):
+                journal, counted = linnetshelf.Journal(folder), itertools.count()
 
                 def counting(call):
                     def counts(*arguments, **named):
-                        if counted[0] == at:
+                        if next(counted) == at:
                             os.kill(os.getpid(), signal.SIGKILL)
-                        counted[0] += 1
                         return call(*arguments, **named)
 
                     return counts
 
-                with linnetshelf.Saved.load(folder) as saved, saved.open() as queue:
-                    queue.append(b"two", self.MOMENT + DAY)
-                    with queue.stop() as ended:
-                        for name in calls:
-                            setattr(_folder.os, name, counting(getattr(os, name)))
-                        ended.save(folder)
-                os._exit(0)
-            status = os.waitpid(child, 0)[1]
+                queue = journal.__enter__()
+                queue.append(b"two", self.MOMENT + DAY)
+                for name in calls:
+                    setattr(_folder.os, name, counting(getattr(os, name)))
+                journal.save()
+                return True
+
+            status = in_child(saves)
+            self.assertIn(status, (0, signal.SIGKILL))
             with linnetshelf.Saved.load(folder) as saved, saved.open() as queue:
                 ours = "".join(f"{index} {data.decode()}\n" for index, data in queue)
             self.assertIn(ours, ("00004e2000000000 one\n", whole))
             self.assertEqual(cq("read", folder), ours)
-            linnetshelf.Saved.load(folder).save(folder)
+            with linnetshelf.Journal(folder):
+                pass
             self.assertEqual(cq("read", folder), ours)
             self.assertFalse([name for name in os.listdir(folder) if name.endswith((".part", ".save"))])
-            if status == 0:
-                break
-            kills, at = kills + 1, at + 1
+            kills += 1
         self.assertEqual(ours, whole)
         self.assertGreater(kills, 10)
+
+    def test_a_save_that_failed_is_tried_again(self):
+        linnetshelf.init(self.folder, SMALL)
+        cq("write", self.folder, self.MOMENT, text="one\n")
+        for name in ("open", "fsync", "rename"):
+            real = getattr(os, name)
+
+            def fails(*arguments, name=name, real=real, **named):
+                setattr(_folder.os, name, real)
+                raise OSError(28, "No space left on device")
+
+            with self.assertRaises(linnetshelf.Unsaved) as fault, linnetshelf.Journal(self.folder) as queue:
+                queue.append(name.encode(), self.MOMENT)
+                setattr(_folder.os, name, fails)
+            self.assertIsInstance(fault.exception.__cause__, OSError)
+            self.assertEqual(sorted(os.listdir(self.folder)), ["20241004.cqi", "queue.cqc"])
+            fault.exception.journal.save()
+            fault.exception.journal.save()
+        self.assertEqual([line[17:] for line in cq("read", self.folder).splitlines()], ["one", "open", "fsync", "rename"])
+
+    def test_a_queue_is_not_overwritten(self):
+        linnetshelf.init(self.folder, SMALL, ["a"])
+        with linnetshelf.Saved.load(self.folder) as saved, self.assertRaises(FileExistsError):
+            saved.save(self.folder)
+        other = self.folder / "other"
+        other.mkdir()
+        cq("write", self.folder, self.MOMENT, text="one\n")
+        with linnetshelf.Saved.load(self.folder) as saved:
+            saved.save(other)
+            saved.floor = 30_000
+            empty = self.folder / "empty"
+            empty.mkdir()
+            with self.assertRaises(linnetshelf.BadValue):
+                saved.save(empty)
+            self.assertEqual(os.listdir(empty), [])
+        self.assertEqual(cq("read", other), "00004e2000000000 one\n")
+
+    def test_positions_are_not_lost_with_the_images(self):
+        linnetshelf.init(self.folder, SMALL, ["a"])
+        cq("write", self.folder, self.MOMENT, text="one\n")
+        cq("take", self.folder, "a")
+        config = (self.folder / "queue.cqc").read_bytes()
+        os.unlink(self.folder / "20241004.cqi")
+        with self.assertRaises(linnetshelf.BadValue) as fault, linnetshelf.Journal(self.folder):
+            pass
+        self.assertEqual(fault.exception.status, linnetshelf.Status.BAD_CONTENTS)
+        self.assertEqual((self.folder / "queue.cqc").read_bytes(), config)
+
+    def test_a_folder_is_open_once_in_a_process(self):
+        linnetshelf.init(self.folder, SMALL)
+        with linnetshelf.Journal(self.folder):
+            for again in (linnetshelf.Journal(self.folder).__enter__, lambda: linnetshelf.Saved.load(self.folder)):
+                with self.assertRaises(linnetshelf.FolderFault):
+                    again()
+        linnetshelf.Saved.load(self.folder).close()
+
+    def test_a_child_leaves_the_lock_to_its_parent(self):
+        linnetshelf.init(self.folder, SMALL)
+        reader, writer = os.pipe()
+        with linnetshelf.Journal(self.folder, self.MOMENT) as queue:
+            queue.append(b"one", self.MOMENT)
+            child = os.fork()
+            if child == 0:
+                try:
+                    os.close(writer)
+                    os.read(reader, 1)
+                finally:
+                    os._exit(0)
+        self.assertEqual(cq("read", self.folder), "00004e2000000000 one\n")
+        os.close(writer)
+        os.close(reader)
+        self.assertEqual(os.waitpid(child, 0)[1], 0)
+
+    def test_the_working_folder_may_change(self):
+        linnetshelf.init(self.folder, SMALL)
+        os.chmod(self.folder / "queue.cqc", 0o600)
+        before = os.getcwd()
+        os.chdir(self.folder.parent)
+        self.addCleanup(os.chdir, before)
+        with linnetshelf.Journal(self.folder.name, self.MOMENT) as queue:
+            queue.append(b"one", self.MOMENT)
+            os.chdir("/")
+        self.assertEqual((self.folder / "queue.cqc").stat().st_mode & 0o777, 0o600)
+        self.assertEqual(cq("read", self.folder), "00004e2000000000 one\n")
 
     def test_faults(self):
         with self.assertRaises(FileNotFoundError):
             linnetshelf.Saved.load(self.folder)
         linnetshelf.init(self.folder, SMALL, ["a"])
         config = (self.folder / "queue.cqc").read_text(encoding="ascii")
-        for wrong in ("cq 1" + config[4:], config + "x", config.replace("16", "016"), config + "name a 0\n", ""):
+        wrong_texts = ("cq 1" + config[4:], config + "x", config.replace("16", "016"), config + "name a 0\n", "")
+        wrong_texts += (config.replace("a 0", "a 18446744073709551617"), config.replace("name", "floor 0\nname"))
+        wrong_texts += (config.replace("name", "floor 2147483647\nname"), config.replace("cells 4096", "cells 4294971392"))
+        for wrong in wrong_texts:
             (self.folder / "queue.cqc").write_text(wrong, encoding="ascii")
             with self.assertRaises(linnetshelf.FolderFault):
                 linnetshelf.Saved.load(self.folder)
@@ -412,9 +552,11 @@ class Folders(unittest.TestCase):
         with self.assertRaises(linnetshelf.FolderFault):
             linnetshelf.Saved.load(self.folder)
         os.unlink(self.folder / "20241004.cqi")
-        (self.folder / "queue.save").write_text("cq save 1\n", encoding="ascii")
-        with self.assertRaises(linnetshelf.FolderFault):
-            linnetshelf.Saved.load(self.folder)
+        for record in (b"cq save 1\n", b"cq save 1\n1\n\xff.cqi\nend\n", b"cq save 1\n1\n" + 100_000 * b"12345678.cqi\n" + b"end\n"):
+            (self.folder / "queue.save").write_bytes(record)
+            with self.assertRaises(linnetshelf.FolderFault):
+                linnetshelf.Journal(self.folder).__enter__()
+            self.assertEqual((self.folder / "queue.save").read_bytes(), record)
 
 
 class Document(unittest.TestCase):
