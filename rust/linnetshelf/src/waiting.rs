@@ -72,6 +72,23 @@ pub(crate) fn growing<T>(
     }
 }
 
+/// Ends a row of results after the first error.
+#[derive(Debug, Default)]
+struct UntilError {
+    is_over: bool,
+}
+
+impl UntilError {
+    fn next<T>(&mut self, read: impl FnOnce() -> Option<Result<T, Error>>) -> Option<Result<T, Error>> {
+        if self.is_over {
+            return None;
+        }
+        let found = read();
+        self.is_over = matches!(found, Some(Err(_)));
+        found
+    }
+}
+
 /// Repeats an append while another endpoint writes.
 fn while_busy<T>(timeout: Option<Duration>, mut attempt: impl FnMut() -> Result<T, Error>) -> Result<T, Error> {
     let outcome = until(timeout, || match attempt() {
@@ -83,7 +100,8 @@ fn while_busy<T>(timeout: Option<Duration>, mut attempt: impl FnMut() -> Result<
 
 /// Calls that wait, and messages as values of their own. `None` as a timeout has no end.
 impl Endpoint {
-    /// Appends a message as [`Endpoint::append`] does. While another endpoint writes, it tries again, at most that long.
+    /// Appends a message as [`Endpoint::append`] does. While another endpoint writes, it tries again, at most that long. That
+    /// endpoint may have begun a message: without a timeout this waits until it is completed or given up.
     ///
     /// # Errors
     ///
@@ -136,29 +154,36 @@ impl Endpoint {
         Ok(buffer)
     }
 
-    /// Reads message after message in the direction of reading, up to the last one that has come.
+    /// Reads message after message in the direction of reading, up to the last one that has come. It ends after an error.
     pub fn messages(&mut self) -> Messages<'_> {
-        Messages { endpoint: self, buffer: Vec::new() }
+        Messages { endpoint: self, buffer: Vec::new(), until_error: UntilError::default() }
     }
 
-    /// Reads message after message as they come. It ends if none came for that long.
+    /// Reads message after message as they come. It ends if none came for that long, and after an error.
     pub fn follow(&mut self, timeout: Option<Duration>) -> impl Iterator<Item = Result<Message, Error>> {
-        let mut messages = self.messages();
-        std::iter::from_fn(move || until(timeout, || messages.next()))
+        let (mut buffer, mut until_error) = (Vec::new(), UntilError::default());
+        std::iter::from_fn(move || until_error.next(|| until(timeout, || self.next_owned(&mut buffer))))
     }
 
-    /// Takes message after message of a name. It ends if none came for that long.
+    /// Takes message after message of a name. It ends if none came for that long, and after an error.
     pub fn takes(&mut self, name: &str, timeout: Option<Duration>) -> impl Iterator<Item = Result<Message, Error>> {
-        let mut buffer = Vec::new();
+        let (mut buffer, mut until_error) = (Vec::new(), UntilError::default());
         std::iter::from_fn(move || {
-            until(timeout, || {
-                growing(&mut buffer, |buffer| Ok(self.take(name, buffer)?.map(Message::from))).transpose()
+            until_error.next(|| {
+                until(timeout, || {
+                    growing(&mut buffer, |buffer| Ok(self.take(name, buffer)?.map(Message::from))).transpose()
+                })
             })
         })
     }
 
-    /// Reads the messages before this place, the last one first. When the iterator is dropped, the endpoint reads forwards
-    /// again.
+    /// Reads the next message, if there is one.
+    fn next_owned(&mut self, buffer: &mut Vec<u8>) -> Option<Result<Message, Error>> {
+        growing(buffer, |buffer| Ok(self.next(buffer)?.map(Message::from))).transpose()
+    }
+
+    /// Reads the messages before this place, the last one first. It ends after an error. When the iterator is dropped, the
+    /// endpoint reads forwards again.
     ///
     /// # Errors
     ///
@@ -174,13 +199,14 @@ impl Endpoint {
 pub struct Messages<'e> {
     endpoint: &'e mut Endpoint,
     buffer: Vec<u8>,
+    until_error: UntilError,
 }
 
 impl Iterator for Messages<'_> {
     type Item = Result<Message, Error>;
 
     fn next(&mut self) -> Option<Result<Message, Error>> {
-        growing(&mut self.buffer, |buffer| Ok(self.endpoint.next(buffer)?.map(Message::from))).transpose()
+        self.until_error.next(|| self.endpoint.next_owned(&mut self.buffer))
     }
 }
 
@@ -202,5 +228,18 @@ impl Drop for Backwards<'_> {
     fn drop(&mut self) {
         // It refuses only an endpoint that reads nothing any more.
         let _ = self.messages.endpoint.set_direction(Direction::Forwards);
+    }
+}
+
+#[cfg(test)]
+mod tests {
+    use super::*;
+
+    #[test]
+    fn nothing_follows_an_error() {
+        let mut rows = [Some(Ok(1)), None, Some(Ok(2)), Some(Err(Error::Busy)), Some(Ok(3))].into_iter();
+        let mut until_error = UntilError::default();
+        let found: Vec<_> = (0..6).map(|_| until_error.next(|| rows.next().flatten())).collect();
+        assert_eq!(found, [Some(Ok(1)), None, Some(Ok(2)), Some(Err(Error::Busy)), None, None]);
     }
 }

@@ -196,6 +196,7 @@ fn messages_are_taken_by_a_name() {
     assert_eq!(text(queue.take("reader", &mut buffer).unwrap()), Some((0, "0")));
     assert_eq!(texts(queue.takes("reader", SHORT)), ["1", "2", "3"]);
     assert_eq!(queue.take("reader", &mut buffer), Ok(None));
+    assert_eq!(queue.takes("nobody", None).collect::<Vec<_>>(), [Err(Error::NoSuchName)]);
     assert_eq!(queue.position("other"), Ok(Index(0)));
     queue.seek("reader", Index(4), Index(2)).unwrap();
     assert_eq!(queue.seek("reader", Index(9), Index(3)), Err(Error::Moved { position: Index(2) }));
