@@ -14,7 +14,7 @@ use crate::{Endpoint, Error, Index, Settings};
 /// let mut queue = Endpoint::create(&Settings::default(), &["worker"], 0)?;
 /// queue.append(0, b"kept")?;
 /// let mut saved = queue.stop()?;
-/// let mut buffer = vec![0; 4 * 65_536 + 4];
+/// let mut buffer = vec![0; 4 * saved.settings().cells as usize];
 /// let image = saved.image(0, &mut buffer)?;
 ///
 /// let mut again = Saved::new(&Settings::default(), &["worker"])?;
@@ -81,7 +81,7 @@ impl Saved {
         Error::done(self.handle.saved_ended(k)).map(|answer| answer.index == 1)
     }
 
-    /// Copies the image of cycle `k`, from 0, to a buffer: the bytes of the cycle's file, at most four for each cell and four.
+    /// Copies the image of cycle `k`, from 0, to a buffer: the bytes of the cycle's file, at most four for each cell.
     ///
     /// # Errors
     ///

@@ -45,8 +45,9 @@ pub struct Settings {
 }
 
 impl Default for Settings {
+    /// Four cycles of a day each. A cycle has 4 MiB of records, and at most 1,048,576 messages.
     fn default() -> Settings {
-        Settings { epoch: 0, cells: 65_536, index_count: 64, index_spacing: 16, cycles: 64, roll: Roll::Daily }
+        Settings { epoch: 0, cells: 1_048_576, index_count: 256, index_spacing: 16, cycles: 4, roll: Roll::Daily }
     }
 }
 
