@@ -1,30 +1,42 @@
 //! Endpoints in threads of their own.
 #![cfg(feature = "std")]
-use std::sync::atomic::{AtomicUsize, Ordering};
+use std::sync::atomic::{AtomicBool, AtomicUsize, Ordering};
 use std::sync::mpsc;
 use std::thread;
 use std::time::Duration;
 
-use linnetshelf::{Endpoint, Index, Message, Settings};
+use linnetshelf::{Endpoint, Index, Settings};
 
 const COUNT: usize = 5_000;
 const WRITERS: usize = 4;
+/// As long as no wait takes unless a thread failed.
+const LONG: Option<Duration> = Some(Duration::from_secs(60));
+
+/// Sets a flag if the thread fails, so that the others stop.
+struct StopIfFailed<'f>(&'f AtomicBool);
+
+impl Drop for StopIfFailed<'_> {
+    fn drop(&mut self) {
+        self.0.fetch_or(thread::panicking(), Ordering::Relaxed);
+    }
+}
 
 #[test]
 fn each_message_is_read_in_order_and_taken_once() {
     let settings = Settings { cells: 524_288, index_count: 256, cycles: 1, ..Settings::default() };
     let mut queue = Endpoint::create(&settings, &["worker"], 0).unwrap();
     let total = COUNT * WRITERS;
-    let count = &AtomicUsize::new(0);
+    let (count, has_failed) = (&AtomicUsize::new(0), &AtomicBool::new(false));
     let (seen, taken) = thread::scope(|scope| {
         for writer in 0..WRITERS {
             let mut endpoint = queue.split().unwrap();
             scope.spawn(move || {
+                let _stop = StopIfFailed(has_failed);
                 for k in 0..COUNT {
                     if k % 2 == 0 {
-                        endpoint.append_waiting(0, format!("{writer} {k}").as_bytes(), None).unwrap();
+                        endpoint.append_waiting(0, format!("{writer} {k}").as_bytes(), LONG).unwrap();
                     } else {
-                        let mut message = endpoint.begin_waiting(0, 32, None).unwrap();
+                        let mut message = endpoint.begin_waiting(0, 32, LONG).unwrap();
                         message.put(format!("{writer} ").as_bytes()).unwrap();
                         message.put(k.to_string().as_bytes()).unwrap();
                         message.complete().unwrap();
@@ -36,9 +48,10 @@ fn each_message_is_read_in_order_and_taken_once() {
             .map(|_| queue.split().unwrap())
             .map(|mut endpoint| {
                 scope.spawn(move || {
+                    let _stop = StopIfFailed(has_failed);
                     let mut taken = Vec::new();
                     let mut buffer = [0; 32];
-                    while count.load(Ordering::Relaxed) < total {
+                    while count.load(Ordering::Relaxed) < total && !has_failed.load(Ordering::Relaxed) {
                         match endpoint.take("worker", &mut buffer).unwrap() {
                             Some(message) => {
                                 count.fetch_add(1, Ordering::Relaxed);
@@ -51,8 +64,13 @@ fn each_message_is_read_in_order_and_taken_once() {
                 })
             })
             .collect();
-        let read = |message: Result<Message, _>| String::from_utf8(message.unwrap().data).unwrap();
-        let seen: Vec<String> = queue.follow(None).take(total).map(read).collect();
+        let _stop = StopIfFailed(has_failed);
+        let mut seen = Vec::new();
+        while seen.len() < total && !has_failed.load(Ordering::Relaxed) {
+            let left = total - seen.len();
+            let messages = queue.follow(Some(Duration::from_millis(100))).take(left);
+            seen.extend(messages.map(|message| String::from_utf8(message.unwrap().data).unwrap()));
+        }
         let taken: Vec<String> = takers.into_iter().flat_map(|taker| taker.join().unwrap()).collect();
         (seen, taken)
     });
@@ -86,13 +104,13 @@ fn waits_end_when_another_thread_is_done() {
             message.complete().unwrap();
         });
         is_begun.recv().unwrap();
-        assert_eq!(queue.append_waiting(0, b"second", None), Ok(Index(1)));
+        assert_eq!(queue.append_waiting(0, b"second", LONG), Ok(Index(1)));
         let mut third = queue.split().unwrap();
         assert_eq!(queue.messages().count(), 2);
         scope.spawn(move || {
             thread::sleep(Duration::from_millis(20));
             third.append(0, b"third").unwrap();
         });
-        assert_eq!(queue.next_waiting(&mut buffer, None).unwrap().unwrap().data, b"third");
+        assert_eq!(queue.next_waiting(&mut buffer, LONG).unwrap().unwrap().data, b"third");
     });
 }
