@@ -241,6 +241,8 @@ pub(crate) struct Folder {
     path: PathBuf,
     /// The open folder, which has the lock.
     locked: File,
+    /// Whether the system has locks on this folder.
+    is_held: bool,
     /// What is left of a save that was cut short.
     left: Save,
 }
@@ -250,7 +252,10 @@ impl Folder {
     pub(crate) fn enter(path: &Path) -> Result<Folder, FolderError> {
         let mut folder = Folder::lock(path, true)?;
         folder.finish_last()?;
-        folder.sweep()?;
+        // Without locks, a part may be that of a process that is running.
+        if folder.is_held {
+            folder.sweep()?;
+        }
         Ok(folder)
     }
 
@@ -267,16 +272,11 @@ impl Folder {
                 return Err(ErrorKind::NotADirectory.into());
             }
             let folder = File::open(&path)?;
-            let wait = if is_alone { File::lock } else { File::lock_shared };
-            while let Err(error) = wait(&folder) {
-                if error.kind() != ErrorKind::Interrupted {
-                    return Err(error);
-                }
-            }
-            Ok((path, folder))
+            let is_held = wait_for_lock(&folder, is_alone)?;
+            Ok((path, folder, is_held))
         };
-        let (path, locked) = open().map_err(|error| FolderError::File(path.to_owned(), error))?;
-        let mut folder = Folder { path, locked, left: Save::default() };
+        let (path, locked, is_held) = open().map_err(|error| FolderError::File(path.to_owned(), error))?;
+        let mut folder = Folder { path, locked, is_held, left: Save::default() };
         folder.check_place()?;
         folder.left = folder.record()?;
         Ok(folder)
@@ -297,8 +297,8 @@ impl Folder {
         let Some(bytes) = self.read_plain(RECORD, LARGEST_RECORD)? else {
             return Ok(Save::default());
         };
-        let text = String::from_utf8_lossy(&bytes);
-        Save::read(&text).ok_or_else(|| FolderError::BadRecord(self.path.join(RECORD)))
+        let text = std::str::from_utf8(&bytes).ok().filter(|text| text.len() as u64 <= LARGEST_RECORD);
+        text.and_then(Save::read).ok_or_else(|| FolderError::BadRecord(self.path.join(RECORD)))
     }
 
     fn fault(&self, name: &str) -> impl FnOnce(io::Error) -> FolderError {
@@ -487,10 +487,10 @@ impl Folder {
         self.sync()
     }
 
-    /// Removes the parts of saves that were cut short before their record was there.
+    /// Removes the parts of saves that were cut short before their record was there. What cannot be removed stays.
     fn sweep(&self) -> Result<(), FolderError> {
         for name in self.list()?.iter().filter(|name| is_part(name)) {
-            self.remove(name).map_err(self.fault(name))?;
+            let _ = self.remove(name);
         }
         Ok(())
     }
@@ -530,14 +530,48 @@ impl Drop for Folder {
     }
 }
 
+/// Waits for the lock of an open folder: alone, or shared with other readers. Returns whether it is held.
+///
+/// If the system, or the file system, has no locks on folders, the folder is used without.
+fn wait_for_lock(folder: &File, is_alone: bool) -> io::Result<bool> {
+    let wait = if is_alone { File::lock } else { File::lock_shared };
+    loop {
+        match before_lock().and_then(|()| wait(folder)) {
+            Ok(()) => return Ok(true),
+            Err(error) if error.kind() == ErrorKind::Interrupted => continue,
+            Err(error) if has_no_locks(&error) => return Ok(false),
+            Err(error) => return Err(error),
+        }
+    }
+}
+
+/// The errors of a system, or a file system, without locks on folders: a bad descriptor, an invalid argument, no locks, no such
+/// call, not supported.
+const NO_LOCKS: &[i32] = if cfg!(any(target_os = "linux", target_os = "android")) {
+    &[9, 22, 37, 38, 95]
+} else {
+    // Those of macOS and the BSDs.
+    &[9, 22, 45, 77, 78, 102]
+};
+
+fn has_no_locks(error: &io::Error) -> bool {
+    error.kind() == ErrorKind::Unsupported || error.raw_os_error().is_some_and(|number| NO_LOCKS.contains(&number))
+}
+
 /// Is called before each call of the system that changes files. Tests fail here, or end the process.
 #[cfg(not(test))]
 fn step() -> io::Result<()> {
     Ok(())
 }
 
+/// Is called before each wait for a lock. Tests fail here.
+#[cfg(not(test))]
+fn before_lock() -> io::Result<()> {
+    Ok(())
+}
+
 #[cfg(test)]
-use tests::step;
+use tests::{before_lock, step};
 
 #[cfg(test)]
 mod tests {
@@ -785,16 +819,63 @@ mod tests {
         assert_eq!(folder.remainders().len(), 3);
         drop(Folder::enter(&folder.0).unwrap());
         assert_eq!(folder.remainders(), ["mine.7.part"]);
+        // What cannot be removed stays.
+        fs::create_dir(folder.0.join("x.cqi.7.part")).unwrap();
+        fs::write(folder.0.join("y.cqi.7.part"), "x").unwrap();
+        drop(Folder::enter(&folder.0).unwrap());
+        let mut left = folder.remainders();
+        left.sort();
+        assert_eq!(left, ["mine.7.part", "x.cqi.7.part"]);
+    }
+
+    #[test]
+    fn a_folder_without_locks_is_used_without() {
+        let folder = Scratch::new("locks");
+        let part = format!("{CONFIG}.7.part");
+        let lock = File::open(&folder.0).unwrap();
+        lock.lock().unwrap();
+        for number in [9, 22, 95] {
+            LOCK_FAULT.set(Some(number));
+            fs::write(folder.0.join(&part), "x").unwrap();
+            drop(Folder::enter(&folder.0).unwrap());
+            assert_eq!(folder.remainders(), [part.as_str()]);
+            assert_eq!(Saved::load(&folder.0).unwrap().len(), 1);
+            // A save whose record is there is finished nevertheless.
+            let save = Save { process: 7, names: vec![CONFIG.to_owned()] };
+            fs::copy(folder.0.join(CONFIG), folder.0.join(&part)).unwrap();
+            fs::write(folder.0.join(RECORD), save.text()).unwrap();
+            drop(Folder::enter(&folder.0).unwrap());
+            assert_eq!(folder.remainders(), [""; 0]);
+        }
+        LOCK_FAULT.set(Some(13));
+        let refused = Folder::enter(&folder.0).unwrap_err();
+        assert!(matches!(&refused, FolderError::File(path, _) if *path == folder.0), "{refused:?}");
+        LOCK_FAULT.set(None);
     }
 
     #[test]
     fn a_record_that_is_too_long_is_refused() {
         let folder = Scratch::new("record");
-        let names = vec![CONFIG.to_owned(); LARGEST_RECORD as usize / (CONFIG.len() + 1)];
-        let text = Save { process: 1, names }.text();
-        fs::write(folder.0.join(RECORD), &text).unwrap();
-        assert!(text.len() as u64 > LARGEST_RECORD);
+        let text_of = |process| Save { process, names: vec![CONFIG.to_owned(); 104_856] }.text();
+        assert_eq!(text_of(1).len() as u64, LARGEST_RECORD);
+        fs::write(folder.0.join(RECORD), text_of(10)).unwrap();
         assert!(matches!(Folder::enter(&folder.0), Err(FolderError::BadRecord(_))));
+        assert_eq!(folder.remainders(), [RECORD]);
+        fs::write(folder.0.join(RECORD), text_of(1)).unwrap();
+        drop(Folder::enter(&folder.0).unwrap());
+        assert_eq!(folder.remainders(), [""; 0]);
+    }
+
+    #[test]
+    fn a_record_that_is_not_utf_8_is_refused_and_kept() {
+        let folder = Scratch::new("bytes");
+        let bytes = b"cq save 1\n7\n\xff.cqi\nend\n";
+        fs::write(folder.0.join(RECORD), bytes).unwrap();
+        for enter in [Folder::enter, Folder::enter_shared] {
+            let refused = enter(&folder.0).unwrap_err();
+            assert!(matches!(&refused, FolderError::BadRecord(path) if path.ends_with(RECORD)), "{refused:?}");
+            assert_eq!(fs::read(folder.0.join(RECORD)).unwrap(), bytes);
+        }
     }
 
     /// How many steps a child takes before it is killed; none are counted below 0.
@@ -803,6 +884,13 @@ mod tests {
     thread_local! {
         /// How many steps this thread takes before one fails; none are counted below 0.
         static BEFORE_FAULT: Cell<i64> = const { Cell::new(-1) };
+
+        /// The error of the system with which a lock fails in this thread.
+        static LOCK_FAULT: Cell<Option<i32>> = const { Cell::new(None) };
+    }
+
+    pub(super) fn before_lock() -> io::Result<()> {
+        LOCK_FAULT.get().map_or(Ok(()), |number| Err(io::Error::from_raw_os_error(number)))
     }
 
     /// Kills this process if a child has taken all its steps. Fails once if this thread has.
