@@ -24,7 +24,7 @@ const LARGEST_RECORD: u64 = 1_048_576;
 pub enum FolderError {
     /// No queue is in this folder: `init` makes one.
     NoQueue(PathBuf),
-    /// A queue is in this folder already.
+    /// A queue is in this folder already, or this image of one.
     QueueExists(PathBuf),
     /// This is a link, a folder or something else that is no plain file. It was not opened.
     NotPlain(PathBuf),
@@ -38,8 +38,8 @@ pub enum FolderError {
     BadName(PathBuf),
     /// The library refused what this file holds.
     Image(PathBuf, Error),
-    /// The library refused what the folder holds, or what was to be saved.
-    Queue(Error),
+    /// The library refused what this folder or this configuration holds, or what was to be saved here.
+    Queue(PathBuf, Error),
     /// The system refused a call on this file or folder.
     File(PathBuf, io::Error),
 }
@@ -56,8 +56,9 @@ impl fmt::Display for FolderError {
             }
             FolderError::BadRecord(path) => write!(to, "{} is no record of a save", path.display()),
             FolderError::BadName(path) => write!(to, "{}: no cycle of the queue has this name", path.display()),
-            FolderError::Image(path, error) => write!(to, "{}: {error}", path.display()),
-            FolderError::Queue(error) => error.fmt(to),
+            FolderError::Image(path, error) | FolderError::Queue(path, error) => {
+                write!(to, "{}: {error}", path.display())
+            }
             FolderError::File(path, error) => write!(to, "{}: {error}", path.display()),
         }
     }
@@ -66,16 +67,10 @@ impl fmt::Display for FolderError {
 impl std::error::Error for FolderError {
     fn source(&self) -> Option<&(dyn std::error::Error + 'static)> {
         match self {
-            FolderError::Image(_, error) | FolderError::Queue(error) => Some(error),
+            FolderError::Image(_, error) | FolderError::Queue(_, error) => Some(error),
             FolderError::File(_, error) => Some(error),
             _ => None,
         }
-    }
-}
-
-impl From<Error> for FolderError {
-    fn from(error: Error) -> FolderError {
-        FolderError::Queue(error)
     }
 }
 
@@ -346,13 +341,35 @@ impl Folder {
         self.read_plain(name, u64::MAX)
     }
 
-    /// Returns whether a queue is here.
-    pub(crate) fn has_queue(&self) -> bool {
-        fs::symlink_metadata(self.path.join(CONFIG)).is_ok()
+    /// Refuses a folder in which a queue is.
+    pub(crate) fn check_no_queue(&self) -> Result<(), FolderError> {
+        match fs::symlink_metadata(self.path.join(CONFIG)) {
+            Ok(_) => Err(FolderError::QueueExists(self.path.clone())),
+            Err(error) if error.kind() == ErrorKind::NotFound => Ok(()),
+            Err(error) => Err(self.fault(CONFIG)(error)),
+        }
+    }
+
+    /// Refuses a folder in which an image is.
+    pub(crate) fn check_no_image(&self) -> Result<(), FolderError> {
+        let image = self.list()?.into_iter().find(|name| name.ends_with(IMAGE));
+        image.map_or(Ok(()), |name| Err(FolderError::QueueExists(self.path.join(name))))
     }
 
     pub(crate) fn path(&self) -> &Path {
         &self.path
+    }
+
+    /// Returns the error of a folder whose contents the library refused.
+    pub(crate) fn refused(&self) -> impl FnOnce(Error) -> FolderError {
+        let path = self.path.clone();
+        move |error| FolderError::Queue(path, error)
+    }
+
+    /// Returns the error of a configuration that the library refused.
+    pub(crate) fn refused_config(&self) -> impl FnOnce(Error) -> FolderError {
+        let path = self.path.join(CONFIG);
+        move |error| FolderError::Queue(path, error)
     }
 
     pub(crate) fn read_config(&self) -> Result<Config, FolderError> {
@@ -390,7 +407,7 @@ impl Folder {
         list().map_err(|error| FolderError::File(self.path.clone(), error))
     }
 
-    /// Makes the files of the folder these: all of them or none, also if the system stops in between. Those that stay the same
+    /// Makes the files of the folder these: all of them or none, also if the process ends in between. Those that stay the same
     /// are left alone.
     pub(crate) fn save(&mut self, config: &Config, images: Vec<(String, Vec<u8>)>) -> Result<(), FolderError> {
         self.check_place()?;

@@ -1,14 +1,16 @@
 //! A queue in a folder.
 use std::fmt;
-use std::io::ErrorKind;
+use std::io::{self, ErrorKind, Write};
 use std::ops::{Deref, DerefMut};
 use std::path::Path;
 
 use crate::folder::{Config, Folder};
-use crate::{Endpoint, Error, FolderError, Image, Saved, Settings, now};
+use crate::{Endpoint, Error, FolderError, Image, Index, Saved, Settings, now};
 
 impl Saved {
     /// Reads what the files of a folder hold. It changes nothing, and holds the lock only while it reads.
+    ///
+    /// After [`init`] no cycle has begun, so [`Saved::open`] refuses what was read. A [`Journal`] begins the first one.
     ///
     /// # Errors
     ///
@@ -17,19 +19,33 @@ impl Saved {
         Saved::read(&Folder::enter_shared(folder.as_ref())?)
     }
 
-    /// Makes the files of a folder what this holds: all of them or none, also if the system stops in between.
+    /// Makes a queue of what this holds in a folder, which is there already and has none. It makes all files or none, also if
+    /// the process ends in between. What a folder has is changed by a [`Journal`] alone.
     ///
     /// # Errors
     ///
-    /// A file or the folder cannot be written, or a file is no plain one.
+    /// [`FolderError::QueueExists`]: a queue is there, or an image. [`FolderError::Queue`]: [`Saved::open`] refuses what this
+    /// holds, and it is not what [`init`] makes. [`FolderError::File`].
     pub fn save(&mut self, folder: impl AsRef<Path>) -> Result<(), FolderError> {
-        self.write(&mut Folder::enter(folder.as_ref())?)
+        let folder = folder.as_ref();
+        if !self.is_new() {
+            self.open().map_err(|error| FolderError::Queue(folder.to_owned(), error))?;
+        }
+        let mut files = Folder::enter(folder)?;
+        files.check_no_queue()?;
+        files.check_no_image()?;
+        self.write(&mut files)
+    }
+
+    /// Returns whether no cycle has begun, and the positions and the floor are 0.
+    fn is_new(&mut self) -> bool {
+        self.is_empty() && self.floor() == 0 && self.positions().all(|(_, position)| position == Index(0))
     }
 
     fn read(files: &Folder) -> Result<Saved, FolderError> {
         let config = files.read_config()?;
         let names: Vec<&str> = config.positions.iter().map(|(name, _)| name.as_str()).collect();
-        let mut saved = Saved::new(&config.settings, &names)?;
+        let mut saved = Saved::new(&config.settings, &names).map_err(files.refused_config())?;
         for (cycle, name) in files.images(&config)? {
             let path = files.path().join(&name);
             let Some(bytes) = files.read(&name)? else {
@@ -38,7 +54,7 @@ impl Saved {
             saved.add(cycle, &bytes).map_err(|error| FolderError::Image(path, error))?;
         }
         for (name, position) in &config.positions {
-            saved.set_position(name, *position)?;
+            saved.set_position(name, *position).map_err(files.refused_config())?;
         }
         saved.set_floor(config.floor);
         Ok(saved)
@@ -48,7 +64,8 @@ impl Saved {
         let positions = self.positions().map(|(name, position)| (name.to_owned(), position)).collect();
         let config = Config { settings: *self.settings(), floor: self.floor(), positions };
         let images: Result<Vec<Image>, Error> = self.images().collect();
-        let images = images?.into_iter().map(|image| (config.image_name(image.cycle), image.data)).collect();
+        let images = images.map_err(files.refused())?;
+        let images = images.into_iter().map(|image| (config.image_name(image.cycle), image.data)).collect();
         files.save(&config, images)
     }
 }
@@ -59,11 +76,10 @@ impl Saved {
 ///
 /// [`FolderError::QueueExists`], [`FolderError::Queue`] for settings or names outside their limits, [`FolderError::File`].
 pub fn init(folder: impl AsRef<Path>, settings: &Settings, names: &[&str]) -> Result<(), FolderError> {
-    let mut saved = Saved::new(settings, names)?;
-    let mut files = Folder::enter(folder.as_ref())?;
-    if files.has_queue() {
-        return Err(FolderError::QueueExists(files.path().to_owned()));
-    }
+    let folder = folder.as_ref();
+    let mut saved = Saved::new(settings, names).map_err(|error| FolderError::Queue(folder.to_owned(), error))?;
+    let mut files = Folder::enter(folder)?;
+    files.check_no_queue()?;
     saved.write(&mut files)
 }
 
@@ -73,8 +89,8 @@ pub fn init(folder: impl AsRef<Path>, settings: &Settings, names: &[&str]) -> Re
 /// [`Saved::load`] of this folder, also in the same thread. [`Journal::close`] saves what the queue holds. What was appended
 /// since the journal was opened is lost if the process ends before.
 ///
-/// If a journal is dropped, it is saved too, but nobody learns whether that failed. It fails if other endpoints of the queue
-/// are alive then.
+/// Close each journal. One that is dropped is saved only if no other endpoint of the queue is alive. If it is not saved, a line
+/// on the standard error output says why, and all that was appended since it was opened is lost.
 #[derive(Debug)]
 pub struct Journal {
     /// Until the journal is closed.
@@ -94,7 +110,8 @@ impl Journal {
     ///
     /// # Errors
     ///
-    /// The files are no queue of version 2, or cannot be read, or its contents are refused.
+    /// The files are no queue of version 2, or cannot be read. [`Error::BadContents`], as [`FolderError::Queue`]: what they
+    /// hold is refused, also a position or a floor other than 0 without an image.
     pub fn open(folder: impl AsRef<Path>) -> Result<Journal, FolderError> {
         Journal::open_at(folder, now())
     }
@@ -107,7 +124,8 @@ impl Journal {
     pub fn open_at(folder: impl AsRef<Path>, moment: u64) -> Result<Journal, FolderError> {
         let files = Folder::enter(folder.as_ref())?;
         let mut saved = Saved::read(&files)?;
-        let queue = if saved.is_empty() { saved.create(moment)? } else { saved.open()? };
+        let queue = if saved.is_new() { saved.create(moment) } else { saved.open() };
+        let queue = queue.map_err(files.refused())?;
         Ok(Journal { open: Some(Open { number: queue.queue_number(), queue, files }) })
     }
 
@@ -126,26 +144,33 @@ impl Open {
     fn close(mut self) -> Result<(), CloseError> {
         // An endpoint of another queue is here if it was swapped in.
         if self.queue.queue_number() != self.number {
-            return Err(CloseError::new(Error::TwoQueues, Unsaved::Journal(Journal { open: Some(self) })));
+            return Err(self.give_back(Error::TwoQueues));
         }
         match self.queue.stop() {
             Ok(saved) => {
                 let mut stopped = Stopped { saved, files: self.files };
-                stopped.save().map_err(|error| CloseError::new(error, Unsaved::Stopped(stopped)))
+                stopped.save().map_err(|error| CloseError { error, left: Box::new(Unsaved::Stopped(stopped)) })
             }
             Err(refused) => {
                 self.queue = refused.endpoint;
-                Err(CloseError::new(refused.error, Unsaved::Journal(Journal { open: Some(self) })))
+                Err(self.give_back(refused.error))
             }
         }
+    }
+
+    /// Returns the error of a journal that stays open.
+    fn give_back(self, error: Error) -> CloseError {
+        let error = self.files.refused()(error);
+        CloseError { error, left: Box::new(Unsaved::Journal(Journal { open: Some(self) })) }
     }
 }
 
 impl Drop for Journal {
     fn drop(&mut self) {
-        if let Some(Err(error)) = self.open.take().map(Open::close)
-            && let Unsaved::Journal(mut journal) = *error.left
-        {
+        let Some(Err(closed)) = self.open.take().map(Open::close) else { return };
+        // A macro that panics without this output would end the process here.
+        let _ = writeln!(io::stderr(), "linnetshelf: a journal that was dropped is not saved: {closed}");
+        if let Unsaved::Journal(mut journal) = *closed.left {
             // It is not closed a second time.
             journal.open = None;
         }
@@ -178,12 +203,6 @@ pub struct CloseError {
     pub left: Box<Unsaved>,
 }
 
-impl CloseError {
-    fn new(error: impl Into<FolderError>, left: Unsaved) -> CloseError {
-        CloseError { error: error.into(), left: Box::new(left) }
-    }
-}
-
 /// What a journal holds that could not be closed.
 #[derive(Debug)]
 pub enum Unsaved {
@@ -196,8 +215,7 @@ pub enum Unsaved {
 /// What a queue held whose files could not be written. The folder is locked as long as this lives.
 #[derive(Debug)]
 pub struct Stopped {
-    /// What the queue held.
-    pub saved: Saved,
+    saved: Saved,
     files: Folder,
 }
 
@@ -206,9 +224,14 @@ impl Stopped {
     ///
     /// # Errors
     ///
-    /// Those of [`Saved::save`].
+    /// A file or the folder cannot be written, or a file is no plain one.
     pub fn save(&mut self) -> Result<(), FolderError> {
         self.saved.write(&mut self.files)
+    }
+
+    /// Releases the folder, and returns what the queue held.
+    pub fn into_saved(self) -> Saved {
+        self.saved
     }
 }
 

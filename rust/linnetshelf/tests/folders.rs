@@ -9,8 +9,8 @@ use std::os::unix::fs::{PermissionsExt, symlink};
 use std::path::Path;
 use std::process::{self, Command, Stdio};
 use std::sync::mpsc;
-use std::thread;
 use std::time::Duration;
+use std::{env, thread};
 
 use common::{Scratch, names_in, program, run};
 use linnetshelf::{Endpoint, Error, FolderError, ImageFault, Index, Journal, Roll, Saved, Settings, Unsaved, init};
@@ -93,7 +93,7 @@ fn a_journal_in_use_is_given_back() {
     let mut other = journal.split().unwrap();
     other.append(MOMENT, b"kept").unwrap();
     let refused = journal.close().unwrap_err();
-    assert!(matches!(refused.error, FolderError::Queue(Error::InUse)), "{refused:?}");
+    assert!(matches!(&refused.error, FolderError::Queue(path, Error::InUse) if **path == *folder), "{refused:?}");
     let Unsaved::Journal(journal) = *refused.left else { panic!("the queue was stopped") };
     assert!(matches!(File::open(&*folder).unwrap().try_lock_shared(), Err(TryLockError::WouldBlock)));
     drop(other);
@@ -113,6 +113,30 @@ fn a_journal_in_use_that_is_dropped_is_not_saved() {
     File::open(&*folder).unwrap().try_lock().unwrap();
 }
 
+/// What a child does: it is a test, so that this binary can be run for it. Without the variable it does nothing.
+#[test]
+fn child() {
+    let Some(folder) = env::var_os("LINNETSHELF_DROPPED") else { return };
+    let mut journal = Journal::open_at(folder, MOMENT).unwrap();
+    let other = journal.split().unwrap();
+    drop(journal);
+    drop(other);
+}
+
+#[test]
+fn a_journal_that_is_dropped_says_why_it_is_not_saved() {
+    let folder = scratch(&SMALL, &[]);
+    let run = Command::new(env::current_exe().unwrap())
+        .args(["--exact", "child"])
+        .env("LINNETSHELF_DROPPED", &*folder)
+        .output()
+        .unwrap();
+    assert!(run.status.success());
+    let printed = String::from_utf8(run.stderr).unwrap();
+    let why = format!("is not saved: {}: {}", folder.canonicalize().unwrap().display(), Error::InUse);
+    assert_eq!(printed.matches(&why).count(), 1, "{printed}");
+}
+
 #[test]
 fn a_journal_saves_its_own_queue_alone() {
     let folder = scratch(&SMALL, &[]);
@@ -120,7 +144,7 @@ fn a_journal_saves_its_own_queue_alone() {
     let mut own = std::mem::replace(&mut *journal, Endpoint::create(&SMALL, &[], MOMENT).unwrap());
     own.append(MOMENT, b"kept").unwrap();
     let refused = journal.close().unwrap_err();
-    assert!(matches!(refused.error, FolderError::Queue(Error::TwoQueues)), "{refused:?}");
+    assert!(matches!(refused.error, FolderError::Queue(_, Error::TwoQueues)), "{refused:?}");
     let Unsaved::Journal(mut journal) = *refused.left else { panic!("the queue was stopped") };
     *journal = own;
     journal.close().unwrap();
@@ -146,9 +170,115 @@ fn a_save_that_failed_is_tried_again() {
     assert!(matches!(File::open(&*folder).unwrap().try_lock_shared(), Err(TryLockError::WouldBlock)));
     fs::remove_dir(&hindrance).unwrap();
     stopped.save().unwrap();
-    drop(stopped);
+    let mut saved = stopped.into_saved();
+    File::open(&*folder).unwrap().try_lock().unwrap();
+    assert_eq!(texts(&mut saved.open().unwrap()), ["one", "two"]);
     assert_eq!(load(&folder), ["one", "two"]);
     assert_eq!(names_in(&folder), [IMAGE, "20241005.cqi", "queue.cqc"]);
+}
+
+/// A queue with a message on each of two days, which was stopped.
+fn stopped() -> Saved {
+    let mut queue = Endpoint::create(&SMALL, &["a"], MOMENT).unwrap();
+    queue.append(MOMENT, b"one").unwrap();
+    queue.append(MOMENT + DAY, b"two").unwrap();
+    queue.take("a", &mut [0; 8]).unwrap().unwrap();
+    queue.drop_before(20_000).unwrap();
+    queue.stop().unwrap()
+}
+
+/// The bytes of each file.
+fn files_in(folder: &Path) -> Vec<(String, Vec<u8>)> {
+    names_in(folder).into_iter().map(|name| (name.clone(), fs::read(folder.join(name)).unwrap())).collect()
+}
+
+#[test]
+fn a_saved_queue_is_saved_in_a_folder_without_one() {
+    let folder = Scratch::new();
+    stopped().save(&*folder).unwrap();
+    assert_eq!(names_in(&folder), [IMAGE, "20241005.cqi", "queue.cqc"]);
+    let mut saved = Saved::load(&*folder).unwrap();
+    assert_eq!(saved.settings(), &SMALL);
+    assert_eq!(saved.positions().collect::<Vec<_>>(), [("a", Index::new(20_000, 1))]);
+    assert_eq!(saved.floor(), 20_000);
+    assert_eq!(load(&folder), ["one", "two"]);
+    // What has not begun is saved as `init` makes it.
+    let (empty, made) = (Scratch::new(), scratch(&SMALL, &["a"]));
+    Saved::new(&SMALL, &["a"]).unwrap().save(&*empty).unwrap();
+    assert_eq!(files_in(&empty), files_in(&made));
+    Journal::open(&*empty).unwrap().close().unwrap();
+}
+
+#[test]
+fn a_saved_queue_replaces_nothing() {
+    let folder = Scratch::new();
+    stopped().save(&*folder).unwrap();
+    let mut saved = Saved::load(&*folder).unwrap();
+    let mut journal = Journal::open(&*folder).unwrap();
+    journal.append(MOMENT + DAY, b"three").unwrap();
+    journal.close().unwrap();
+    let is_refused = |folder: &Path, saved: &mut Saved, named: &Path| {
+        let before = files_in(folder);
+        let refused = saved.save(folder).unwrap_err();
+        assert!(matches!(&refused, FolderError::QueueExists(path) if path == named), "{refused:?}");
+        assert_eq!(files_in(folder), before);
+    };
+    is_refused(&folder, &mut saved, &folder);
+    assert_eq!(load(&folder), ["one", "two", "three"]);
+    // Nor a queue of version 1, an image alone, or a link.
+    let old = Scratch::new();
+    fs::write(old.join("queue.cqc"), "cq 1\n").unwrap();
+    is_refused(&old, &mut saved, &old);
+    for name in [IMAGE, "20240101.cqi"] {
+        let left = Scratch::new();
+        fs::write(left.join(name), "x").unwrap();
+        is_refused(&left, &mut saved, &left.join(name));
+    }
+    let linked = Scratch::new();
+    symlink(old.join("none"), linked.join("queue.cqc")).unwrap();
+    assert!(matches!(saved.save(&*linked), Err(FolderError::QueueExists(_))));
+    assert_eq!(names_in(&linked), ["queue.cqc"]);
+}
+
+#[test]
+fn what_cannot_be_opened_is_not_saved() {
+    let images: Vec<_> = stopped().images().map(Result::unwrap).collect();
+    let new = || Saved::new(&SMALL, &["a"]).unwrap();
+    let mut ended = new();
+    ended.add(images[0].cycle, &images[0].data).unwrap();
+    let mut above_end = stopped();
+    above_end.set_position("a", Index::new(20_001, 2)).unwrap();
+    let (mut with_position, mut with_floor) = (new(), new());
+    with_position.set_position("a", Index(1)).unwrap();
+    with_floor.set_floor(1);
+    // The year 10000 begins on this day, and no image has a name for it.
+    let mut too_late = new();
+    too_late.add(2_932_897, b"").unwrap();
+    for mut saved in [ended, above_end, with_position, with_floor, too_late] {
+        let folder = Scratch::new();
+        let refused = saved.save(&*folder).unwrap_err();
+        assert!(matches!(&refused, FolderError::Queue(path, Error::BadContents) if **path == *folder), "{refused:?}");
+        assert_eq!(names_in(&folder), [""; 0]);
+    }
+}
+
+#[test]
+fn a_queue_that_has_not_begun_has_no_position_and_no_floor() {
+    let folder = scratch(&SMALL, &["a"]);
+    let config = folder.join("queue.cqc");
+    let text = fs::read_to_string(&config).unwrap();
+    for (from, to) in [("name a 0", "name a 7"), ("cycles 3\n", "cycles 3\nfloor 20000\n")] {
+        let changed = text.replace(from, to);
+        fs::write(&config, &changed).unwrap();
+        let refused = Journal::open_at(&*folder, MOMENT).unwrap_err();
+        assert!(matches!(refused, FolderError::Queue(_, Error::BadContents)), "{refused:?}");
+        assert_eq!(fs::read_to_string(&config).unwrap(), changed);
+        assert_eq!(names_in(&folder), ["queue.cqc"]);
+        if let Some(cq) = program() {
+            let read = Command::new(cq).arg("read").arg(&*folder).output().unwrap();
+            assert_eq!(String::from_utf8(read.stderr).unwrap(), "cq: BadContents\n");
+        }
+    }
 }
 
 #[test]
@@ -229,7 +359,7 @@ fn what_is_no_queue_is_refused() {
     assert!(matches!(Journal::open(&*folder).unwrap_err(), FolderError::NoQueue(_)));
     assert!(matches!(Saved::load(folder.join("none")).unwrap_err(), FolderError::File(..)));
     let wrong = Settings { cells: 1, ..SMALL };
-    assert!(matches!(init(&*folder, &wrong, &[]), Err(FolderError::Queue(Error::BadSettings))));
+    assert!(matches!(init(&*folder, &wrong, &[]), Err(FolderError::Queue(_, Error::BadSettings))));
     assert!(names_in(&folder).is_empty());
     init(&*folder, &SMALL, &["a"]).unwrap();
     assert!(matches!(init(&*folder, &SMALL, &[]), Err(FolderError::QueueExists(_))));
@@ -248,7 +378,9 @@ fn what_is_no_queue_is_refused() {
     assert!(refused().to_string().contains("cq migrate"));
     for wrong in [format!("{text}name a 0\n"), text.replace("spacing 4", "spacing 3")] {
         fs::write(&config, wrong).unwrap();
-        assert!(matches!(refused(), FolderError::Queue(Error::BadSettings)));
+        let refused = refused();
+        assert!(matches!(&refused, FolderError::Queue(path, Error::BadSettings) if *path == config), "{refused:?}");
+        assert!(refused.to_string().contains("queue.cqc: "), "{refused}");
     }
     fs::write(&config, &text).unwrap();
 
@@ -269,7 +401,7 @@ fn what_is_no_queue_is_refused() {
     // No position is above the end.
     fs::write(&config, text.replace("name a 0", &format!("name a {}", Index::new(20_000, 1).0))).unwrap();
     fs::write(folder.join(IMAGE), b"").unwrap();
-    assert!(matches!(Journal::open(&*folder).unwrap_err(), FolderError::Queue(Error::BadContents)));
+    assert!(matches!(Journal::open(&*folder).unwrap_err(), FolderError::Queue(_, Error::BadContents)));
     fs::remove_file(folder.join(IMAGE)).unwrap();
     fs::write(&config, &text).unwrap();
     fs::write(folder.join("queue.save"), "cq save 1\n").unwrap();
