@@ -1,9 +1,9 @@
 -- How C asks for a queue to be made.
-use Rattle.std.specs.Prelude.{◌≡◌, ◌⊎◌, ℕ, List, Some, slice_get}
+use Rattle.std.specs.Prelude.{◌≡◌, ◌≢◌, ◌⊎◌, ℕ, List}
 use Rattle.std.specs.List.{AllByRecursion}
 use Rattle.std.specs.Str.{IsUtf8}
 use Rattle.cq_cycle.specs.declared.roll.Roll.{Roll}
-use Rattle.cq_cycle.specs.declared.roll.TheConstants.{ROLLS}
+use Rattle.cq_cycle.specs.declared.roll.Roll.TheVariants as roll
 use Rattle.cq_layout.specs.Shape.{measures}
 use Rattle.cq_model.specs.Settings.{IsLawfulSettings, new_settings}
 use Rattle.cq_model.specs.Settings as model
@@ -12,13 +12,15 @@ use Rattle.linnetshelf.specs.declared.settings.Settings.{Settings}
 use Rattle.linnetshelf.specs.declared.status.Status.{Status}
 use Rattle.linnetshelf.specs.declared.status.Status.TheVariants as status
 
--- C has this number for the roll: its place in the list of rolls
-abbrev pub HasNumber : Roll → ℕ → Type 0
-HasNumber way number = slice_get ROLLS number ≡ Some way
+-- the number that C has for a roll
+abbrev pub roll_number : Roll → ℕ
+roll_number roll.Daily = 0
+roll_number roll.Hourly = 1
+roll_number roll.Minutely = 2
 
 -- no roll has this number
 abbrev pub HasNoRoll : ℕ → Type 0
-HasNoRoll number = (way : Roll) → ¬ HasNumber way number
+HasNoRoll number = (way : Roll) → roll_number way ≢ number
 
 -- these settings with this roll, and the lines of a text as names
 abbrev pub asked : Settings → Roll → List ℕ → model.Settings
@@ -28,12 +30,12 @@ asked s way text =
 -- what is asked for, with the roll that has the number
 pub record IsAsked (s : Settings) (text : List ℕ) (made : model.Settings) : Type 0 where
   pub way : Roll
-  pub numbered : HasNumber way s.roll
+  pub numbered : roll_number way ≡ s.roll
   pub made_is : made ≡ asked s way text
 
 -- a queue of these settings may be, and its names are texts
 pub record CanBeMade (s : Settings) (way : Roll) (text : List ℕ) : Type 0 where
-  pub numbered : HasNumber way s.roll
+  pub numbered : roll_number way ≡ s.roll
   pub texts : AllByRecursion IsUtf8 (input_lines text)
   pub lawful : IsLawfulSettings (asked s way text)
 

@@ -3,7 +3,7 @@ ghost use Rattle.std.specs.Prelude.{◌≡◌, ◌++◌, ◌∷◌, [], IfErr, I
 ghost use Rattle.std.specs.Str.{IsUtf8};
 ghost use Rattle.cq_model.specs.Settings.{texts};
 ghost use Rattle.cq_text.specs.Lines.{input_lines};
-ghost use Rattle.linnetshelf.specs.Asked.{HasNoNames, HasNoRoll, HasNumber, IsAsked, IsNoName, IsNotMade};
+ghost use Rattle.linnetshelf.specs.Asked.{HasNoNames, HasNoRoll, IsAsked, IsNoName, IsNotMade, roll_number};
 ghost use Rattle.linnetshelf.specs.declared.status.Status.TheVariants.{OutOfMemory};
 
 use crate::status::Status;
@@ -55,10 +55,17 @@ pub(crate) fn config_of(alloc: Global, settings: &Settings, names: &[u8]) -> Res
 
 /// Returns the roll that has this number for C.
 fn roll_of(number: u32) -> Option<Roll>
-    ensures found { IfSome result (λ roll. HasNumber roll number) }
+    ensures found { IfSome result (λ roll. roll_number roll ≡ number) }
     ensures none { IfNone result (HasNoRoll number) }
 {
-    ROLLS.get(number as usize).copied()
+    ROLLS.into_iter().find(|roll| number_of(*roll) == number)
+}
+
+/// Returns the number that C has for a roll.
+fn number_of(roll: Roll) -> u32
+    ensures { result ≡ roll_number roll }
+{
+    roll as u32
 }
 
 /// Makes names of the lines of a text.

@@ -1,4 +1,4 @@
-ghost use Rattle.std.specs.Prelude.{◌≡◌, ◌≤◌, IfNone, IfSome, length};
+ghost use Rattle.std.specs.Prelude.{◌≡◌, ◌≢◌, IfNone, IfSome};
 ghost use Rattle.linnetshelf.specs.Statuses.{number};
 
 /// How a call went. C has its number, which is its place in this list, from 0.
@@ -195,7 +195,7 @@ impl Status {
     /// Returns the status of a number, if one has it.
     pub fn of_number(asked: u32) -> Option<Status>
         ensures found { IfSome result (λ status. number status ≡ asked) }
-        ensures none { IfNone result (length STATUSES ≤ asked) }
+        ensures none { IfNone result ((status : Status) → number status ≢ asked) }
     {
         let (status, _) = STATUSES.get(asked as usize)?;
         Some(*status)
