@@ -18,6 +18,8 @@ use std::{env, fs, process};
 enum Step {
     /// Puts a file with this text, by the system's own call.
     Put(&'static str, &'static str),
+    /// Puts a save record that names a file, and then "1.cqi" this many times.
+    PutRecord(&'static str, usize),
     /// Makes a link to a file.
     Link(&'static str, &'static str),
     /// Makes a folder.
@@ -185,6 +187,7 @@ where
     let alloc = rt.alloc();
     match *step {
         Step::Put(name, text) => put(rt, path, name, text),
+        Step::PutRecord(first, count) => put_record(rt, path, first, count),
         Step::Link(name, to) => link(rt, path, name, to),
         Step::Make(name) => make(rt, path, name),
         Step::Remove => removed(rt, path),
@@ -220,6 +223,17 @@ fn within(alloc: Global, path: &str, name: &str) -> Result<String, AllocError> {
 fn put<R: Files + AllocGlobal>(rt: &R, path: &str, name: &str, text: &str) -> Result<String, Fail> {
     fs::write(rt, within(rt.alloc(), path, name)?.as_str(), text)?;
     Ok(String::new(rt.alloc()))
+}
+
+fn put_record<R: Files + AllocGlobal>(
+    rt: &R,
+    path: &str,
+    first: &str,
+    count: usize,
+) -> Result<String, Fail> {
+    let names = "1.cqi\n".repeat(rt.alloc(), count)?;
+    let text = format!(in rt.alloc(); "cq save 1\n9\n{first}\n{names}end\n")?;
+    put(rt, path, "queue.save", text.as_str())
 }
 
 fn link<R: Files + AllocGlobal>(rt: &R, path: &str, name: &str, to: &str) -> Result<String, Fail> {
@@ -503,6 +517,16 @@ static FAULTY: [(Step, &str); 31] = [
     (Step::Listed, "1.cqi.9.part queue.save "),
 ];
 
+/// A record has at most 1,048,576 bytes. The first one here has as many, and the second one byte more.
+static LARGEST: [(Step, &str); 6] = [
+    (Step::PutRecord("1.cqi", 174_759), ""),
+    (Step::Begin(Access::Shared), ""),
+    (Step::End, ""),
+    (Step::PutRecord("11.cqi", 174_759), ""),
+    (Step::Begin(Access::Shared), "Device"),
+    (Step::Begin(Access::Alone), "Device"),
+];
+
 /// A link or a folder in the place of a file is neither read nor replaced, and a link in the place of a part is not
 /// followed.
 static LINKS: [(Step, &str); 15] = [
@@ -623,6 +647,7 @@ movie.part queue.cqc queue.cqc..part queue.cqc.part queue.cqc7.part queue.save.o
 fn what_a_stopped_save_left_is_finished_or_removed(rt: HostRuntime) -> Result<(), Fail> {
     expect_steps(&rt, "stopped", &STOPPED)?;
     expect_steps(&rt, "faulty", &FAULTY)?;
+    expect_steps(&rt, "largest", &LARGEST)?;
     expect_steps(&rt, "swept", &SWEPT)
 }
 

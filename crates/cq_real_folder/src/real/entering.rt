@@ -24,7 +24,7 @@ impl<'a, R: Files<File = File> + AllocGlobal + Clone + Drop> RealFolder<'a, R> {
         let lock = self.locked(access)?;
         let is_held = lock.is_held;
         self.lock = Some(lock);
-        self.record = self.standing(alloc)?;
+        self.record = self.record_there(alloc)?;
         if access == Access::Alone {
             self.settle()?;
             // Without locks, a part may be that of a process that is running.
@@ -55,16 +55,20 @@ impl<'a, R: Files<File = File> + AllocGlobal + Clone + Drop> RealFolder<'a, R> {
         Lock::of(File::open(self.rt, self.path.as_str())?, access)
     }
 
-    /// Returns the record that is there.
-    fn standing(&self, alloc: Global) -> io::Result<Option<Record>> {
+    /// Returns the record that is there. A file of that name that is no record, or too long for one, is an error.
+    fn record_there(&self, alloc: Global) -> io::Result<Option<Record>> {
         let path = self.path_of(RECORD_FILE)?;
-        match self.read_plain(alloc, path.as_str(), MOST_RECORD_BYTES) {
-            Ok(text) => match Record::read(alloc, text.as_slice())? {
-                Some(record) => Ok(Some(record)),
-                None => Err(io::Error::from(ErrorKind::InvalidData)),
-            },
-            Err(error) if error.kind() == ErrorKind::NotFound => Ok(None),
-            Err(error) => Err(error),
+        let text = match self.read_plain(alloc, path.as_str(), MOST_RECORD_BYTES) {
+            Ok(text) => text,
+            Err(error) if error.kind() == ErrorKind::NotFound => return Ok(None),
+            Err(error) => return Err(error),
+        };
+        if text.len() > MOST_RECORD_BYTES {
+            return Err(io::Error::from(ErrorKind::InvalidData));
+        }
+        match Record::read(alloc, text.as_slice())? {
+            Some(record) => Ok(Some(record)),
+            None => Err(io::Error::from(ErrorKind::InvalidData)),
         }
     }
 
