@@ -15,7 +15,7 @@ use Rattle.cq_tail.specs.declared.error.TakeFault.TheVariants as take
 use Rattle.cq_files.specs.declared.opening.CycleImage.{CycleImage}
 use Rattle.cq_files.specs.declared.opening.SavedQueue.{SavedQueue}
 use Rattle.cq_files.specs.FolderFaults.{IsQueueFault, IsSaveFault, TellsFile}
-use Rattle.cq_commands.specs.Messages.{IsReadOut, IsStart}
+use Rattle.cq_commands.specs.Messages.{IsReadOut, IsReadStart}
 use Rattle.cq_files.specs.Queue.{CanBeOpened, HoldQueue, IsLawfulQueue, contents_in}
 use Rattle.cq_text.specs.declared.fault.ToolFault.{ToolFault}
 use Rattle.cq_text.specs.declared.fault.ToolFault.TheVariants.{OutOfMemory, Refused, WriteFault, BadIndex, BadContents, NoSuchName}
@@ -67,7 +67,7 @@ IsNoIndex word = (index : ℕ) → index < 2 ^ 64 → word ≢ index_text index
 -- why messages are not read: the word is no index; else the queue is not opened; else the lines are not written
 abbrev pub IsReadFault : Bool → Option (List ℕ) → Files → ToolFault → Type 0
 IsReadFault back from files fault = ((fault ≡ BadIndex) × IsSomeAnd from IsNoIndex)
-    ⊎ (((start : ℕ) × IsStart back from start × IsOpenFault files fault)
+    ⊎ (((start : ℕ) × IsReadStart back from start × IsOpenFault files fault)
     ⊎ ((fault ≡ WriteFault) × ((text : List ℕ) × IsReadOut back from (Some files) text)))
 
 -- memory ran out, or no such name is declared

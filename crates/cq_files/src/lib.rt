@@ -6,7 +6,7 @@
 //! | `init` | makes a queue in a folder |
 //! | `check`, `dump`, `salvage` | print the state, the records, and the messages of images |
 //! | `migrate` | makes a folder of version 1 into one of version 2 |
-//! | `open_queue` | reads a folder's queue: `Kept`, `SavedQueue`, `CycleImage`, `ImageFile`, `SeenMessages` |
+//! | `open_queue` | reads a folder's queue: `Retain`, `SavedQueue`, `CycleImage`, `ImageFile`, `SeenMessages` |
 //! | `save`, `write_file` | save images, and a file |
 //! | `print_outside` | writes the output of a command that has left the folder |
 //! | `has_name`, `MOST_FILE_BYTES` | whether a file has a name, and the limit of a file's bytes |
@@ -35,6 +35,6 @@ pub use dumping::dump;
 pub use files::{MOST_FILE_BYTES, has_name, print_outside, write_file};
 pub use initialising::init;
 pub use migrating::migrate;
-pub use opening::{CycleImage, ImageFile, Kept, SavedQueue, SeenMessages, open_queue};
+pub use opening::{CycleImage, ImageFile, Retain, SavedQueue, SeenMessages, open_queue};
 pub use salvaging::salvage;
 pub use saving::save;
