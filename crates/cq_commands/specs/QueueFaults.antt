@@ -48,13 +48,13 @@ pub record HoldsBadContents (files : Files) : Type 0 where
   pub queue : SavedQueue
   pub lawful : IsLawfulQueue queue
   pub held : HoldQueue queue files
-  pub bad : ¬ CanBeOpened queue.saved.config (contents_in queue)
+  pub bad : ¬ CanBeOpened queue.config (contents_in queue)
 
 -- the files are those of the queue, and it can be opened
 pub record HoldOpenable (queue : SavedQueue) (files : Files) : Type 0 where
   pub lawful : IsLawfulQueue queue
   pub held : HoldQueue queue files
-  pub openable : CanBeOpened queue.saved.config (contents_in queue)
+  pub openable : CanBeOpened queue.config (contents_in queue)
 
 -- why a folder's queue is not opened: the folder is at fault, or the queue cannot be opened
 abbrev pub IsOpenFault : Files → ToolFault → Type 0
@@ -79,8 +79,8 @@ IsNameFault settings name fault = (fault ≡ OutOfMemory) ⊎ ((fault ≡ NoSuch
 pub record RefusesName (name : List ℕ) (files : Files) (fault : ToolFault) : Type 0 where
   pub queue : SavedQueue
   pub opened : HoldOpenable queue files
-  pub cause : ((fault ≡ NoSuchName) × ¬ Declares queue.saved.config name)
-      ⊎ (Declares queue.saved.config name × IsSaveFault fault × TellsFile (λ file. file ≡ CONFIG_FILE.now) fault)
+  pub cause : ((fault ≡ NoSuchName) × ¬ Declares queue.config name)
+      ⊎ (Declares queue.config name × IsSaveFault fault × TellsFile (λ file. file ≡ CONFIG_FILE.now) fault)
 
 -- why no message is taken: the queue is not opened, or it is and the name is at fault, or what was taken
 abbrev pub IsTakeFault : List ℕ → Files → ToolFault → Type 0

@@ -119,7 +119,7 @@ IsEndFault images _ = ⊥
 pub record EndsWrongly (files : Files) (file : List ℕ) : Type 0 where
   pub queue : SavedQueue
   pub held : HoldQueue queue files
-  pub lawful : AllByRecursion (IsLawfulImage queue.saved.config) queue.images.items
+  pub lawful : AllByRecursion (IsLawfulImage queue.config) queue.images.items
   pub first : EndsWronglyIn queue.images.items file
 
 -- what the files have to do with a fault that they are reported to have; of a fault of the device that lists them, and of
