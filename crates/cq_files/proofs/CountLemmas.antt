@@ -34,6 +34,12 @@ counts_passed before now fault (Err passed) counts is = record {
   device = λ device. counts.device (subst IsDeviceFault is device);
 }
 
+-- so does one of a later call
+pub counts_behind : {T U : Type 0} (before middle now : ℕ) (fault : ToolFault) (result : Result U ToolFault) → before ≤ middle
+    → CountsFaults {T = T} middle now (Err fault) → IsErrAnd result (λ passed. passed ≡ fault) → CountsFaults before now result
+counts_behind before middle now fault result low counts is =
+    counts_passed before now fault result (counts_from before middle now (Err fault) low counts) is
+
 -- want of memory that is passed on
 pub counts_scarce : {T : Type 0} (before now : ℕ) (result : Result T ToolFault) → before ≤ now
     → IsErrAnd result (λ passed. passed ≡ OutOfMemory) → CountsFaults before now result

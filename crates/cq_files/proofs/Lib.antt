@@ -2,6 +2,7 @@ pub mod NameLemmas
 pub mod QueueLemmas
 pub mod CauseLemmas
 pub mod OrderLemmas
+pub mod ReadLemmas
 pub mod SavingLemmas
 pub mod WritingLemmas
 pub mod CheckLemmas

@@ -1,8 +1,9 @@
 -- Why nothing is shown of a file, and what is.
-use Rattle.std.proofs.Common.{◌≡◌, ◌≢◌, ◌⊎◌, ◌∙◌, Bool, Global, ℕ, List, ap, inl, inr, subst, sym, true, false}
+use Rattle.std.proofs.Common.{◌≡◌, ◌≢◌, ◌⊎◌, ◌∙◌, ◌≤◌, Bool, Global, ℕ, List, ap, arith, inl, inr, refl, subst, sym, true, false}
 use Rattle.std.specs.Prelude.{String, Option, None, Some, IfErr, IfSome, IsErrAnd, IsSomeAnd, Result, Ok, Err, string_bytes}
 use Rattle.std.specs.Prelude.{OnErr, OnOk}
-use Rattle.std.specs.Io.KnownBytes.{Appends}
+use Rattle.std.specs.Io.KnownBytes.{Appends, Keeps}
+use Rattle.std.proofs.KnownBytes.{Keeps-refl}
 use Rattle.std.proofs.lemmas.Result.{on_ok_weaker}
 use Rattle.cq_model.specs.Settings.{IsLawfulSettings, Settings, texts}
 use Rattle.cq_config_text.specs.ConfigText.{IsTextOf}
@@ -17,8 +18,10 @@ use Rattle.cq_files.specs.Queue.{IsImageFile, IsImageName, ListsImages}
 use Rattle.cq_files.specs.Shown.{IsGiven, IsShown}
 use Rattle.cq_files.specs.declared.given.GivenImage.{GivenImage}
 use Rattle.cq_files.specs.declared.opening.QueueFolder.{QueueFolder}
-use Rattle.cq_files.proofs.CauseLemmas.{has_settings}
-use Rattle.cq_files.proofs.QueueLemmas.{is_named, named, shown_before, unnamed}
+use Rattle.cq_files.specs.Counted.{CountsFaults}
+use Rattle.cq_files.proofs.CauseLemmas.{cause_with, has_settings}
+use Rattle.cq_files.proofs.CountLemmas.{counts_behind, counts_passed, counts_printed}
+use Rattle.cq_files.proofs.QueueLemmas.{is_named, keeps-trans, named, shown_before, unnamed}
 
 -- a folder that was opened: its settings, and the names of its images
 pub record Opened (files : Option Files) (settings : Settings) (names : List (String Global)) : Type 0 where
@@ -172,3 +175,84 @@ pub others_silent : {T : Type 0} (P : Type 0) (result : Result T ToolFault) → 
     → IfErr result (λ fault. fault ≢ WriteFault → P)
 others_silent P (Ok value) is = tt
 others_silent P (Err fault) is = λ other. absurd (other is)
+
+-- how a command ends that only prints a text
+pub record EndsShowing {T : Type 0} (before after : Option Files) (old new : Option (List ℕ)) (was now : ℕ) (IsText : List ℕ → Type 0)
+    (IsCause : Files → ToolFault → Type 0) (result : Result T ToolFault) : Type 0 where
+  pub printed : OnOk result ((text : List ℕ) × IsText text × Appends old new text)
+  pub cause : IfErr result (λ fault. IfSome before (λ files. IsCause files fault))
+  pub kept : KeepsFiles before after
+  pub silent : IfErr result (λ fault. fault ≢ WriteFault → Keeps old new)
+  pub broken : IfErr result (λ fault. fault ≡ WriteFault → (text : List ℕ) × IsText text × AppendsBeginning old new text)
+  pub counted : CountsFaults was now result
+
+-- a fault that is passed on before anything is printed
+pub nothing_shown : {T : Type 0} (before after : Option Files) (output : Option (List ℕ)) (was now : ℕ) (IsText : List ℕ → Type 0)
+    (IsCause : Files → ToolFault → Type 0) (result : Result T ToolFault) (fault : ToolFault)
+    → IsErrAnd result (λ passed. passed ≡ fault) → fault ≢ WriteFault → IfSome before (λ files. IsCause files fault)
+    → KeepsFiles before after → CountsFaults was now result
+    → EndsShowing before after output output was now IsText IsCause result
+nothing_shown before after output was now IsText IsCause (Ok value) fault is other cause kept counts = absurd is
+nothing_shown before after output was now IsText IsCause (Err passed) fault is other cause kept counts = record {
+  printed = tt;
+  cause = subst (λ (fault : ToolFault). IfSome before (λ files. IsCause files fault)) (sym is) cause;
+  kept = kept;
+  silent = λ unprinted. Keeps-refl output;
+  broken = λ same. absurd (other (sym is ∙ same));
+  counted = counts;
+}
+
+-- the image that a command is given, of which such faults come where it is not read, and this is shown
+module _ (IsFault : List ℕ → ToolFault → Type 0) (Shows : Settings → List ℕ → List ℕ → Files → Type 0) (before : Option Files) (file : List ℕ) where
+  -- why it is not shown: it is not read; else the lines are not written
+  abbrev IsUnshown : Settings → Files → ToolFault → Type 0
+  IsUnshown settings files fault = (IsFault file fault × HasCause files fault)
+      ⊎ ((fault ≡ WriteFault) × ((text : List ℕ) × Shows settings file text files))
+
+  abbrev Showing : {T : Type 0} → Option Files → Option (List ℕ) → Option (List ℕ) → ℕ → ℕ → Result T ToolFault → Type 0
+  Showing after old new was now result =
+      EndsShowing before after old new was now (IsShown Shows file before) (λ files fault. IsShowFault IsUnshown file files fault) result
+
+  -- no image is given
+  pub ends_ungiven : {T U : Type 0} (after : Option Files) (output : Option (List ℕ)) (was now : ℕ) (result : Result T ToolFault)
+      (fault : ToolFault) → IsErrAnd result (λ passed. passed ≡ fault) → fault ≢ WriteFault
+      → IfSome before (λ files. IsShowFault IsNoFault file files fault) → KeepsFiles before after
+      → CountsFaults {T = U} was now (Err fault) → Showing after output output was now result
+  ends_ungiven after output was now result fault is other cause kept counts =
+      nothing_shown before after output was now _ _ result fault is other (not_given IsUnshown before file fault cause) kept
+      (counts_passed was now fault result counts is)
+
+  module _ (middle after : Option Files) (was between now : ℕ) (given : GivenImage) (is_given : IsGiven file before given)
+      (kept : KeepsFiles before middle) (later : was ≤ between) where
+    -- it is not read
+    pub ends_unread : {T U : Type 0} (output : Option (List ℕ)) (result : Result T ToolFault) (fault : ToolFault)
+        → IsErrAnd result (λ passed. passed ≡ fault) → fault ≢ WriteFault → IsFault (string_bytes given.image.name) fault
+        → IfSome middle (λ files. HasSettings files given.saved.config → HasCause files fault) → KeepsFiles middle after
+        → CountsFaults {T = U} between now (Err fault) → Showing after output output was now result
+    ends_unread output result fault is other why cause kept_too counts =
+        nothing_shown before after output was now _ _ result fault is other
+        (given_refused IsUnshown before file given fault is_given
+        (not_read IsFault (λ files. (fault ≡ WriteFault) × ((text : List ℕ) × Shows given.saved.config file text files)) before
+        (string_bytes given.image.name) file fault is_given.spelled why
+        (cause_with before middle given.saved.config fault kept
+        (has_settings before given.saved.config given.saved.positions.items given.saved.floor is_given.config) cause)))
+        (keeps-trans before middle after kept kept_too) (counts_behind was between now fault result later counts is)
+
+    -- it is, and its lines are written, or a beginning of them
+    pub ends_shown : {T : Type 0} (old new : Option (List ℕ)) (result : Result T ToolFault) (text printed : List ℕ) → printed ≡ text
+        → IfSome middle (Shows given.saved.config (string_bytes given.image.name) text) → KeepsFiles middle after → between ≤ now
+        → OnOk result (Appends old new printed) → IfErr result (λ fault. fault ≡ WriteFault) → OnErr result (AppendsBeginning old new printed)
+        → Showing after old new was now result
+    ends_shown old new result text printed same shown kept_too counted written fault begun =
+        let lines : IsShown Shows file before printed = given_shown Shows before middle file text printed given is_given kept same shown in
+        record {
+          printed = printed_as (IsShown Shows file before) old new printed result lines written;
+          cause = of_fault result WriteFault (λ fault. IfSome before (λ files. IsShowFault IsUnshown file files fault)) fault
+              (given_refused IsUnshown before file given WriteFault is_given
+              (unwritten (λ files. IsFault file WriteFault × HasCause files WriteFault) Shows before given.saved.config file text WriteFault refl
+              (shown_before Shows before middle given.saved.config (string_bytes given.image.name) file text text kept is_given.spelled refl shown)));
+          kept = keeps-trans before middle after kept kept_too;
+          silent = others_silent (Keeps old new) result fault;
+          broken = cut_short_as (IsShown Shows file before) old new printed result lines begun;
+          counted = counts_printed was now result (omega (arith, later, counted)) fault;
+        }

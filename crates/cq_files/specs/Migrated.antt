@@ -21,7 +21,7 @@ use Rattle.cq_files.specs.declared.files.TheConstants.{MOST_FILE_BYTES}
 use Rattle.cq_files.specs.declared.opening.CycleImage.{CycleImage}
 use Rattle.cq_files.specs.declared.opening.ImageFile.{ImageFile}
 use Rattle.cq_files.specs.FolderFaults.{EndsWronglyIn, HasCause, HasSettings, HasVersion, IsFirstFault, IsFolderFault, IsLimitFault, IsReached, TellsFile}
-use Rattle.cq_files.specs.Queue.{HaveEnds, IsImageName, ListsImages, file_of}
+use Rattle.cq_files.specs.Queue.{AreImageFiles, HaveEnds, IsImageName, ListsImages, file_of}
 use Rattle.cq_files.specs.Saved.{first_file}
 
 -- the same settings in version 2, with 3 more cells a cycle
@@ -144,10 +144,20 @@ IsMovingFault settings files (FaultyImage file fault) =
 IsMovingFault settings files (WrongEnd file) = EndsWronglyInEither settings files (string_bytes file)
 IsMovingFault settings files _ = ⊥
 
+-- why these images, of a folder with these settings, are not moved
+abbrev pub IsMovingFaultOf : Settings → List ImageFile → Option Files → ToolFault → Type 0
+IsMovingFaultOf settings images held fault = IfSome held (λ files. HasSettings files settings → IsLawfulSettings settings
+    → AreImageFiles settings images files → IsMovingFault settings files fault)
+
 -- why a folder of version 1 that has these settings is not moved: the limits of version 2; else its images
 abbrev pub IsMoveFault : Settings → Files → ToolFault → Type 0
 IsMoveFault settings files fault = IsLimitFault (moved_settings settings) fault
     ⊎ (IsLawfulSettings (moved_settings settings) × IsMovingFault settings files fault)
+
+-- why a folder with these settings and images is not moved
+abbrev pub IsMoveFaultOf : Settings → List (List ℕ) → Option Files → ToolFault → Type 0
+IsMoveFaultOf settings names held fault = IfSome held (λ files. HasSettings files settings → IsLawfulSettings settings
+    → ListsImages names files → IsMoveFault settings files fault)
 
 -- the folder is of version 1 and not moved
 pub record RefusesMove (files : Files) (fault : ToolFault) : Type 0 where
