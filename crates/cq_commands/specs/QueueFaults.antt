@@ -9,16 +9,16 @@ use Rattle.cq_layout.specs.declared.refusal.Refusal.TheVariants.{BadRoom, CycleF
 use Rattle.cq_journal.specs.Journals.{Declares}
 use Rattle.cq_image.specs.Image.{AreNext}
 use Rattle.cq_folder.specs.Folder.{Files}
-use Rattle.cq_folder.specs.declared.names.TheConstants.{CONFIG_FILE}
 use Rattle.cq_tail.specs.declared.error.TakeFault.{TakeFault}
 use Rattle.cq_tail.specs.declared.error.TakeFault.TheVariants as take
 use Rattle.cq_files.specs.declared.opening.CycleImage.{CycleImage}
 use Rattle.cq_files.specs.declared.opening.SavedQueue.{SavedQueue}
-use Rattle.cq_files.specs.FolderFaults.{IsQueueFault, IsSaveFault, TellsFile}
+use Rattle.cq_files.specs.FolderFaults.{IsQueueFault, IsSaveFault}
 use Rattle.cq_commands.specs.Messages.{IsReadOut, IsReadStart}
 use Rattle.cq_files.specs.Queue.{CanBeOpened, HoldQueue, IsLawfulQueue, contents_in}
 use Rattle.cq_text.specs.declared.fault.ToolFault.{ToolFault}
 use Rattle.cq_text.specs.declared.fault.ToolFault.TheVariants.{OutOfMemory, Refused, WriteFault, BadIndex, BadContents, NoSuchName}
+use Rattle.cq_commands.specs.Saving.{TellsConfig}
 
 -- the fault of a take
 abbrev pub take_fault : TakeFault → ToolFault
@@ -80,7 +80,7 @@ pub record RefusesName (name : List ℕ) (files : Files) (fault : ToolFault) : T
   pub queue : SavedQueue
   pub opened : HoldOpenable queue files
   pub cause : ((fault ≡ NoSuchName) × ¬ Declares queue.config name)
-      ⊎ (Declares queue.config name × IsSaveFault fault × TellsFile (λ file. file ≡ CONFIG_FILE.now) fault)
+      ⊎ (Declares queue.config name × IsSaveFault fault × TellsConfig fault)
 
 -- why no message is taken: the queue is not opened, or it is and the name is at fault, or what was taken
 abbrev pub IsTakeFault : List ℕ → Files → ToolFault → Type 0
