@@ -1,117 +1,105 @@
 //! What the commands do and print.
-use crate::steps::{Step, expect, push_said_apart, said_by};
-use crate::streams::said;
+use crate::steps::Step::{
+    self, Back, BackFrom, Check, Config, Dump, Length, OldQueue, Queue, Read, ReadFrom, Take, Write,
+};
+use crate::steps::{AFTER_HELLO, AT_START, WRITES_HELLO_WORLD, expect, push_said_apart, said_by};
+use crate::streams::{Said, said};
 use crate::word_tests::words_of;
 use cq_command_line::parse;
 use cq_commands::{Order, run};
-use cq_fixtures::{DAY, expect_text};
-use cq_folder::{Folder, FolderFault, MemoryFolder};
+use cq_fixtures::{DAY, expect_answer};
+use cq_folder::{Folder, MemoryFolder};
 use std::alloc::Global;
 use std::test::Fail;
 
 static KEPT: [(Step, &str); 11] = [
-    (Step::Queue(4), ""),
+    (Queue(4), ""),
+    (Config, AT_START),
+    (Read, ""),
+    (Check, ""),
+    WRITES_HELLO_WORLD,
+    (Length("20241004.cqi"), "136"),
+    (Read, "00004e2000000000 hello\n00004e2000000001 world\n"),
+    (Check, "20241004.cqi: 2 messages, open\n"),
     (
-        Step::Text("queue.cqc"),
-        "cq 2\nroll daily\nepoch 0\ncells 64\ncount 8\nspacing 1\ncycles 4\nname reader 0\n",
-    ),
-    (Step::Read(false, None), ""),
-    (Step::Check, ""),
-    (
-        Step::Write(1_728_000_000_000, b"hello\nworld\n"),
-        "00004e2000000000\n00004e2000000001\n",
-    ),
-    (Step::Length("20241004.cqi"), "136"),
-    (
-        Step::Read(false, None),
-        "00004e2000000000 hello\n00004e2000000001 world\n",
-    ),
-    (Step::Check, "20241004.cqi: 2 messages, open\n"),
-    (
-        Step::Dump("20241004.cqi"),
+        Dump("20241004.cqi"),
         "00000000 40000024 store 2 20000 8 1 64 0 86400000\n00000028 40000020 top 76 0 0 0 0 0 0 0\n\
 0000004c 40000020 table 0 112 124 0 0 0 0 0 0\n00000070 00000005 data 0 68656c6c6f\n\
 0000007c 00000005 data 1 776f726c64\n",
     ),
-    (Step::Take("reader"), "00004e2000000000 hello\n"),
-    (
-        Step::Text("queue.cqc"),
-        "cq 2\nroll daily\nepoch 0\ncells 64\ncount 8\nspacing 1\ncycles 4\nname reader 85899345920001\n",
-    ),
+    (Take("reader"), "00004e2000000000 hello\n"),
+    (Config, AFTER_HELLO),
 ];
 
 static ROLLED: [(Step, &str); 8] = [
-    (Step::Queue(2), ""),
-    (Step::Write(0, b"a\n"), "0000000000000000\n"),
+    (Queue(2), ""),
+    (Write(0, b"a\n"), "0000000000000000\n"),
     (
-        Step::Write(5 * DAY, b"b\nc"),
+        Write(5 * DAY, b"b\nc"),
         "0000000500000000\n0000000500000001\n",
     ),
-    (Step::Write(9 * DAY, b"d\n"), "cq: line 1: NoCycleLeft"),
-    (Step::Write(9 * DAY, b"\nd\n"), "cq: line 1: BadRoom"),
-    (Step::Write(9 * DAY, b""), ""),
+    (Write(9 * DAY, b"d\n"), "cq: line 1: NoCycleLeft"),
+    (Write(9 * DAY, b"\nd\n"), "cq: line 1: BadRoom"),
+    (Write(9 * DAY, b""), ""),
     // A moment before the last cycle appends there.
-    (Step::Write(3 * DAY, b"d\n"), "0000000500000002\n"),
+    (Write(3 * DAY, b"d\n"), "0000000500000002\n"),
     (
-        Step::Check,
+        Check,
         "19700101.cqi: 1 messages, ended\n19700106.cqi: 3 messages, open\n",
     ),
 ];
 
 /// With "a" in cycle 0, and "b", "c" and "d" in cycle 5.
 static READ: [(Step, &str); 11] = [
-    (Step::Queue(2), ""),
-    (Step::Write(0, b"a\n"), "0000000000000000\n"),
+    (Queue(2), ""),
+    (Write(0, b"a\n"), "0000000000000000\n"),
     (
-        Step::Write(5 * DAY, b"b\nc\nd\n"),
+        Write(5 * DAY, b"b\nc\nd\n"),
         "0000000500000000\n0000000500000001\n0000000500000002\n",
     ),
     (
-        Step::Read(false, None),
+        Read,
         "0000000000000000 a\n0000000500000000 b\n0000000500000001 c\n0000000500000002 d\n",
     ),
     (
-        Step::Read(false, Some("0000000000000001")),
+        ReadFrom("0000000000000001"),
         "0000000500000000 b\n0000000500000001 c\n0000000500000002 d\n",
     ),
+    (ReadFrom("0000000500000002"), "0000000500000002 d\n"),
+    (ReadFrom("ffffffffffffffff"), ""),
     (
-        Step::Read(false, Some("0000000500000002")),
-        "0000000500000002 d\n",
-    ),
-    (Step::Read(false, Some("ffffffffffffffff")), ""),
-    (
-        Step::Read(true, None),
+        Back,
         "0000000500000002 d\n0000000500000001 c\n0000000500000000 b\n0000000000000000 a\n",
     ),
     (
-        Step::Read(true, Some("0000000500000001")),
+        BackFrom("0000000500000001"),
         "0000000500000000 b\n0000000000000000 a\n",
     ),
-    (Step::Read(true, Some("0000000000000000")), ""),
+    (BackFrom("0000000000000000"), ""),
     (
-        Step::Read(true, Some("ffffffffffffffff")),
+        BackFrom("ffffffffffffffff"),
         "0000000500000002 d\n0000000500000001 c\n0000000500000000 b\n0000000000000000 a\n",
     ),
 ];
 
 static NO_INDEX: [(Step, &str); 9] = [
-    (Step::Queue(2), ""),
-    (Step::Write(0, b"a\n"), "0000000000000000\n"),
-    (Step::Read(false, Some("")), "cq: BadIndex"),
-    (Step::Read(false, Some("0")), "cq: BadIndex"),
-    (Step::Read(false, Some("000000000000000")), "cq: BadIndex"),
-    (Step::Read(false, Some("00000000000000000")), "cq: BadIndex"),
-    (Step::Read(false, Some("000000000000000G")), "cq: BadIndex"),
-    (Step::Read(false, Some("000000000000000A")), "cq: BadIndex"),
-    (Step::Read(false, Some("+000000000000000")), "cq: BadIndex"),
+    (Queue(2), ""),
+    (Write(0, b"a\n"), "0000000000000000\n"),
+    (ReadFrom(""), "cq: BadIndex"),
+    (ReadFrom("0"), "cq: BadIndex"),
+    (ReadFrom("000000000000000"), "cq: BadIndex"),
+    (ReadFrom("00000000000000000"), "cq: BadIndex"),
+    (ReadFrom("000000000000000G"), "cq: BadIndex"),
+    (ReadFrom("000000000000000A"), "cq: BadIndex"),
+    (ReadFrom("+000000000000000"), "cq: BadIndex"),
 ];
 
 static BEGUN: [(Step, &str); 5] = [
-    (Step::Queue(4), ""),
-    (Step::Write(2 * DAY, b""), ""),
-    (Step::Check, "19700103.cqi: 0 messages, open\n"),
-    (Step::Write(9 * DAY, b""), ""),
-    (Step::Check, "19700103.cqi: 0 messages, open\n"),
+    (Queue(4), ""),
+    (Write(2 * DAY, b""), ""),
+    (Check, "19700103.cqi: 0 messages, open\n"),
+    (Write(9 * DAY, b""), ""),
+    (Check, "19700103.cqi: 0 messages, open\n"),
 ];
 
 #[test]
@@ -122,21 +110,21 @@ fn keeps_what_was_written_and_rolls(rt: HostRuntime) -> Result<(), Fail> {
 }
 
 static DUMPED: [(Step, &str); 7] = [
-    (Step::Queue(4), ""),
-    (Step::Write(0, b"hello\n"), "0000000000000000\n"),
-    (Step::Write(DAY, b"a\n"), "0000000100000000\n"),
+    (Queue(4), ""),
+    (Write(0, b"hello\n"), "0000000000000000\n"),
+    (Write(DAY, b"a\n"), "0000000100000000\n"),
     (
-        Step::Dump("19700101.cqi"),
+        Dump("19700101.cqi"),
         "00000000 40000024 store 2 0 8 1 64 0 86400000\n00000028 40000020 top 76 0 0 0 0 0 0 0\n\
 0000004c 40000020 table 0 112 0 0 0 0 0 0 0\n00000070 00000005 data 0 68656c6c6f\n0000007c c0000000 end\n",
     ),
     (
-        Step::Dump("19700102.cqi"),
+        Dump("19700102.cqi"),
         "00000000 40000024 store 2 1 8 1 64 0 86400000\n00000028 40000020 top 76 0 0 0 0 0 0 0\n\
 0000004c 40000020 table 0 112 0 0 0 0 0 0 0\n00000070 00000001 data 0 61\n",
     ),
-    (Step::Dump("19700103.cqi"), "cq: no such file: 19700103.cqi"),
-    (Step::Dump("queue.cqc"), "cq: no such file: queue.cqc"),
+    (Dump("19700103.cqi"), "cq: no such file: 19700103.cqi"),
+    (Dump("queue.cqc"), "cq: no such file: queue.cqc"),
 ];
 
 #[test]
@@ -156,7 +144,7 @@ pub fn order_of(alloc: Global, line: &str) -> Result<Order, Fail> {
 }
 
 /// What an order writes over a folder, with the input "hello".
-fn ran<F: Folder>(alloc: Global, folder: &mut F, order: &Order) -> Result<String, FolderFault> {
+fn ran<F: Folder>(alloc: Global, folder: &mut F, order: &Order) -> Said {
     let mut output = Vec::new(alloc);
     let mut rest: &[u8] = b"hello\n";
     let done = match order {
@@ -167,18 +155,14 @@ fn ran<F: Folder>(alloc: Global, folder: &mut F, order: &Order) -> Result<String
 }
 
 /// What an order writes over a folder, and what `check` says then.
-fn ran_and_checked<F: Folder>(
-    alloc: Global,
-    folder: &mut F,
-    order: &Order,
-) -> Result<String, FolderFault> {
+fn ran_and_checked<F: Folder>(alloc: Global, folder: &mut F, order: &Order) -> Said {
     let mut said = ran(alloc, folder, order)?;
-    push_said_apart(alloc, folder, &Step::Check, &mut said)?;
+    push_said_apart(alloc, folder, &Check, &mut said)?;
     Ok(said)
 }
 
 /// What an order writes after these steps, and what `check` says then.
-fn ran_after(alloc: Global, before: &[Step], order: &Order) -> Result<String, FolderFault> {
+fn ran_after(alloc: Global, before: &[Step], order: &Order) -> Said {
     let mut folder = MemoryFolder::new(alloc);
     said_by(alloc, &mut folder, before)?;
     ran_and_checked(alloc, &mut folder, order)
@@ -190,10 +174,8 @@ fn line_ran(alloc: Global, before: &[Step], line: &str) -> Result<String, Fail> 
     Ok(ran_after(alloc, before, &order)?)
 }
 
-/// A queue with "hello" in cycle 1.
-const HELLO: &[Step] = &[Step::Queue(4), Step::Write(DAY, b"hello\n")];
-
-static ORDERS: [(&[Step], &str, &str); 13] = [
+/// What is done before, the arguments of a command, and what it and `check` say.
+static ORDERS: [(&[Step], &str, &str); 5] = [
     (&[], "cq|echo", "0 hello\n|cq: no queue here"),
     (
         &[],
@@ -202,55 +184,42 @@ static ORDERS: [(&[Step], &str, &str); 13] = [
     ),
     (&[], "cq|init|q|daily|0|64|8|1|4", "|"),
     (
-        &[Step::Queue(4)],
+        &[Queue(4)],
         "cq|write|q|86400000",
         "0000000100000000\n|19700102.cqi: 1 messages, open\n",
     ),
+    (&[OldQueue(4)], "cq|write|q|86400000", "cq: OldVersion|"),
+];
+
+/// A queue with "hello" in cycle 1.
+const HELLO: &[Step] = &[Queue(4), Write(DAY, b"hello\n")];
+
+/// The arguments of commands over that queue, in which they change no image, and what they say.
+static OVER_HELLO: [(&str, &str); 8] = [
+    ("cq|read|q", "0000000100000000 hello\n"),
+    ("cq|read|q|--back|--from|0000000100000000", ""),
+    ("cq|take|q|reader", "0000000100000000 hello\n"),
+    ("cq|drop|q|1", "1\n"),
+    ("cq|check|q", "19700102.cqi: 1 messages, open\n"),
     (
-        HELLO,
-        "cq|read|q",
-        "0000000100000000 hello\n|19700102.cqi: 1 messages, open\n",
-    ),
-    (
-        HELLO,
-        "cq|read|q|--back|--from|0000000100000000",
-        "|19700102.cqi: 1 messages, open\n",
-    ),
-    (
-        HELLO,
-        "cq|take|q|reader",
-        "0000000100000000 hello\n|19700102.cqi: 1 messages, open\n",
-    ),
-    (HELLO, "cq|drop|q|1", "1\n|19700102.cqi: 1 messages, open\n"),
-    (
-        HELLO,
-        "cq|check|q",
-        "19700102.cqi: 1 messages, open\n|19700102.cqi: 1 messages, open\n",
-    ),
-    (
-        HELLO,
         "cq|dump|q|19700102.cqi",
         "00000000 40000024 store 2 1 8 1 64 0 86400000\n00000028 40000020 top 76 0 0 0 0 0 0 0\n\
-0000004c 40000020 table 0 112 0 0 0 0 0 0 0\n00000070 00000005 data 0 68656c6c6f\n|\
-19700102.cqi: 1 messages, open\n",
+0000004c 40000020 table 0 112 0 0 0 0 0 0 0\n00000070 00000005 data 0 68656c6c6f\n",
     ),
-    (
-        HELLO,
-        "cq|salvage|q|19700102.cqi",
-        "0 hello\nwhole\n|19700102.cqi: 1 messages, open\n",
-    ),
-    (
-        &[Step::OldQueue(4)],
-        "cq|write|q|86400000",
-        "cq: OldVersion|",
-    ),
-    (HELLO, "cq|migrate|q", "|19700102.cqi: 1 messages, open\n"),
+    ("cq|salvage|q|19700102.cqi", "0 hello\nwhole\n"),
+    ("cq|migrate|q", ""),
 ];
 
 #[test]
 fn runs_orders(rt: HostRuntime) -> Result<(), Fail> {
-    for &(before, line, want) in &ORDERS {
-        expect_text(line_ran(rt.alloc(), before, line)?, want)?;
+    for (place, &(before, line, want)) in ORDERS.iter().enumerate() {
+        let said = line_ran(rt.alloc(), before, line)?;
+        expect_answer(line, place, said.as_str(), want)?;
+    }
+    for (place, &(line, said)) in OVER_HELLO.iter().enumerate() {
+        let want = format!(in rt.alloc(); "{said}|19700102.cqi: 1 messages, open\n")?;
+        let said = line_ran(rt.alloc(), HELLO, line)?;
+        expect_answer(line, place, said.as_str(), want.as_str())?;
     }
     Ok(())
 }

@@ -1,9 +1,14 @@
 //! A folder may list its names in any order: commands return the same.
 use crate::falling::FallingFolder;
-use crate::images::{A, HELLO};
-use crate::steps::{Step, Steps, expect_each, expect_steps, said_by};
+use crate::images::{A, ENDED, HELLO};
+use crate::steps::Step::{
+    self, Back, Check, Dump, Images, Length, Migrate, OldQueue, Put, PutConfig, Queue, Read, Take,
+    Write,
+};
+use crate::steps::{BOTH, Steps, expect_each, expect_steps, said_by};
+use crate::streams::Said;
 use cq_fixtures::{DAY, expect_text};
-use cq_folder::{Access, Folder, FolderFault};
+use cq_folder::{Access, Folder};
 use std::alloc::Global;
 use std::test::Fail;
 
@@ -24,14 +29,10 @@ fn expect_falling(alloc: Global, row: &str, steps: Steps) -> Result<(), Fail> {
     expect_steps(alloc, row, &mut folder, steps)
 }
 
-static THREE_FILES: [Step; 3] = [
-    Step::Put("b", b""),
-    Step::Put("c", b""),
-    Step::Put("a", b""),
-];
+static THREE_FILES: [Step; 3] = [Put("b", b""), Put("c", b""), Put("a", b"")];
 
 /// The names that a folder lists when those three files were put into it, as text.
-fn three_names<F: Folder>(alloc: Global, folder: &mut F) -> Result<String, FolderFault> {
+fn three_names<F: Folder>(alloc: Global, folder: &mut F) -> Said {
     said_by(alloc, folder, &THREE_FILES)?;
     folder.begin(alloc, Access::Shared)?;
     let names = folder.names(alloc)?;
@@ -47,136 +48,120 @@ fn lists_its_names_in_falling_order(rt: HostRuntime) -> Result<(), Fail> {
     )
 }
 
-/// A queue of three cycles, each with one message, and what is done with it.
-static THREE: [Steps; 1] = [&[
-    (Step::Queue(4), ""),
-    (Step::Write(0, b"a\n"), "0000000000000000\n"),
-    (Step::Write(DAY, b"b\n"), "0000000100000000\n"),
-    (Step::Write(2 * DAY, b"c\n"), "0000000200000000\n"),
-    (
-        Step::Check,
-        "19700101.cqi: 1 messages, ended\n19700102.cqi: 1 messages, ended\n19700103.cqi: 1 messages, open\n",
-    ),
-    (
-        Step::Read(false, None),
-        "0000000000000000 a\n0000000100000000 b\n0000000200000000 c\n",
-    ),
-    (
-        Step::Read(true, None),
-        "0000000200000000 c\n0000000100000000 b\n0000000000000000 a\n",
-    ),
-    (
-        Step::Dump("19700102.cqi"),
-        "00000000 40000024 store 2 1 8 1 64 0 86400000\n00000028 40000020 top 76 0 0 0 0 0 0 0\n\
+static SAME: [Steps; 2] = [
+    // A queue of three cycles, each with one message, and what is done with it.
+    &[
+        (Queue(4), ""),
+        (Write(0, b"a\n"), "0000000000000000\n"),
+        (Write(DAY, b"b\n"), "0000000100000000\n"),
+        (Write(2 * DAY, b"c\n"), "0000000200000000\n"),
+        (
+            Check,
+            "19700101.cqi: 1 messages, ended\n19700102.cqi: 1 messages, ended\n19700103.cqi: 1 messages, open\n",
+        ),
+        (
+            Read,
+            "0000000000000000 a\n0000000100000000 b\n0000000200000000 c\n",
+        ),
+        (
+            Back,
+            "0000000200000000 c\n0000000100000000 b\n0000000000000000 a\n",
+        ),
+        (
+            Dump("19700102.cqi"),
+            "00000000 40000024 store 2 1 8 1 64 0 86400000\n00000028 40000020 top 76 0 0 0 0 0 0 0\n\
 0000004c 40000020 table 0 112 0 0 0 0 0 0 0\n00000070 00000001 data 0 62\n00000078 c0000000 end\n",
-    ),
-    (Step::Write(2 * DAY, b"d\n"), "0000000200000001\n"),
-    (Step::Take("reader"), "0000000000000000 a\n"),
-    (
-        Step::Check,
-        "19700101.cqi: 1 messages, ended\n19700102.cqi: 1 messages, ended\n19700103.cqi: 2 messages, open\n",
-    ),
-]];
-
-/// A folder of version 1 with two images becomes one of version 2.
-static MIGRATED: [Steps; 1] = [&[
-    (Step::OldQueue(4), ""),
-    (Step::Put("19700101.cqi", HELLO), ""),
-    (Step::Put("19700102.cqi", A), ""),
-    (Step::Migrate, ""),
-    (Step::Length("19700101.cqi"), "128"),
-    (
-        Step::Check,
-        "19700101.cqi: 1 messages, ended\n19700102.cqi: 1 messages, open\n",
-    ),
-    (
-        Step::Read(false, None),
-        "0000000000000000 hello\n0000000100000000 a\n",
-    ),
-]];
+        ),
+        (Write(2 * DAY, b"d\n"), "0000000200000001\n"),
+        (Take("reader"), "0000000000000000 a\n"),
+        (
+            Check,
+            "19700101.cqi: 1 messages, ended\n19700102.cqi: 1 messages, ended\n19700103.cqi: 2 messages, open\n",
+        ),
+    ],
+    // A folder of version 1 with two images becomes one of version 2.
+    &[
+        (OldQueue(4), ""),
+        (Images(&[HELLO, A]), ""),
+        (Migrate, ""),
+        (Length("19700101.cqi"), "128"),
+        (Check, BOTH),
+        (Read, "0000000000000000 hello\n0000000100000000 a\n"),
+    ],
+];
 
 #[test]
 fn answers_the_same_in_any_order(rt: HostRuntime) -> Result<(), Fail> {
-    expect_in_any_order(rt.alloc(), &THREE)?;
-    expect_in_any_order(rt.alloc(), &MIGRATED)
+    expect_in_any_order(rt.alloc(), &SAME)
 }
-
-/// An image that ended with no message.
-const ENDED: &[u8] = &[0, 0, 0, 0xc0];
 
 /// Two faults, of which the first is reported: by the order of names, and by what comes first of the configuration,
 /// names, images, ends and contents.
 static TWO: [Steps; 8] = [
     &[
-        (Step::Queue(4), ""),
-        (Step::Put("queue.cqc", b""), ""),
-        (Step::Put("zzz.cqi", b""), ""),
-        (Step::Check, "cq: queue.cqc: line 1"),
-        (Step::Read(false, None), "cq: queue.cqc: line 1"),
-        (Step::Dump("zzz.cqi"), "cq: queue.cqc: line 1"),
-        (Step::Write(0, b"a\n"), "cq: queue.cqc: line 1"),
+        (Queue(4), ""),
+        (PutConfig(""), ""),
+        (Put("zzz.cqi", b""), ""),
+        (Check, "cq: queue.cqc: line 1"),
+        (Read, "cq: queue.cqc: line 1"),
+        (Dump("zzz.cqi"), "cq: queue.cqc: line 1"),
+        (Write(0, b"a\n"), "cq: queue.cqc: line 1"),
     ],
     &[
-        (Step::Queue(4), ""),
-        (Step::Put("aaa.cqi", b""), ""),
-        (Step::Put("zzz.cqi", b""), ""),
-        (Step::Check, "cq: aaa.cqi: bad cycle name"),
-        (Step::Read(false, None), "cq: aaa.cqi: bad cycle name"),
-        (Step::Dump("zzz.cqi"), "cq: zzz.cqi: bad cycle name"),
-        (Step::Write(0, b"a\n"), "cq: aaa.cqi: bad cycle name"),
+        (Queue(4), ""),
+        (Put("aaa.cqi", b""), ""),
+        (Put("zzz.cqi", b""), ""),
+        (Check, "cq: aaa.cqi: bad cycle name"),
+        (Read, "cq: aaa.cqi: bad cycle name"),
+        (Dump("zzz.cqi"), "cq: zzz.cqi: bad cycle name"),
+        (Write(0, b"a\n"), "cq: aaa.cqi: bad cycle name"),
     ],
     &[
-        (Step::Queue(4), ""),
-        (Step::Put("19700101.cqi", b"x"), ""),
-        (Step::Put("zzz.cqi", b""), ""),
-        (Step::Check, "cq: zzz.cqi: bad cycle name"),
-        (Step::Read(false, None), "cq: zzz.cqi: bad cycle name"),
-        (Step::Dump("19700101.cqi"), "cq: 19700101.cqi: Cut at 0"),
-        (Step::Write(0, b"a\n"), "cq: zzz.cqi: bad cycle name"),
+        (Queue(4), ""),
+        (Put("19700101.cqi", b"x"), ""),
+        (Put("zzz.cqi", b""), ""),
+        (Check, "cq: zzz.cqi: bad cycle name"),
+        (Read, "cq: zzz.cqi: bad cycle name"),
+        (Dump("19700101.cqi"), "cq: 19700101.cqi: Cut at 0"),
+        (Write(0, b"a\n"), "cq: zzz.cqi: bad cycle name"),
     ],
     &[
-        (Step::Queue(4), ""),
-        (Step::Put("19700101.cqi", b"x"), ""),
-        (Step::Put("19700102.cqi", b"yy"), ""),
+        (Queue(4), ""),
+        (Images(&[b"x", b"yy"]), ""),
         (
-            Step::Check,
+            Check,
             "19700101.cqi: Cut at 0\n19700102.cqi: Cut at 0\ncq: images at fault",
         ),
-        (Step::Read(false, None), "cq: 19700101.cqi: Cut at 0"),
-        (Step::Dump("19700102.cqi"), "cq: 19700102.cqi: Cut at 0"),
-        (Step::Write(0, b"a\n"), "cq: 19700101.cqi: Cut at 0"),
+        (Read, "cq: 19700101.cqi: Cut at 0"),
+        (Dump("19700102.cqi"), "cq: 19700102.cqi: Cut at 0"),
+        (Write(0, b"a\n"), "cq: 19700101.cqi: Cut at 0"),
     ],
     // The first image is open, and not the last.
     &[
-        (Step::Queue(4), ""),
-        (Step::Put("19700101.cqi", b""), ""),
-        (Step::Put("19700102.cqi", b"x"), ""),
-        (Step::Read(false, None), "cq: 19700102.cqi: Cut at 0"),
-        (Step::Write(0, b"a\n"), "cq: 19700102.cqi: Cut at 0"),
+        (Queue(4), ""),
+        (Images(&[b"", b"x"]), ""),
+        (Read, "cq: 19700102.cqi: Cut at 0"),
+        (Write(0, b"a\n"), "cq: 19700102.cqi: Cut at 0"),
     ],
     // So is the second, and the third has ended.
     &[
-        (Step::Queue(4), ""),
-        (Step::Put("19700101.cqi", b""), ""),
-        (Step::Put("19700102.cqi", b""), ""),
-        (Step::Put("19700103.cqi", ENDED), ""),
-        (Step::Read(false, None), "cq: 19700101.cqi: wrong end"),
-        (Step::Write(0, b"a\n"), "cq: 19700101.cqi: wrong end"),
+        (Queue(4), ""),
+        (Images(&[b"", b"", ENDED]), ""),
+        (Read, "cq: 19700101.cqi: wrong end"),
+        (Write(0, b"a\n"), "cq: 19700101.cqi: wrong end"),
     ],
     // Two cycles are more than the settings allow.
     &[
-        (Step::Queue(1), ""),
-        (Step::Put("19700101.cqi", ENDED), ""),
-        (Step::Put("19700102.cqi", ENDED), ""),
-        (Step::Read(false, None), "cq: 19700102.cqi: wrong end"),
-        (Step::Write(0, b"a\n"), "cq: 19700102.cqi: wrong end"),
+        (Queue(1), ""),
+        (Images(&[ENDED, ENDED]), ""),
+        (Read, "cq: 19700102.cqi: wrong end"),
+        (Write(0, b"a\n"), "cq: 19700102.cqi: wrong end"),
     ],
     &[
-        (Step::Queue(1), ""),
-        (Step::Put("19700101.cqi", ENDED), ""),
-        (Step::Put("19700102.cqi", b""), ""),
-        (Step::Read(false, None), "cq: BadContents"),
-        (Step::Write(0, b"a\n"), "cq: BadContents"),
+        (Queue(1), ""),
+        (Images(&[ENDED, b""]), ""),
+        (Read, "cq: BadContents"),
+        (Write(0, b"a\n"), "cq: BadContents"),
     ],
 ];
 

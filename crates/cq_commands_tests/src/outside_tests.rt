@@ -1,11 +1,11 @@
 //! No command is in its folder while it reads its input, or writes its output.
 use crate::command_tests::order_of;
 use crate::steps::{Step, said_by};
-use crate::streams::said;
+use crate::streams::{Said, said};
 use crate::watched::{WatchedFolder, WatchedInput, WatchedOutput};
 use cq_commands::{Order, run};
 use cq_fixtures::{expect_text, push_missed};
-use cq_folder::{Folder, FolderFault};
+use cq_folder::Folder;
 use std::alloc::Global;
 use std::cell::Cell;
 use std::test::Fail;
@@ -20,7 +20,7 @@ fn said_outside(
     is_entered: &Cell<bool>,
     order: &Order,
     left: &[u8],
-) -> Result<String, FolderFault> {
+) -> Said {
     let mut input = WatchedInput { left, is_entered };
     let mut output = WatchedOutput {
         text: Vec::new(alloc),
@@ -47,33 +47,17 @@ fn line_said(
     Ok(said_outside(alloc, folder, is_entered, &order, left)?)
 }
 
-/// Adds to a text what commands say in turn other than the table wants, with the places.
-fn push_missed_rows(
-    alloc: Global,
-    folder: &mut WatchedFolder<'_>,
-    is_entered: &Cell<bool>,
-    table: &[Row],
-    text: &mut String,
-) -> Result<(), Fail> {
-    for (place, &(words, input, want)) in table.iter().enumerate() {
-        let said = line_said(alloc, folder, is_entered, words, input)?;
-        push_missed(alloc, text, place, said.as_str(), want)?;
-    }
-    Ok(())
-}
-
 /// After these steps, each command in turn writes what the table wants.
-fn expect_outside(
-    alloc: Global,
-    before: &'static [Step],
-    table: &'static [Row],
-) -> Result<(), Fail> {
+fn expect_outside(alloc: Global, before: &[Step], table: &[Row]) -> Result<(), Fail> {
     let is_entered = Cell::new(false);
     let mut folder = WatchedFolder::new(alloc, &is_entered);
     said_by(alloc, &mut folder, before)?;
     folder.end();
     let mut missed = String::new(alloc);
-    push_missed_rows(alloc, &mut folder, &is_entered, table, &mut missed)?;
+    for (place, &(words, input, want)) in table.iter().enumerate() {
+        let said = line_said(alloc, &mut folder, &is_entered, words, input)?;
+        push_missed(alloc, &mut missed, place, said.as_str(), want)?;
+    }
     expect_text(missed, "")
 }
 

@@ -1,657 +1,267 @@
 //! Two faults that compete, over a folder that lists its names in falling order: the first one of the command's order
 //! is reported.
 use crate::falling::FallingFolder;
-use crate::steps::{MOST_BYTES, Step, Unprinted, said_at, said_by};
+use crate::images::ENDED;
+use crate::steps::Step::{
+    self, BackFrom, Drop, Fill, Images, Init, Migrate, OldCells, OldQueue, Patch, Put, PutConfig,
+    Queue, Read, ReadFrom, Take, UnprintedCheck, UnprintedDump, UnprintedRead, UnprintedTake,
+    UnprintedWrite, Write, WriteBroken, WriteEmpty,
+};
+use crate::steps::{BAD_CELLS_AND_CYCLES, BAD_CYCLES, OVER, said_at, said_by};
+use crate::streams::Said;
 use cq_fixtures::{DAY, expect_text, push_missed};
-use cq_folder::{FailingFolder, FolderFault};
+use cq_folder::FailingFolder;
 use std::alloc::Global;
 use std::test::Fail;
 
-/// Two faults that a step could report.
-struct Pair {
-    /// What is done before.
-    before: &'static [Step],
-    /// The call on the folder that fails at the step, or 0 if none does.
-    failing: u64,
-    /// The step.
-    step: Step,
-    /// The fault that is reported.
-    want: &'static str,
-}
+/// What is done before, the call on the folder that fails at a step, or 0 if none does, the step, and the fault that is
+/// reported.
+type Pair = (&'static [Step], u64, Step, &'static str);
 
-/// What the step says.
-fn said_of(alloc: Global, pair: &Pair) -> Result<String, FolderFault> {
+/// The same for one command: the step that makes a queue, its files, the failing call, and the fault.
+type InFolder = (Step, &'static [Step], u64, &'static str);
+
+/// What a step says after others and these files, in a folder of which a call fails.
+fn said_failing(alloc: Global, before: &[Step], files: &[Step], failing: u64, step: &Step) -> Said {
     let mut folder = FallingFolder::new(alloc);
-    said_by(alloc, &mut folder, pair.before)?;
-    said_at(
-        alloc,
-        &mut FailingFolder::new(folder, pair.failing),
-        &pair.step,
-    )
-}
-
-/// Adds what is said that is something else than is wanted to a text, with the place of the pair.
-fn push_missed_pairs(
-    alloc: Global,
-    pairs: &'static [Pair],
-    text: &mut String,
-) -> Result<(), FolderFault> {
-    for (place, pair) in pairs.iter().enumerate() {
-        push_missed(
-            alloc,
-            text,
-            place,
-            said_of(alloc, pair)?.as_str(),
-            pair.want,
-        )?;
-    }
-    Ok(())
+    said_by(alloc, &mut folder, before)?;
+    said_by(alloc, &mut folder, files)?;
+    said_at(alloc, &mut FailingFolder::new(folder, failing), step)
 }
 
 /// Fails if a step does not report the first of its two faults.
-fn expect_first(alloc: Global, pairs: &'static [Pair]) -> Result<(), Fail> {
+fn expect_first(alloc: Global, pairs: &[Pair]) -> Result<(), Fail> {
     let mut missed = String::new(alloc);
-    push_missed_pairs(alloc, pairs, &mut missed)?;
+    for (place, (before, failing, step, want)) in pairs.iter().enumerate() {
+        let said = said_failing(alloc, before, &[], *failing, step)?;
+        push_missed(alloc, &mut missed, place, said.as_str(), want)?;
+    }
     expect_text(missed, "")
 }
 
-/// An image that ended with no message.
-const ENDED: &[u8] = &[0, 0, 0, 0xc0];
+/// Fails if a command does not report the first of two faults.
+fn expect_first_of(alloc: Global, command: Step, rows: &[InFolder]) -> Result<(), Fail> {
+    let mut missed = String::new(alloc);
+    for (place, (queue, files, failing, want)) in rows.iter().enumerate() {
+        let said = said_failing(alloc, &[*queue], files, *failing, &command)?;
+        push_missed(alloc, &mut missed, place, said.as_str(), want)?;
+    }
+    expect_text(missed, "")
+}
 
-/// More cycles than the settings allow.
-const TOO_MANY: &[Step] = &[
-    Step::Queue(1),
-    Step::Put("19700101.cqi", ENDED),
-    Step::Put("19700102.cqi", b""),
-];
+/// A queue in a folder of version 2.
+const NEW: Step = Queue(4);
 
-/// A faulty image before one that is none of its faults.
-const FAULTY_FIRST: &[Step] = &[
-    Step::Queue(4),
-    Step::Put("19700101.cqi", b"x"),
-    Step::Put("19700102.cqi", b""),
-];
+/// A queue in a folder of version 1.
+const OLD: Step = OldQueue(4);
 
-static OPENING: [Pair; 17] = [
+/// A file that is named as no image is.
+const NO_IMAGE: Step = Put("zzz.cqi", b"");
+
+/// A fault in line 2 of `queue.cqc`.
+const BAD_LINE: Step = Patch("queue.cqc", 5, b"x");
+
+// The images of cycles 0 and 1: open with no message, ended with none, faulty, or larger than what is read.
+const FAULTY_FIRST: Step = Put("19700101.cqi", b"x");
+
+const ENDED_FIRST: Step = Put("19700101.cqi", ENDED);
+
+const FAULTY: &[Step] = &[FAULTY_FIRST];
+
+const FAULTY_NO_IMAGE: &[Step] = &[FAULTY_FIRST, NO_IMAGE];
+
+const FAULTY_OPEN: &[Step] = &[Images(&[b"x", b""])];
+
+const FAULTY_LARGE: &[Step] = &[FAULTY_FIRST, Fill("19700102.cqi", 0, OVER)];
+
+const LARGE: &[Step] = &[Fill("19700101.cqi", 0, OVER)];
+
+const LARGE_FAULTY: &[Step] = &[Fill("19700101.cqi", 0, OVER), Put("19700102.cqi", b"x")];
+
+const OPEN_FAULTY: &[Step] = &[Images(&[b"", b"x"])];
+
+const OPEN_ENDED: &[Step] = &[Images(&[b"", ENDED])];
+
+const ENDED_OPEN: &[Step] = &[Images(&[ENDED, b""])];
+
+const ENDED_FAULTY: &[Step] = &[Images(&[ENDED, b"x"])];
+
+const ENDED_ENDED: &[Step] = &[Images(&[ENDED, ENDED])];
+
+/// Of `read`.
+static OPENING: [InFolder; 17] = [
     // Of the folder, of `queue.cqc` and of the names of images.
-    Pair {
-        before: &[Step::Put("zzz.cqi", b"")],
-        failing: 1,
-        step: Step::Read(false, None),
-        want: "cq: folder fault",
-    },
-    Pair {
-        before: &[Step::Put("zzz.cqi", b"")],
-        failing: 2,
-        step: Step::Read(false, None),
-        want: "cq: folder fault",
-    },
-    Pair {
-        before: &[Step::Put("zzz.cqi", b"")],
-        failing: 0,
-        step: Step::Read(false, None),
-        want: "cq: no queue here",
-    },
-    Pair {
-        before: &[Step::Queue(4), Step::Fill("queue.cqc", 0, MOST_BYTES + 1)],
-        failing: 3,
-        step: Step::Read(false, None),
-        want: "cq: file fault: queue.cqc",
-    },
-    Pair {
-        before: &[Step::Queue(4), Step::Fill("queue.cqc", 0, MOST_BYTES + 1)],
-        failing: 0,
-        step: Step::Read(false, None),
-        want: "cq: file too large: queue.cqc",
-    },
-    Pair {
-        before: &[Step::Put(
-            "queue.cqc",
-            b"cq 1\nroll daily\nepoch 0\ncells 30\ncount 8\nspacing 1\ncycles 4\nname a\n",
-        )],
-        failing: 0,
-        step: Step::Read(false, None),
-        want: "cq: queue.cqc: line 8",
-    },
-    Pair {
-        before: &[
-            Step::Put(
-                "queue.cqc",
-                b"cq 1\nroll daily\nepoch 0\ncells 30\ncount 8\nspacing 1\ncycles 0\n",
-            ),
-            Step::Put("zzz.cqi", b""),
-        ],
-        failing: 0,
-        step: Step::Read(false, None),
-        want: "cq: BadShape",
-    },
-    Pair {
-        before: &[
-            Step::Put(
-                "queue.cqc",
-                b"cq 1\nroll daily\nepoch 0\ncells 64\ncount 8\nspacing 1\ncycles 0\n",
-            ),
-            Step::Put("zzz.cqi", b""),
-        ],
-        failing: 0,
-        step: Step::Read(false, None),
-        want: "cq: BadConfig",
-    },
-    Pair {
-        before: &[
-            Step::Queue(4),
-            Step::Put("19700101.cqi", b"x"),
-            Step::Put("zzz.cqi", b""),
-        ],
-        failing: 4,
-        step: Step::Read(false, None),
-        want: "cq: zzz.cqi: bad cycle name",
-    },
+    (NO_IMAGE, &[], 1, "cq: folder fault"),
+    (NO_IMAGE, &[], 2, "cq: folder fault"),
+    (NO_IMAGE, &[], 0, "cq: no queue here"),
+    (NEW, LARGE_CONFIG, 3, "cq: file fault: queue.cqc"),
+    (NEW, LARGE_CONFIG, 0, "cq: file too large: queue.cqc"),
+    (BAD_CELLS_AND_NAME, &[], 0, "cq: queue.cqc: line 8"),
+    (BAD_CELLS_AND_CYCLES, &[NO_IMAGE], 0, "cq: BadShape"),
+    (BAD_CYCLES, &[NO_IMAGE], 0, "cq: BadConfig"),
+    (NEW, FAULTY_NO_IMAGE, 4, "cq: zzz.cqi: bad cycle name"),
     // Of images, their ends, and what they hold together.
-    Pair {
-        before: &[
-            Step::Queue(4),
-            Step::Fill("19700101.cqi", 0, MOST_BYTES + 1),
-        ],
-        failing: 4,
-        step: Step::Read(false, None),
-        want: "cq: file fault: 19700101.cqi",
-    },
-    Pair {
-        before: &[
-            Step::Queue(4),
-            Step::Put("19700101.cqi", ENDED),
-            Step::Put("19700102.cqi", b"x"),
-        ],
-        failing: 4,
-        step: Step::Read(false, None),
-        want: "cq: file fault: 19700101.cqi",
-    },
-    Pair {
-        before: FAULTY_FIRST,
-        failing: 5,
-        step: Step::Read(false, None),
-        want: "cq: 19700101.cqi: Cut at 0",
-    },
-    Pair {
-        before: &[
-            Step::Queue(4),
-            Step::Fill("19700101.cqi", 0, MOST_BYTES + 1),
-            Step::Put("19700102.cqi", b"x"),
-        ],
-        failing: 0,
-        step: Step::Read(false, None),
-        want: "cq: file too large: 19700101.cqi",
-    },
-    Pair {
-        before: &[
-            Step::Queue(4),
-            Step::Put("19700101.cqi", b"x"),
-            Step::Fill("19700102.cqi", 0, MOST_BYTES + 1),
-        ],
-        failing: 0,
-        step: Step::Read(false, None),
-        want: "cq: 19700101.cqi: Cut at 0",
-    },
-    Pair {
-        before: &[
-            Step::Queue(4),
-            Step::Put("19700101.cqi", b""),
-            Step::Put("19700102.cqi", b"x"),
-        ],
-        failing: 0,
-        step: Step::Read(false, None),
-        want: "cq: 19700102.cqi: Cut at 0",
-    },
-    Pair {
-        before: &[
-            Step::Queue(1),
-            Step::Put("19700101.cqi", b""),
-            Step::Put("19700102.cqi", ENDED),
-        ],
-        failing: 0,
-        step: Step::Read(false, None),
-        want: "cq: 19700101.cqi: wrong end",
-    },
-    Pair {
-        before: &[
-            Step::Queue(1),
-            Step::Put("19700101.cqi", ENDED),
-            Step::Put("19700102.cqi", ENDED),
-        ],
-        failing: 0,
-        step: Step::Read(false, None),
-        want: "cq: 19700102.cqi: wrong end",
-    },
+    (NEW, LARGE, 4, "cq: file fault: 19700101.cqi"),
+    (NEW, ENDED_FAULTY, 4, "cq: file fault: 19700101.cqi"),
+    (NEW, FAULTY_OPEN, 5, "cq: 19700101.cqi: Cut at 0"),
+    (NEW, LARGE_FAULTY, 0, "cq: file too large: 19700101.cqi"),
+    (NEW, FAULTY_LARGE, 0, "cq: 19700101.cqi: Cut at 0"),
+    (NEW, OPEN_FAULTY, 0, "cq: 19700102.cqi: Cut at 0"),
+    (Queue(1), OPEN_ENDED, 0, "cq: 19700101.cqi: wrong end"),
+    (Queue(1), ENDED_ENDED, 0, "cq: 19700102.cqi: wrong end"),
 ];
+
+/// A `queue.cqc` that is larger than what is read.
+const LARGE_CONFIG: &[Step] = &[Fill("queue.cqc", 0, OVER)];
+
+/// A `queue.cqc` with too few cells, and a name without a position.
+const BAD_CELLS_AND_NAME: Step = PutConfig(
+    "cq 1\nroll daily\nepoch 0\ncells 30\ncount 8\nspacing 1\ncycles 4\nname a\n",
+);
 
 #[test]
 fn the_configuration_comes_before_the_images(rt: HostRuntime) -> Result<(), Fail> {
-    expect_first(rt.alloc(), &OPENING)
+    expect_first_of(rt.alloc(), Read, &OPENING)
 }
 
-static INIT: [Pair; 19] = [
-    // Of `init`.
-    Pair {
-        before: &[Step::Queue(4)],
-        failing: 1,
-        step: Step::Init("weekly", 0, 64, 4, &[]),
-        want: "cq: BadConfig",
-    },
-    Pair {
-        before: &[Step::Queue(4)],
-        failing: 1,
-        step: Step::Init("daily", 0, 30, 4, &[]),
-        want: "cq: folder fault",
-    },
-    Pair {
-        before: &[Step::Queue(4)],
-        failing: 2,
-        step: Step::Init("daily", 0, 30, 4, &[]),
-        want: "cq: folder fault",
-    },
-    Pair {
-        before: &[Step::Queue(4)],
-        failing: 0,
-        step: Step::Init("daily", 0, 30, 4, &[]),
-        want: "cq: queue there already",
-    },
-    Pair {
-        before: &[],
-        failing: 0,
-        step: Step::Init("daily", 0, 30, 0, &[]),
-        want: "cq: BadShape",
-    },
-    Pair {
-        before: &[],
-        failing: 3,
-        step: Step::Init("daily", 0, 30, 4, &[]),
-        want: "cq: BadShape",
-    },
-    Pair {
-        before: &[],
-        failing: 3,
-        step: Step::Init("daily", 0, 64, 0, &[]),
-        want: "cq: BadConfig",
-    },
-    // Of `check`: of the files of all images before what one holds.
-    Pair {
-        before: &[Step::Put("zzz.cqi", b"")],
-        failing: 0,
-        step: Step::Unprinted(Unprinted::Check),
-        want: "cq: no queue here",
-    },
-    Pair {
-        before: &[
-            Step::Queue(4),
-            Step::Put("19700101.cqi", b"x"),
-            Step::Put("zzz.cqi", b""),
-        ],
-        failing: 4,
-        step: Step::Unprinted(Unprinted::Check),
-        want: "cq: zzz.cqi: bad cycle name",
-    },
-    Pair {
-        before: &[
-            Step::Queue(4),
-            Step::Fill("19700101.cqi", 0, MOST_BYTES + 1),
-            Step::Put("19700102.cqi", b"x"),
-        ],
-        failing: 4,
-        step: Step::Unprinted(Unprinted::Check),
-        want: "cq: file fault: 19700101.cqi",
-    },
-    Pair {
-        before: FAULTY_FIRST,
-        failing: 5,
-        step: Step::Unprinted(Unprinted::Check),
-        want: "cq: file fault: 19700102.cqi",
-    },
-    Pair {
-        before: &[
-            Step::Queue(4),
-            Step::Put("19700101.cqi", b"x"),
-            Step::Fill("19700102.cqi", 0, MOST_BYTES + 1),
-        ],
-        failing: 0,
-        step: Step::Unprinted(Unprinted::Check),
-        want: "cq: file too large: 19700102.cqi",
-    },
-    Pair {
-        before: FAULTY_FIRST,
-        failing: 0,
-        step: Step::Unprinted(Unprinted::Check),
-        want: "cq: write fault",
-    },
-    // Of `dump`.
-    Pair {
-        before: &[Step::Put("queue.cqc", b"")],
-        failing: 0,
-        step: Step::Unprinted(Unprinted::Dump("zzz.cqi")),
-        want: "cq: queue.cqc: line 1",
-    },
-    Pair {
-        before: &[Step::Queue(4)],
-        failing: 0,
-        step: Step::Unprinted(Unprinted::Dump("zzz.cqi")),
-        want: "cq: no such file: zzz.cqi",
-    },
-    Pair {
-        before: &[Step::Queue(4), Step::Put("zzz.cqi", b"x")],
-        failing: 4,
-        step: Step::Unprinted(Unprinted::Dump("zzz.cqi")),
-        want: "cq: zzz.cqi: bad cycle name",
-    },
-    Pair {
-        before: &[
-            Step::Queue(4),
-            Step::Fill("19700101.cqi", 0, MOST_BYTES + 1),
-        ],
-        failing: 4,
-        step: Step::Unprinted(Unprinted::Dump("19700101.cqi")),
-        want: "cq: file fault: 19700101.cqi",
-    },
-    Pair {
-        before: &[
-            Step::Queue(4),
-            Step::Fill("19700101.cqi", 0, MOST_BYTES + 1),
-        ],
-        failing: 0,
-        step: Step::Unprinted(Unprinted::Dump("19700101.cqi")),
-        want: "cq: file too large: 19700101.cqi",
-    },
-    Pair {
-        before: &[Step::Queue(4), Step::Put("19700101.cqi", b"x")],
-        failing: 0,
-        step: Step::Unprinted(Unprinted::Dump("19700101.cqi")),
-        want: "cq: 19700101.cqi: Cut at 0",
-    },
+/// Of `init`.
+static INIT: [Pair; 7] = [
+    (&[NEW], 1, Init("weekly", 0, 64, 4, &[]), "cq: BadConfig"),
+    (&[NEW], 1, FEW_CELLS, "cq: folder fault"),
+    (&[NEW], 2, FEW_CELLS, "cq: folder fault"),
+    (&[NEW], 0, FEW_CELLS, "cq: queue there already"),
+    (&[], 0, Init("daily", 0, 30, 0, &[]), "cq: BadShape"),
+    (&[], 3, FEW_CELLS, "cq: BadShape"),
+    (&[], 3, Init("daily", 0, 64, 0, &[]), "cq: BadConfig"),
+];
+
+/// `init` with too few cells.
+const FEW_CELLS: Step = Init("daily", 0, 30, 4, &[]);
+
+/// Of `check`: of the files of all images before what one holds.
+static CHECK: [InFolder; 6] = [
+    (NO_IMAGE, &[], 0, "cq: no queue here"),
+    (NEW, FAULTY_NO_IMAGE, 4, "cq: zzz.cqi: bad cycle name"),
+    (NEW, LARGE_FAULTY, 4, "cq: file fault: 19700101.cqi"),
+    (NEW, FAULTY_OPEN, 5, "cq: file fault: 19700102.cqi"),
+    (NEW, FAULTY_LARGE, 0, "cq: file too large: 19700102.cqi"),
+    (NEW, FAULTY_OPEN, 0, "cq: write fault"),
+];
+
+/// Of `dump` of a file that is named as no image is.
+static DUMP_NO_IMAGE: [InFolder; 3] = [
+    (PutConfig(""), &[], 0, "cq: queue.cqc: line 1"),
+    (NEW, &[], 0, "cq: no such file: zzz.cqi"),
+    (
+        NEW,
+        &[Put("zzz.cqi", b"x")],
+        4,
+        "cq: zzz.cqi: bad cycle name",
+    ),
+];
+
+/// Of `dump` of an image.
+static DUMP: [InFolder; 3] = [
+    (NEW, LARGE, 4, "cq: file fault: 19700101.cqi"),
+    (NEW, LARGE, 0, "cq: file too large: 19700101.cqi"),
+    (NEW, FAULTY, 0, "cq: 19700101.cqi: Cut at 0"),
 ];
 
 #[test]
 fn init_check_and_dump_say_the_first(rt: HostRuntime) -> Result<(), Fail> {
-    expect_first(rt.alloc(), &INIT)
+    expect_first(rt.alloc(), &INIT)?;
+    expect_first_of(rt.alloc(), UnprintedCheck, &CHECK)?;
+    expect_first_of(rt.alloc(), UnprintedDump("zzz.cqi"), &DUMP_NO_IMAGE)?;
+    expect_first_of(rt.alloc(), UnprintedDump("19700101.cqi"), &DUMP)
 }
 
-static READ: [Pair; 15] = [
-    // Of `read`.
-    Pair {
-        before: &[],
-        failing: 1,
-        step: Step::Read(false, Some("x")),
-        want: "cq: BadIndex",
-    },
-    Pair {
-        before: TOO_MANY,
-        failing: 0,
-        step: Step::Read(true, Some("x")),
-        want: "cq: BadIndex",
-    },
-    Pair {
-        before: TOO_MANY,
-        failing: 0,
-        step: Step::Unprinted(Unprinted::Read),
-        want: "cq: BadContents",
-    },
-    // Of `take`.
-    Pair {
-        before: TOO_MANY,
-        failing: 0,
-        step: Step::Take("none"),
-        want: "cq: BadContents",
-    },
-    Pair {
-        before: &[Step::Queue(4), Step::Write(0, b"a\n")],
-        failing: 5,
-        step: Step::Take("none"),
-        want: "cq: NoSuchName",
-    },
-    Pair {
-        before: &[Step::Queue(4), Step::Write(0, b"a\n")],
-        failing: 5,
-        step: Step::Unprinted(Unprinted::Take),
-        want: "cq: file fault: queue.cqc",
-    },
-    // Of a folder of version 1 that is to be changed: of `queue.cqc` before its version, and of all else after it.
-    Pair {
-        before: &[Step::OldQueue(4)],
-        failing: 2,
-        step: Step::Write(0, b"a\n"),
-        want: "cq: folder fault",
-    },
-    Pair {
-        before: &[Step::OldQueue(4)],
-        failing: 3,
-        step: Step::Take("reader"),
-        want: "cq: file fault: queue.cqc",
-    },
-    Pair {
-        before: &[Step::OldQueue(4), Step::Patch("queue.cqc", 5, b"x")],
-        failing: 0,
-        step: Step::Drop(0),
-        want: "cq: queue.cqc: line 2",
-    },
-    Pair {
-        before: &[Step::OldQueue(0)],
-        failing: 0,
-        step: Step::Write(0, b"a\n"),
-        want: "cq: BadConfig",
-    },
-    Pair {
-        before: &[Step::OldQueue(4), Step::Put("zzz.cqi", b"")],
-        failing: 0,
-        step: Step::Write(u64::MAX, b"\n"),
-        want: "cq: OldVersion",
-    },
-    Pair {
-        before: &[Step::OldQueue(4), Step::Put("19700101.cqi", b"x")],
-        failing: 4,
-        step: Step::Take("none"),
-        want: "cq: OldVersion",
-    },
-    Pair {
-        before: &[Step::OldQueue(4), Step::Put("19700101.cqi", ENDED)],
-        failing: 0,
-        step: Step::Drop(0),
-        want: "cq: OldVersion",
-    },
-    Pair {
-        before: TOO_MANY_OLD,
-        failing: 0,
-        step: Step::WriteBroken(u64::MAX, 0),
-        want: "cq: OldVersion",
-    },
-    Pair {
-        before: &[Step::OldQueue(4)],
-        failing: 0,
-        step: Step::WriteEmpty(0, MOST_BYTES + 1),
-        want: "cq: OldVersion",
-    },
+/// A queue with "a" in cycle 0.
+const BEGUN: &[Step] = &[Queue(4), Write(0, b"a\n")];
+
+/// More cycles than the settings allow.
+const TOO_MANY: &[Step] = &[Queue(1), Images(&[ENDED, b""])];
+
+/// The same in a folder of version 1.
+const OLD_TOO_MANY: &[Step] = &[OldQueue(1), Images(&[ENDED, b""])];
+
+/// Of `read` and `take`.
+static READ: [Pair; 6] = [
+    (&[], 1, ReadFrom("x"), "cq: BadIndex"),
+    (TOO_MANY, 0, BackFrom("x"), "cq: BadIndex"),
+    (TOO_MANY, 0, UnprintedRead, "cq: BadContents"),
+    (TOO_MANY, 0, Take("none"), "cq: BadContents"),
+    (BEGUN, 5, Take("none"), "cq: NoSuchName"),
+    (BEGUN, 5, UnprintedTake, "cq: file fault: queue.cqc"),
+];
+
+/// Of a folder of version 1 that is to be changed: of `queue.cqc` before its version, and of all else after it.
+static CHANGE: [Pair; 9] = [
+    (&[OLD], 2, Write(0, b"a\n"), "cq: folder fault"),
+    (&[OLD], 3, Take("reader"), "cq: file fault: queue.cqc"),
+    (&[OLD, BAD_LINE], 0, Drop(0), "cq: queue.cqc: line 2"),
+    (&[OldQueue(0)], 0, Write(0, b"a\n"), "cq: BadConfig"),
+    (
+        &[OLD, NO_IMAGE],
+        0,
+        Write(u64::MAX, b"\n"),
+        "cq: OldVersion",
+    ),
+    (&[OLD, FAULTY_FIRST], 4, Take("none"), "cq: OldVersion"),
+    (&[OLD, ENDED_FIRST], 0, Drop(0), "cq: OldVersion"),
+    (OLD_TOO_MANY, 0, WriteBroken(u64::MAX, 0), "cq: OldVersion"),
+    (&[OLD], 0, WriteEmpty(0, OVER), "cq: OldVersion"),
 ];
 
 #[test]
 fn read_and_take_say_the_first(rt: HostRuntime) -> Result<(), Fail> {
-    expect_first(rt.alloc(), &READ)
+    expect_first(rt.alloc(), &READ)?;
+    expect_first(rt.alloc(), &CHANGE)
 }
 
-/// More cycles than the settings of version 1 allow.
-const TOO_MANY_OLD: &[Step] = &[
-    Step::OldQueue(1),
-    Step::Put("19700101.cqi", ENDED),
-    Step::Put("19700102.cqi", b""),
-];
-
 /// Of `migrate`, which minds no contents that a queue cannot hold.
-static MIGRATE: [Pair; 12] = [
-    Pair {
-        before: &[Step::Put("zzz.cqi", b"")],
-        failing: 1,
-        step: Step::Migrate,
-        want: "cq: folder fault",
-    },
-    Pair {
-        before: &[Step::Put("zzz.cqi", b"")],
-        failing: 0,
-        step: Step::Migrate,
-        want: "cq: no queue here",
-    },
-    Pair {
-        before: &[Step::OldQueue(4), Step::Patch("queue.cqc", 5, b"x")],
-        failing: 0,
-        step: Step::Migrate,
-        want: "cq: queue.cqc: line 2",
-    },
-    Pair {
-        before: &[Step::OldQueue(0), Step::Put("zzz.cqi", b"")],
-        failing: 0,
-        step: Step::Migrate,
-        want: "cq: BadConfig",
-    },
-    Pair {
-        before: &[Step::OldCells(1_048_574, 4), Step::Put("zzz.cqi", b"")],
-        failing: 0,
-        step: Step::Migrate,
-        want: "cq: BadShape",
-    },
-    Pair {
-        before: &[Step::OldCells(65_534, 64), Step::Put("zzz.cqi", b"")],
-        failing: 0,
-        step: Step::Migrate,
-        want: "cq: BadConfig",
-    },
-    Pair {
-        before: &[
-            Step::OldQueue(4),
-            Step::Put("19700101.cqi", b"x"),
-            Step::Put("zzz.cqi", b""),
-        ],
-        failing: 4,
-        step: Step::Migrate,
-        want: "cq: zzz.cqi: bad cycle name",
-    },
-    Pair {
-        before: &[
-            Step::OldQueue(4),
-            Step::Put("19700101.cqi", b"x"),
-            Step::Fill("19700102.cqi", 0, MOST_BYTES + 1),
-        ],
-        failing: 0,
-        step: Step::Migrate,
-        want: "cq: 19700101.cqi: Cut at 0",
-    },
-    Pair {
-        before: &[
-            Step::OldQueue(4),
-            Step::Fill("19700101.cqi", 0, MOST_BYTES + 1),
-            Step::Put("19700102.cqi", b"x"),
-        ],
-        failing: 0,
-        step: Step::Migrate,
-        want: "cq: file too large: 19700101.cqi",
-    },
-    Pair {
-        before: &[
-            Step::OldQueue(4),
-            Step::Put("19700101.cqi", b""),
-            Step::Put("19700102.cqi", b"x"),
-        ],
-        failing: 0,
-        step: Step::Migrate,
-        want: "cq: 19700102.cqi: Cut at 0",
-    },
-    Pair {
-        before: &[
-            Step::OldQueue(4),
-            Step::Put("19700101.cqi", b""),
-            Step::Put("19700102.cqi", ENDED),
-        ],
-        failing: 6,
-        step: Step::Migrate,
-        want: "cq: 19700101.cqi: wrong end",
-    },
-    Pair {
-        before: TOO_MANY_OLD,
-        failing: 6,
-        step: Step::Migrate,
-        want: "cq: file fault: 19700101.cqi",
-    },
+static MIGRATE: [InFolder; 12] = [
+    (NO_IMAGE, &[], 1, "cq: folder fault"),
+    (NO_IMAGE, &[], 0, "cq: no queue here"),
+    (OLD, &[BAD_LINE], 0, "cq: queue.cqc: line 2"),
+    (OldQueue(0), &[NO_IMAGE], 0, "cq: BadConfig"),
+    (OldCells(1_048_574, 4), &[NO_IMAGE], 0, "cq: BadShape"),
+    (OldCells(65_534, 64), &[NO_IMAGE], 0, "cq: BadConfig"),
+    (OLD, FAULTY_NO_IMAGE, 4, "cq: zzz.cqi: bad cycle name"),
+    (OLD, FAULTY_LARGE, 0, "cq: 19700101.cqi: Cut at 0"),
+    (OLD, LARGE_FAULTY, 0, "cq: file too large: 19700101.cqi"),
+    (OLD, OPEN_FAULTY, 0, "cq: 19700102.cqi: Cut at 0"),
+    (OLD, OPEN_ENDED, 6, "cq: 19700101.cqi: wrong end"),
+    (OldQueue(1), ENDED_OPEN, 6, "cq: file fault: 19700101.cqi"),
 ];
 
 #[test]
 fn migrate_reports_the_first(rt: HostRuntime) -> Result<(), Fail> {
-    expect_first(rt.alloc(), &MIGRATE)
+    expect_first_of(rt.alloc(), Migrate, &MIGRATE)
 }
 
 /// A line that fits into no cycle of 64 cells, after an empty one.
-const EMPTY_AND_LONG: &[u8] =
+const EMPTY_LONG: &[u8] =
     b"\naaaaaaaaaaaaaaaaaaaaaaaaaaaaaaaaaaaaaaaaaaaaaaaaaaaaaaaaaaaaaaaaaaaaaaaaaaaaaaaaaaaaaaaaaaaaaaaaaaaaaaaaaaaaaaaaaaaaaaaaaaaaaaaaaaaaaaaaaaaaaaaaaaaaaaaaaaaaaaaaaaaaaaaaaaaaaaaaaaaaaaaaaaaaaaaaaaaaaaaa\n";
 
 /// The same line before an empty one.
-const LONG_AND_EMPTY: &[u8] =
+const LONG_EMPTY: &[u8] =
     b"aaaaaaaaaaaaaaaaaaaaaaaaaaaaaaaaaaaaaaaaaaaaaaaaaaaaaaaaaaaaaaaaaaaaaaaaaaaaaaaaaaaaaaaaaaaaaaaaaaaaaaaaaaaaaaaaaaaaaaaaaaaaaaaaaaaaaaaaaaaaaaaaaaaaaaaaaaaaaaaaaaaaaaaaaaaaaaaaaaaaaaaaaaaaaaaaaaaaaaaa\n\n";
+
+/// A queue with "a" in its only cycle.
+const FULL: &[Step] = &[Queue(1), Write(0, b"a\n")];
 
 /// Of `write`.
 static WRITE: [Pair; 10] = [
-    Pair {
-        before: TOO_MANY,
-        failing: 0,
-        step: Step::WriteBroken(u64::MAX, 0),
-        want: "cq: BadContents",
-    },
-    Pair {
-        before: &[Step::Queue(4)],
-        failing: 0,
-        step: Step::WriteBroken(u64::MAX, MOST_BYTES + 1),
-        want: "cq: read fault",
-    },
-    Pair {
-        before: &[Step::Queue(4)],
-        failing: 0,
-        step: Step::WriteEmpty(u64::MAX, MOST_BYTES + 1),
-        want: "cq: input too long",
-    },
-    Pair {
-        before: &[Step::Queue(4)],
-        failing: 0,
-        step: Step::Write(u64::MAX, b"\n"),
-        want: "cq: BadMoment",
-    },
-    Pair {
-        before: &[Step::Queue(1), Step::Write(0, b"a\n")],
-        failing: 0,
-        step: Step::Write(DAY, EMPTY_AND_LONG),
-        want: "cq: line 1: BadRoom",
-    },
-    Pair {
-        before: &[Step::Queue(1), Step::Write(0, b"a\n")],
-        failing: 0,
-        step: Step::Write(DAY, LONG_AND_EMPTY),
-        want: "cq: line 1: NoCycleLeft",
-    },
-    Pair {
-        before: &[Step::Queue(4)],
-        failing: 0,
-        step: Step::Write(0, EMPTY_AND_LONG),
-        want: "cq: line 1: BadRoom",
-    },
-    Pair {
-        before: &[Step::Queue(4)],
-        failing: 0,
-        step: Step::Write(0, LONG_AND_EMPTY),
-        want: "cq: line 1: CycleFull",
-    },
-    Pair {
-        before: &[Step::Queue(4), Step::Write(0, b"a\n")],
-        failing: 5,
-        step: Step::Write(DAY, LONG_AND_EMPTY),
-        want: "cq: line 1: CycleFull",
-    },
-    Pair {
-        before: &[Step::Queue(4), Step::Write(0, b"a\n")],
-        failing: 5,
-        step: Step::Unprinted(Unprinted::Write),
-        want: "cq: file fault: 19700101.cqi",
-    },
+    (TOO_MANY, 0, WriteBroken(u64::MAX, 0), "cq: BadContents"),
+    (&[NEW], 0, WriteBroken(u64::MAX, OVER), "cq: read fault"),
+    (&[NEW], 0, WriteEmpty(u64::MAX, OVER), "cq: input too long"),
+    (&[NEW], 0, Write(u64::MAX, b"\n"), "cq: BadMoment"),
+    (FULL, 0, Write(DAY, EMPTY_LONG), "cq: line 1: BadRoom"),
+    (FULL, 0, Write(DAY, LONG_EMPTY), "cq: line 1: NoCycleLeft"),
+    (&[NEW], 0, Write(0, EMPTY_LONG), "cq: line 1: BadRoom"),
+    (&[NEW], 0, Write(0, LONG_EMPTY), "cq: line 1: CycleFull"),
+    (BEGUN, 5, Write(DAY, LONG_EMPTY), "cq: line 1: CycleFull"),
+    (BEGUN, 5, UnprintedWrite, "cq: file fault: 19700101.cqi"),
 ];
 
 #[test]

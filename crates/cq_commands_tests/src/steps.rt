@@ -2,7 +2,7 @@
 //!
 //! A step is a command or a change of a file. Commands share no name with the calls of other tests: they open the queue,
 //! make all their calls of it, and save it.
-use crate::streams::{Broken, BrokenAfter, said};
+use crate::streams::{Broken, BrokenAfter, Said, said};
 use cq_commands::{
     InitSettings, ToolFault, check, drop_before, dump, init, migrate, read, salvage, take, write,
 };
@@ -14,6 +14,9 @@ use std::test::Fail;
 
 /// The most bytes of a file, and of the input of `write`.
 pub const MOST_BYTES: usize = 8_388_608;
+
+/// One byte more.
+pub const OVER: usize = MOST_BYTES + 1;
 
 /// What is done to a folder. A command gives what it wrote, and after it the text of its fault; a change of a file
 /// gives nothing.
@@ -36,10 +39,24 @@ pub enum Step {
     WriteDays(u32),
     /// `write` at a moment with a reader that fails after this many line feeds, and a writer that fails.
     WriteBroken(u64, usize),
-    /// A command with a writer that fails.
-    Unprinted(Unprinted),
-    /// `read`, backwards or not, from an index on.
-    Read(bool, Option<&'static str>),
+    /// `write` of "a" at moment 0 with a writer that fails.
+    UnprintedWrite,
+    /// `read` of all messages with such a writer.
+    UnprintedRead,
+    /// `take` under the name "reader" with such a writer.
+    UnprintedTake,
+    /// `check` with such a writer.
+    UnprintedCheck,
+    /// `dump` of a file with such a writer.
+    UnprintedDump(&'static str),
+    /// `read` of all messages.
+    Read,
+    /// `read` from an index on.
+    ReadFrom(&'static str),
+    /// `read` of all messages backwards.
+    Back,
+    /// `read` backwards from an index on.
+    BackFrom(&'static str),
     /// `take` under a name.
     Take(&'static str),
     /// `drop` of the cycles before one.
@@ -52,8 +69,14 @@ pub enum Step {
     Salvage(&'static str),
     /// `migrate`.
     Migrate,
+    /// Puts this text as `queue.cqc`.
+    PutConfig(&'static str),
+    /// Says the text of `queue.cqc`.
+    Config,
     /// Puts a file with these bytes.
     Put(&'static str, &'static [u8]),
+    /// Puts these images of cycle 0 and on.
+    Images(&'static [&'static [u8]]),
     /// Puts a file of this many copies of a byte.
     Fill(&'static str, u8, usize),
     /// Replaces the bytes of a file from a place on, or puts them after its last byte.
@@ -75,34 +98,63 @@ pub const TWO_CYCLES: &[Step] = &[
     Step::Write(DAY, b"a\n"),
 ];
 
+/// What `check` says of it.
+pub const BOTH: &str = "19700101.cqi: 1 messages, ended\n19700102.cqi: 1 messages, open\n";
+
 /// Its `queue.cqc`, as long as nothing is taken or dropped.
 pub const AT_START: &str =
     "cq 2\nroll daily\nepoch 0\ncells 64\ncount 8\nspacing 1\ncycles 4\nname reader 0\n";
 
+/// The same of a folder of version 1.
+pub const OLD_AT_START: &str =
+    "cq 1\nroll daily\nepoch 0\ncells 64\ncount 8\nspacing 1\ncycles 4\nname reader 0\n";
+
+/// What `check` says of the same cycles with no message.
+pub const BOTH_EMPTY: &str = "19700101.cqi: 0 messages, ended\n19700102.cqi: 0 messages, open\n";
+
+/// `write` of "hello" and "world" in cycle 20000, with what it says.
+pub const WRITES_HELLO_WORLD: (Step, &str) = (
+    Step::Write(1_728_000_000_000, b"hello\nworld\n"),
+    "00004e2000000000\n00004e2000000001\n",
+);
+
+/// `write` of eight times "hello" in cycle 0, with what it says.
+pub const WRITES_EIGHT: (Step, &str) = (
+    Step::Write(
+        0,
+        b"hello\nhello\nhello\nhello\nhello\nhello\nhello\nhello\n",
+    ),
+    "0000000000000000\n0000000000000001\n0000000000000002\n0000000000000003\n0000000000000004\n\
+0000000000000005\n0000000000000006\n0000000000000007\n",
+);
+
+/// `queue.cqc` after "hello" of cycle 20000 was taken.
+pub const AFTER_HELLO: &str =
+    "cq 2\nroll daily\nepoch 0\ncells 64\ncount 8\nspacing 1\ncycles 4\nname reader 85899345920001\n";
+
+/// The same of version 1.
+pub const OLD_AFTER_HELLO: &str =
+    "cq 1\nroll daily\nepoch 0\ncells 64\ncount 8\nspacing 1\ncycles 4\nname reader 85899345920001\n";
+
+/// The same with the position 10.
+pub const OLD_AT_10: &str =
+    "cq 1\nroll daily\nepoch 0\ncells 64\ncount 8\nspacing 1\ncycles 4\nname reader 10\n";
+
+/// Puts a `queue.cqc` with too few cells and no cycle.
+pub const BAD_CELLS_AND_CYCLES: Step = Step::PutConfig(
+    "cq 1\nroll daily\nepoch 0\ncells 30\ncount 8\nspacing 1\ncycles 0\n",
+);
+
+/// Puts a `queue.cqc` with no cycle.
+pub const BAD_CYCLES: Step = Step::PutConfig(
+    "cq 1\nroll daily\nepoch 0\ncells 64\ncount 8\nspacing 1\ncycles 0\n",
+);
+
 /// Steps in turn, each with what is said at it.
 pub type Steps = &'static [(Step, &'static str)];
 
-/// A command whose writer fails.
-#[derive(Clone, Copy)]
-pub enum Unprinted {
-    /// `write` of "a" at moment 0.
-    Write,
-    /// `read` of all messages.
-    Read,
-    /// `take` under the name "reader".
-    Take,
-    /// `check`.
-    Check,
-    /// `dump` of a file.
-    Dump(&'static str),
-}
-
 /// Takes a step over a folder, and gives what is said.
-pub fn said_at<F: Folder>(
-    alloc: Global,
-    folder: &mut F,
-    step: &Step,
-) -> Result<String, FolderFault> {
+pub fn said_at<F: Folder>(alloc: Global, folder: &mut F, step: &Step) -> Said {
     match *step {
         Step::Queue(cycles) => made(alloc, folder, "daily", 0, 64, cycles, &["reader"]),
         Step::OldQueue(cycles) => put_old(alloc, folder, 64, cycles),
@@ -112,17 +164,27 @@ pub fn said_at<F: Folder>(
         }
         Step::WriteEmpty(moment, lines) => written_empty(alloc, folder, moment, lines),
         Step::WriteBroken(moment, lines) => written_broken(alloc, folder, moment, lines),
-        Step::Unprinted(command) => said_unprinted(alloc, folder, command),
+        Step::UnprintedWrite => unprinted(alloc, folder, &Step::Write(0, b"a\n")),
+        Step::UnprintedRead => unprinted(alloc, folder, &Step::Read),
+        Step::UnprintedTake => unprinted(alloc, folder, &Step::Take("reader")),
+        Step::UnprintedCheck => unprinted(alloc, folder, &Step::Check),
+        Step::UnprintedDump(file) => unprinted(alloc, folder, &Step::Dump(file)),
         Step::WriteDays(days) => written_each_day(alloc, folder, days),
+        Step::PutConfig(text) => put(alloc, folder, "queue.cqc", text.as_bytes()),
+        Step::Config => text_of(alloc, folder, "queue.cqc"),
         Step::Text(file) => text_of(alloc, folder, file),
         Step::Bytes(file) => digits_of(alloc, folder, file),
         Step::Length(file) => length_of(alloc, folder, file),
         Step::Put(file, bytes) => put(alloc, folder, file, bytes),
+        Step::Images(images) => put_images(alloc, folder, images),
         Step::Fill(file, byte, count) => filled(alloc, folder, file, byte, count),
         Step::Patch(file, at, bytes) => patched(alloc, folder, file, at, bytes),
         Step::Cut(file, len) => cut(alloc, folder, file, len),
         Step::Write(..)
-        | Step::Read(..)
+        | Step::Read
+        | Step::ReadFrom(_)
+        | Step::Back
+        | Step::BackFrom(_)
         | Step::Take(_)
         | Step::Drop(_)
         | Step::Check
@@ -133,11 +195,7 @@ pub fn said_at<F: Folder>(
 }
 
 /// What a command says that needs only its arguments and an output.
-fn printed<F: Folder>(
-    alloc: Global,
-    folder: &mut F,
-    command: &Step,
-) -> Result<String, FolderFault> {
+fn printed<F: Folder>(alloc: Global, folder: &mut F, command: &Step) -> Said {
     let mut output = Vec::new(alloc);
     let done = run_step(alloc, folder, command, &mut output);
     said(alloc, done, &output)
@@ -152,7 +210,10 @@ fn run_step<F: Folder, W: Write>(
 ) -> Result<(), ToolFault> {
     match *step {
         Step::Write(moment, input) => write_lines(alloc, folder, moment, input, output),
-        Step::Read(back, from) => read(alloc, folder, back, from, output),
+        Step::Read => read(alloc, folder, false, None, output),
+        Step::ReadFrom(index) => read(alloc, folder, false, Some(index), output),
+        Step::Back => read(alloc, folder, true, None, output),
+        Step::BackFrom(index) => read(alloc, folder, true, Some(index), output),
         Step::Take(name) => take(alloc, folder, name, output),
         Step::Drop(cycle) => drop_before(alloc, folder, cycle, output),
         Step::Check => check(alloc, folder, output),
@@ -184,7 +245,7 @@ fn made<F: Folder>(
     cells: u64,
     cycles: u64,
     names: &[&str],
-) -> Result<String, FolderFault> {
+) -> Said {
     let settings = InitSettings {
         roll: String::from_str(alloc, roll)?,
         epoch,
@@ -198,12 +259,7 @@ fn made<F: Folder>(
 }
 
 /// Puts the `queue.cqc` of a queue in a folder of version 1.
-fn put_old<F: Folder>(
-    alloc: Global,
-    folder: &mut F,
-    cells: u64,
-    cycles: u64,
-) -> Result<String, FolderFault> {
+fn put_old<F: Folder>(alloc: Global, folder: &mut F, cells: u64, cycles: u64) -> Said {
     let text = format!(in alloc;
         "cq 1\nroll daily\nepoch 0\ncells {cells}\ncount 8\nspacing 1\ncycles {cycles}\nname reader 0\n"
     )?;
@@ -220,12 +276,7 @@ fn texts(alloc: Global, words: &[&str]) -> Result<Vec<String>, AllocError> {
 }
 
 /// What `write` says of this many empty lines.
-fn written_empty<F: Folder>(
-    alloc: Global,
-    folder: &mut F,
-    moment: u64,
-    lines: usize,
-) -> Result<String, FolderFault> {
+fn written_empty<F: Folder>(alloc: Global, folder: &mut F, moment: u64, lines: usize) -> Said {
     let input = copies(alloc, b'\n', lines)?;
     let mut output = Vec::new(alloc);
     let done = write_lines(alloc, folder, moment, &input, &mut output);
@@ -233,11 +284,7 @@ fn written_empty<F: Folder>(
 }
 
 /// What is said of a line on each of this many days from day 0 on: nothing if each has the index 0 of its day.
-fn written_each_day<F: Folder>(
-    alloc: Global,
-    folder: &mut F,
-    days: u32,
-) -> Result<String, FolderFault> {
+fn written_each_day<F: Folder>(alloc: Global, folder: &mut F, days: u32) -> Said {
     for day in 0..days {
         if !begins_cycle(alloc, folder, day)? {
             return Ok(format!(in alloc; "not on day {day}")?);
@@ -254,36 +301,16 @@ fn begins_cycle<F: Folder>(alloc: Global, folder: &mut F, day: u32) -> Result<bo
 }
 
 /// What `write` says if the input fails after this many line feeds, and the output fails.
-fn written_broken<F: Folder>(
-    alloc: Global,
-    folder: &mut F,
-    moment: u64,
-    lines: usize,
-) -> Result<String, FolderFault> {
+fn written_broken<F: Folder>(alloc: Global, folder: &mut F, moment: u64, lines: usize) -> Said {
     let mut input = BrokenAfter { left: lines };
     let done = write(alloc, folder, moment, &mut input, &mut Broken);
     said(alloc, done, &[])
 }
 
 /// What a command says whose writer fails.
-fn said_unprinted<F: Folder>(
-    alloc: Global,
-    folder: &mut F,
-    command: Unprinted,
-) -> Result<String, FolderFault> {
-    let done = run_step(alloc, folder, &step_of(command), &mut Broken);
+fn unprinted<F: Folder>(alloc: Global, folder: &mut F, command: &Step) -> Said {
+    let done = run_step(alloc, folder, command, &mut Broken);
     said(alloc, done, &[])
-}
-
-/// The step that is a command.
-fn step_of(command: Unprinted) -> Step {
-    match command {
-        Unprinted::Write => Step::Write(0, b"a\n"),
-        Unprinted::Read => Step::Read(false, None),
-        Unprinted::Take => Step::Take("reader"),
-        Unprinted::Check => Step::Check,
-        Unprinted::Dump(file) => Step::Dump(file),
-    }
 }
 
 /// This many copies of a byte.
@@ -300,12 +327,12 @@ fn bytes_of<F: Folder>(alloc: Global, folder: &mut F, file: &str) -> Result<Vec<
     }
 }
 
-fn text_of<F: Folder>(alloc: Global, folder: &mut F, file: &str) -> Result<String, FolderFault> {
+fn text_of<F: Folder>(alloc: Global, folder: &mut F, file: &str) -> Said {
     let bytes = bytes_of(alloc, folder, file)?;
     Ok(String::from_utf8_lossy(alloc, &bytes)?)
 }
 
-fn digits_of<F: Folder>(alloc: Global, folder: &mut F, file: &str) -> Result<String, FolderFault> {
+fn digits_of<F: Folder>(alloc: Global, folder: &mut F, file: &str) -> Said {
     Ok(hexadecimal(alloc, &bytes_of(alloc, folder, file)?)?)
 }
 
@@ -317,39 +344,32 @@ fn hexadecimal(alloc: Global, bytes: &[u8]) -> Result<String, AllocError> {
     Ok(digits)
 }
 
-fn length_of<F: Folder>(alloc: Global, folder: &mut F, file: &str) -> Result<String, FolderFault> {
+fn length_of<F: Folder>(alloc: Global, folder: &mut F, file: &str) -> Said {
     let bytes = bytes_of(alloc, folder, file)?;
     Ok(format!(in alloc; "{}", bytes.len())?)
 }
 
-fn put<F: Folder>(
-    alloc: Global,
-    folder: &mut F,
-    file: &str,
-    bytes: &[u8],
-) -> Result<String, FolderFault> {
+fn put<F: Folder>(alloc: Global, folder: &mut F, file: &str, bytes: &[u8]) -> Said {
     folder.begin(alloc, Access::Alone)?;
     folder.write(file, bytes)?;
     Ok(String::new(alloc))
 }
 
-fn filled<F: Folder>(
-    alloc: Global,
-    folder: &mut F,
-    file: &str,
-    byte: u8,
-    count: usize,
-) -> Result<String, FolderFault> {
+/// The images of the first cycles of a daily queue with epoch 0.
+const IMAGE_FILES: [&str; 3] = ["19700101.cqi", "19700102.cqi", "19700103.cqi"];
+
+fn put_images<F: Folder>(alloc: Global, folder: &mut F, images: &[&[u8]]) -> Said {
+    for (file, image) in IMAGE_FILES.iter().zip(images) {
+        put(alloc, folder, file, image)?;
+    }
+    Ok(String::new(alloc))
+}
+
+fn filled<F: Folder>(alloc: Global, folder: &mut F, file: &str, byte: u8, count: usize) -> Said {
     put(alloc, folder, file, &copies(alloc, byte, count)?)
 }
 
-fn patched<F: Folder>(
-    alloc: Global,
-    folder: &mut F,
-    file: &str,
-    at: usize,
-    new: &[u8],
-) -> Result<String, FolderFault> {
+fn patched<F: Folder>(alloc: Global, folder: &mut F, file: &str, at: usize, new: &[u8]) -> Said {
     let mut bytes = bytes_of(alloc, folder, file)?;
     patch(&mut bytes, at, new)?;
     put(alloc, folder, file, &bytes)
@@ -366,23 +386,14 @@ fn patch(bytes: &mut Vec<u8>, at: usize, new: &[u8]) -> Result<(), AllocError> {
     Ok(())
 }
 
-fn cut<F: Folder>(
-    alloc: Global,
-    folder: &mut F,
-    file: &str,
-    len: usize,
-) -> Result<String, FolderFault> {
+fn cut<F: Folder>(alloc: Global, folder: &mut F, file: &str, len: usize) -> Said {
     let mut bytes = bytes_of(alloc, folder, file)?;
     bytes.truncate(len);
     put(alloc, folder, file, &bytes)
 }
 
 /// What all these steps say, one after the other.
-pub fn said_by<F: Folder>(
-    alloc: Global,
-    folder: &mut F,
-    steps: &[Step],
-) -> Result<String, FolderFault> {
+pub fn said_by<F: Folder>(alloc: Global, folder: &mut F, steps: &[Step]) -> Said {
     let mut text = String::new(alloc);
     push_said(alloc, folder, steps, &mut text)?;
     Ok(text)
@@ -413,7 +424,7 @@ pub fn push_said_apart<F: Folder>(
 }
 
 /// What all these steps say over a new folder, one after the other.
-pub fn said_anew(alloc: Global, steps: &[Step]) -> Result<String, FolderFault> {
+pub fn said_anew(alloc: Global, steps: &[Step]) -> Said {
     let mut folder = MemoryFolder::new(alloc);
     said_by(alloc, &mut folder, steps)
 }
@@ -452,60 +463,92 @@ pub fn expect_each(alloc: Global, table: &[Steps]) -> Result<(), Fail> {
     Ok(())
 }
 
-/// A step over a folder of which one call fails.
+/// A command over a folder of which one call fails. Its first two calls let it in and list the names.
 pub struct Failing {
     /// What is done before, while no call fails.
     pub before: &'static [Step],
-    /// The step.
+    /// The command.
     pub step: Step,
     /// What is done after it, while no call fails.
     pub after: &'static [Step],
-    /// For a number of the failing call, what is said at the step and after it.
-    pub table: &'static [(u64, &'static str, &'static str)],
-    /// Whether what the failing call writes is written nevertheless.
-    pub writes: bool,
+    /// The file of each call from the third on.
+    pub files: &'static [&'static str],
+    /// What is said after it if a call fails.
+    pub kept: &'static str,
+    /// What it says if none fails.
+    pub done: &'static str,
+    /// What is said after it then. The same is said if the last call fails, and what it writes is written nevertheless.
+    pub left: &'static str,
 }
 
-/// What is said at the step and after it, if the call with this number fails.
-fn said_failing(alloc: Global, failing: &Failing, number: u64) -> Result<String, FolderFault> {
+/// The folder on which the command is done.
+fn folder_before(alloc: Global, failing: &Failing) -> Result<MemoryFolder, FolderFault> {
     let mut folder = MemoryFolder::new(alloc);
     said_by(alloc, &mut folder, failing.before)?;
-    let folder = match failing.writes {
-        false => FailingFolder::new(folder, number),
-        true => FailingFolder::written(folder, number),
-    };
-    said_and_after(alloc, folder, failing)
+    Ok(folder)
 }
 
-/// What is said at the step over a folder of which one call fails, and after it.
+/// What the command says over a folder of which one call fails, and what is said after it.
 fn said_and_after(
     alloc: Global,
     mut folder: FailingFolder<MemoryFolder>,
     failing: &Failing,
-) -> Result<String, FolderFault> {
+) -> Said {
     let mut said = said_at(alloc, &mut folder, &failing.step)?;
     said.push_str("|")?;
     push_said(alloc, &mut folder.into_inner(), failing.after, &mut said)?;
     Ok(said)
 }
 
-/// Adds what is said to a text if it is something else than the table wants, with the number of the call.
+/// What the command says if the call with this number fails, and what is said after it.
+fn said_failing(alloc: Global, failing: &Failing, number: usize) -> Said {
+    let folder = FailingFolder::new(folder_before(alloc, failing)?, number as u64);
+    said_and_after(alloc, folder, failing)
+}
+
+/// The same if the call writes nevertheless.
+fn said_written(alloc: Global, failing: &Failing, number: usize) -> Said {
+    let folder = FailingFolder::written(folder_before(alloc, failing)?, number as u64);
+    said_and_after(alloc, folder, failing)
+}
+
+/// What is wanted if the call with this number fails and this is said after it, or if there is no such call.
+fn wanted_at(
+    alloc: Global,
+    failing: &Failing,
+    number: usize,
+    after: &str,
+) -> Result<String, AllocError> {
+    let Some(place) = number.checked_sub(3) else {
+        return format!(in alloc; "cq: folder fault|{after}");
+    };
+    match failing.files.get(place) {
+        Some(file) => format!(in alloc; "cq: file fault: {file}|{after}"),
+        None => format!(in alloc; "{}|{}", failing.done, failing.left),
+    }
+}
+
+/// Adds to a text what is said other than wanted if a call fails or none does, with the number of the call.
 fn push_missed_calls(
     alloc: Global,
-    failing: &'static Failing,
+    failing: &Failing,
     text: &mut String,
 ) -> Result<(), FolderFault> {
-    for (number, want, after) in failing.table {
-        let said = said_failing(alloc, failing, *number)?;
-        let want = format!(in alloc; "{want}|{after}")?;
-        push_missed(alloc, text, *number as usize, said.as_str(), want.as_str())?;
+    for number in 1..failing.files.len().saturating_add(4) {
+        let said = said_failing(alloc, failing, number)?;
+        let want = wanted_at(alloc, failing, number, failing.kept)?;
+        push_missed(alloc, text, number, said.as_str(), want.as_str())?;
     }
     Ok(())
 }
 
-/// The step says what the table wants at each failing call.
-pub fn expect_failing(alloc: Global, failing: &'static Failing) -> Result<(), Fail> {
+/// Fails if the command or what is done after it says something else than wanted, whichever call fails.
+pub fn expect_failing(alloc: Global, failing: &Failing) -> Result<(), Fail> {
     let mut missed = String::new(alloc);
     push_missed_calls(alloc, failing, &mut missed)?;
+    let last = failing.files.len().saturating_add(2);
+    let said = said_written(alloc, failing, last)?;
+    let want = wanted_at(alloc, failing, last, failing.left)?;
+    push_missed(alloc, &mut missed, last, said.as_str(), want.as_str())?;
     expect_text(missed, "")
 }

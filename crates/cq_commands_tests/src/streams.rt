@@ -5,12 +5,11 @@ use std::alloc::Global;
 use std::io::{ErrorKind, Read, Write};
 use std::{io, str};
 
+/// What is said, unless memory or the folder fails.
+pub type Said = Result<String, FolderFault>;
+
 /// What a command wrote, and after it the text of its fault.
-pub fn said(
-    alloc: Global,
-    done: Result<(), ToolFault>,
-    output: &[u8],
-) -> Result<String, FolderFault> {
+pub fn said(alloc: Global, done: Result<(), ToolFault>, output: &[u8]) -> Said {
     let text = str::from_utf8(output).unwrap_or("no text");
     match done {
         Ok(()) => Ok(String::from_str(alloc, text)?),

@@ -27,12 +27,12 @@ fn parsed_line(alloc: Global, line: &str) -> Result<String, AllocError> {
     parsed(alloc, words.as_slice())
 }
 
-/// Fails if what is said does not contain what is wanted.
+/// Fails if what is said does not contain what is wanted, and gives both.
 fn expect_within(said: &str, want: &str) -> Result<(), Fail> {
     if said.contains(want) {
         return Ok(());
     }
-    Err(Fail::new(format_args!("{said}")))
+    Err(Fail::new(format_args!("no {want} in {said}")))
 }
 
 /// Fails if the arguments of a line are something else than its row wants.
@@ -49,10 +49,19 @@ fn help_of(alloc: Global, command: &str) -> Result<String, AllocError> {
     parsed_line(alloc, line.as_str())
 }
 
-/// Fails if the help of a command says something else than its row wants.
-fn expect_help(alloc: Global, table: &[(&str, &str)]) -> Result<(), Fail> {
-    for &(command, want) in table {
-        expect_within(help_of(alloc, command)?.as_str(), want)?;
+/// Fails if the help of a command lacks one of these texts.
+fn expect_in_help(alloc: Global, command: &str, wants: &[&str]) -> Result<(), Fail> {
+    let help = help_of(alloc, command)?;
+    for want in wants {
+        expect_within(help.as_str(), want)?;
+    }
+    Ok(())
+}
+
+/// Fails if the help of a command lacks a text of its row.
+fn expect_help(alloc: Global, table: &[(&str, &[&str])]) -> Result<(), Fail> {
+    for &(command, wants) in table {
+        expect_in_help(alloc, command, wants)?;
     }
     Ok(())
 }
@@ -259,153 +268,112 @@ fn parses_the_words_of_other_commands(rt: HostRuntime) -> Result<(), Fail> {
     expect(rt.alloc(), &OTHERS)
 }
 
-static LIMITS: [(&str, &str); 28] = [
-    // What the help of `race` says.
-    ("race", "Usage: cq race <MESSAGES>"),
+/// Commands, and what the help of each says: of limits, of what is printed, and in an example.
+static HELP: [(&str, &[&str]); 12] = [
     (
         "race",
-        " <MESSAGES>  How many messages each writer appends: from 1 to 1,000\n",
-    ),
-    (
-        "race",
-        "Prints 'writer W: K in order' for the writers 0 and 1: both readers read the first K\n\
+        &[
+            "Usage: cq race <MESSAGES>",
+            " <MESSAGES>  How many messages each writer appends: from 1 to 1,000\n",
+            "Prints 'writer W: K in order' for the writers 0 and 1: both readers read the first K\n\
          messages of the writer in their order, and not one more. Then 'reader R: K read' for\n\
          the readers 0 and 1, where K is how many messages the reader read.\n",
-    ),
-    ("race", "Example:\n  cq race 1000\n"),
-    // What the help of `init` says of limits.
-    (
-        "init",
-        " <DIR>       The folder of the queue, which is there already\n",
+            "Example:\n  cq race 1000\n",
+        ],
     ),
     (
         "init",
-        " <ROLL>      How long a cycle is: daily, hourly or minutely\n",
+        &[
+            " <DIR>       The folder of the queue, which is there already\n",
+            " <ROLL>      How long a cycle is: daily, hourly or minutely\n",
+            " <EPOCH>     When cycle 0 begins, in milliseconds of Unix time: at most 253,402,300,799,999\n",
+            " <CELLS>     The cells of a cycle, of four bytes each: from 13 + 2 * (1 + COUNT) to 1,048,576\n",
+            " <COUNT>     The entries of a table of the index: a power of two from 8 to 1,024\n",
+            " <SPACING>   One message in so many has an entry in the index: a power of two from 1 to 256\n",
+            " <CYCLES>    How many cycles may begin: from 1 to 64, and CYCLES * CELLS is at most 4,194,304\n",
+            " [NAMES]...  The names of the tailers: at most 16, no two the same,\n",
+            " each of 1 to 32 bytes of A-Z, a-z, 0-9, '_', '-' and '.'\n",
+            "Example:\n  mkdir journal && cq init journal daily 0 65536 32 1 8 reader\n",
+        ],
     ),
-    (
-        "init",
-        " <EPOCH>     When cycle 0 begins, in milliseconds of Unix time: at most 253,402,300,799,999\n",
-    ),
-    (
-        "init",
-        " <CELLS>     The cells of a cycle, of four bytes each: from 13 + 2 * (1 + COUNT) to 1,048,576\n",
-    ),
-    (
-        "init",
-        " <COUNT>     The entries of a table of the index: a power of two from 8 to 1,024\n",
-    ),
-    (
-        "init",
-        " <SPACING>   One message in so many has an entry in the index: a power of two from 1 to 256\n",
-    ),
-    (
-        "init",
-        " <CYCLES>    How many cycles may begin: from 1 to 64, and CYCLES * CELLS is at most 4,194,304\n",
-    ),
-    (
-        "init",
-        " [NAMES]...  The names of the tailers: at most 16, no two the same,\n",
-    ),
-    (
-        "init",
-        " each of 1 to 32 bytes of A-Z, a-z, 0-9, '_', '-' and '.'\n",
-    ),
-    // What the help of other commands says of limits.
     (
         "echo",
-        "Input: at most 129,000 bytes, in at most 1,000 lines of 1 to 128 bytes\n",
+        &[
+            "Input: at most 129,000 bytes, in at most 1,000 lines of 1 to 128 bytes\n",
+            "Example:\n  printf 'hello\\nworld\\n' | cq echo\n",
+        ],
     ),
     (
         "cycle",
-        " <ROLL>    How long a cycle is: daily, hourly or minutely\n",
-    ),
-    (
-        "cycle",
-        " <EPOCH>   When cycle 0 begins, in milliseconds of Unix time: at most 253,402,300,799,999\n",
-    ),
-    (
-        "cycle",
-        " <MOMENT>  The moment, in milliseconds of Unix time: from EPOCH to 253,402,300,799,999,\n",
-    ),
-    ("cycle", " and in a cycle up to 2,147,483,646\n"),
-    (
-        "write",
-        " <MOMENT>  The moment of the lines, in milliseconds of Unix time: from the queue's EPOCH\n",
+        &[
+            " <ROLL>    How long a cycle is: daily, hourly or minutely\n",
+            " <EPOCH>   When cycle 0 begins, in milliseconds of Unix time: at most 253,402,300,799,999\n",
+            " <MOMENT>  The moment, in milliseconds of Unix time: from EPOCH to 253,402,300,799,999,\n",
+            " and in a cycle up to 2,147,483,646\n",
+            "Example:\n  cq cycle daily 0 $(date +%s%3N)\n",
+        ],
     ),
     (
         "write",
-        " to 253,402,300,799,999, and in a cycle up to 2,147,483,646\n",
-    ),
-    (
-        "write",
-        "Input: at most 8,388,608 bytes, of which no line is empty, and all fit into one cycle\n",
+        &[
+            " <MOMENT>  The moment of the lines, in milliseconds of Unix time: from the queue's EPOCH\n",
+            " to 253,402,300,799,999, and in a cycle up to 2,147,483,646\n",
+            "Input: at most 8,388,608 bytes, of which no line is empty, and all fit into one cycle\n",
+            "Example:\n  printf 'hello\\nworld\\n' | cq write journal $(date +%s%3N)\n",
+        ],
     ),
     (
         "read",
-        " --from <INDEX>  The index to begin at: 16 lower-case hexadecimal digits\n",
+        &[
+            " --from <INDEX>  The index to begin at: 16 lower-case hexadecimal digits\n",
+            "Example:\n  cq read journal --from 00004e2000000000\n",
+        ],
     ),
     (
         "take",
-        " <NAME>  The name of the tailer: one of the NAMES that the queue was made with\n",
+        &[
+            " <NAME>  The name of the tailer: one of the NAMES that the queue was made with\n",
+            "Example:\n  cq take journal reader\n",
+        ],
     ),
     (
         "drop",
-        " <CYCLE>  Reads pass over the cycles before this one. One above the last cycle counts as that\n",
+        &[
+            " <CYCLE>  Reads pass over the cycles before this one. One above the last cycle counts as that\n",
+            "Example:\n  cq drop journal 20005\n",
+        ],
     ),
     (
         "check",
-        " <DIR>  The folder of the queue, which is there already\n",
+        &[
+            " <DIR>  The folder of the queue, which is there already\n",
+            "Example:\n  cq check journal\n",
+        ],
     ),
     (
         "dump",
-        " <FILE>  The image's file in DIR: yyyyMMdd.cqi, yyyyMMdd-HH.cqi or yyyyMMdd-HHmm.cqi, by the roll\n",
+        &[
+            " <FILE>  The image's file in DIR: yyyyMMdd.cqi, yyyyMMdd-HH.cqi or yyyyMMdd-HHmm.cqi, by the roll\n",
+            "Example:\n  cq dump journal $(date -u +%Y%m%d).cqi\n",
+        ],
     ),
     (
         "salvage",
-        " <FILE>  The image's file in DIR: yyyyMMdd.cqi, yyyyMMdd-HH.cqi or yyyyMMdd-HHmm.cqi, by the roll\n",
+        &[
+            " <FILE>  The image's file in DIR: yyyyMMdd.cqi, yyyyMMdd-HH.cqi or yyyyMMdd-HHmm.cqi, by the roll\n",
+            "Example:\n  cq salvage journal $(date -u +%Y%m%d).cqi\n",
+        ],
     ),
     (
         "migrate",
-        "CELLS + 3 is to be at most 1,048,576, and CYCLES * (CELLS + 3) at most 4,194,304.\n",
+        &[
+            "CELLS + 3 is to be at most 1,048,576, and CYCLES * (CELLS + 3) at most 4,194,304.\n",
+            "Example:\n  cq migrate journal\n",
+        ],
     ),
 ];
 
 #[test]
-fn help_names_limits_and_what_is_printed(rt: HostRuntime) -> Result<(), Fail> {
-    expect_help(rt.alloc(), &LIMITS)
-}
-
-/// Commands, each with the example in its help.
-static EXAMPLES: [(&str, &str); 11] = [
-    ("echo", "Example:\n  printf 'hello\\nworld\\n' | cq echo\n"),
-    ("cycle", "Example:\n  cq cycle daily 0 $(date +%s%3N)\n"),
-    (
-        "init",
-        "Example:\n  mkdir journal && cq init journal daily 0 65536 32 1 8 reader\n",
-    ),
-    (
-        "write",
-        "Example:\n  printf 'hello\\nworld\\n' | cq write journal $(date +%s%3N)\n",
-    ),
-    (
-        "read",
-        "Example:\n  cq read journal --from 00004e2000000000\n",
-    ),
-    ("take", "Example:\n  cq take journal reader\n"),
-    ("drop", "Example:\n  cq drop journal 20005\n"),
-    ("check", "Example:\n  cq check journal\n"),
-    (
-        "dump",
-        "Example:\n  cq dump journal $(date -u +%Y%m%d).cqi\n",
-    ),
-    (
-        "salvage",
-        "Example:\n  cq salvage journal $(date -u +%Y%m%d).cqi\n",
-    ),
-    ("migrate", "Example:\n  cq migrate journal\n"),
-];
-
-#[test]
-fn help_gives_an_example(rt: HostRuntime) -> Result<(), Fail> {
-    expect_help(rt.alloc(), &EXAMPLES)
+fn help_says_limits_what_is_printed_and_an_example(rt: HostRuntime) -> Result<(), Fail> {
+    expect_help(rt.alloc(), &HELP)
 }
