@@ -1,19 +1,13 @@
 //! Cycles that were dropped: what reads, takes and moves return then, and what is kept.
-use crate::lives::{End, Life, Start, expect_lives};
+use crate::lives::expect_lives;
 use crate::queues::{Call, Calls};
 use cq_fixtures::DAY;
 use cq_tail::Direction;
 use std::test::Fail;
 
-/// "a" in cycle 0 and "b" in cycle 5, which the tailer has seen.
-const TWO_CYCLES: Calls = &[
-    (Call::Append(0, "a"), "0"),
-    (Call::Append(5 * DAY, "b"), "21474836480"),
-    (Call::ReadAt(21474836480), "21474836480 b"),
-];
-
-/// The same, with cycle 0 dropped, and reads of what is left and what is not.
-const FIRST_DROPPED: Calls = &[
+const DROPPED: Calls = &[
+    // Reads pass over them, also once the queue was stopped and opened again.
+    (Call::New(4, 0), "open"),
     (Call::Append(0, "a"), "0"),
     (Call::Append(5 * DAY, "b"), "21474836480"),
     (Call::ReadAt(21474836480), "21474836480 b"),
@@ -24,79 +18,53 @@ const FIRST_DROPPED: Calls = &[
     (Call::Turn(Direction::Backwards), "turned"),
     (Call::Next, "21474836480 b"),
     (Call::Next, "BeforeStart"),
-];
-
-static DROPPED: [Life; 5] = [
-    // Reads pass over them.
-    Life {
-        cycles: 4,
-        start: Start::New(0),
-        calls: FIRST_DROPPED,
-        end: End::Stopped("0[a;] 5[b;] at [0] floor 5"),
-    },
-    Life {
-        cycles: 4,
-        start: Start::New(0),
-        calls: FIRST_DROPPED,
-        end: End::Reopened(&[
-            (Call::ReadAt(0), "Gone"),
-            (Call::Next, "21474836480 b"),
-            (Call::DropBefore(0), "floor 5"),
-            (Call::Take("reader"), "21474836480 b"),
-        ]),
-    },
-    Life {
-        cycles: 4,
-        start: Start::New(0),
-        calls: TWO_CYCLES,
-        end: End::Stopped("0[a;] 5[b;] at [0]"),
-    },
+    (Call::Stop, "0[a;] 5[b;] at [0] floor 5"),
+    (Call::Reopen, "open"),
+    (Call::ReadAt(0), "Gone"),
+    (Call::Next, "21474836480 b"),
+    (Call::DropBefore(0), "floor 5"),
+    (Call::Take("reader"), "21474836480 b"),
+    // The same queue without a drop.
+    (Call::New(4, 0), "open"),
+    (Call::Append(0, "a"), "0"),
+    (Call::Append(5 * DAY, "b"), "21474836480"),
+    (Call::ReadAt(21474836480), "21474836480 b"),
+    (Call::Stop, "0[a;] 5[b;] at [0]"),
     // So do moves and takes.
-    Life {
-        cycles: 4,
-        start: Start::New(0),
-        calls: &[
-            (Call::Append(0, "a"), "0"),
-            (Call::Append(5 * DAY, "b"), "21474836480"),
-            (Call::MoveTo(0), "moved"),
-            (Call::DropBefore(5), "NotSeen"),
-            (Call::ToEnd, "end 21474836481"),
-            (Call::DropBefore(5), "floor 5"),
-            (Call::MoveTo(0), "stays"),
-            (Call::Cursor, "at 21474836481"),
-            (Call::ReadAt(4294967296), "Gone"),
-            (Call::ReadAt(21474836481), "NotYet"),
-            (Call::ReadAt(12884901888), "Gone"),
-            (Call::Position("reader"), "at 0"),
-            (Call::Take("reader"), "21474836480 b"),
-            (Call::Take("reader"), "NotYet"),
-            (Call::Position("reader"), "at 21474836481"),
-        ],
-        end: End::Dropped,
-    },
+    (Call::New(4, 0), "open"),
+    (Call::Append(0, "a"), "0"),
+    (Call::Append(5 * DAY, "b"), "21474836480"),
+    (Call::MoveTo(0), "moved"),
+    (Call::DropBefore(5), "NotSeen"),
+    (Call::ToEnd, "end 21474836481"),
+    (Call::DropBefore(5), "floor 5"),
+    (Call::MoveTo(0), "stays"),
+    (Call::Cursor, "at 21474836481"),
+    (Call::ReadAt(4294967296), "Gone"),
+    (Call::ReadAt(21474836481), "NotYet"),
+    (Call::ReadAt(12884901888), "Gone"),
+    (Call::Position("reader"), "at 0"),
+    (Call::Take("reader"), "21474836480 b"),
+    (Call::Take("reader"), "NotYet"),
+    (Call::Position("reader"), "at 21474836481"),
     // A message that is begun before a cycle is dropped and completed after it, with snapshots around that.
-    Life {
-        cycles: 4,
-        start: Start::New(0),
-        calls: &[
-            (Call::Append(0, "a"), "0"),
-            (Call::Append(5 * DAY, "b"), "21474836480"),
-            (Call::Begin(0, 1), "begun"),
-            (Call::ReadAt(21474836480), "21474836480 b"),
-            (Call::DropBefore(5), "floor 5"),
-            (Call::Snapshot, "0[a;] 5[b;] "),
-            (Call::Put("c"), "put"),
-            (Call::Snapshot, "0[a;] 5[b;] "),
-            (Call::Complete, "21474836481"),
-            (Call::Snapshot, "0[a;] 5[b;c;] "),
-            (Call::ReadAt(0), "Gone"),
-            (Call::Next, "21474836480 b"),
-        ],
-        end: End::Stopped("0[a;] 5[b;c;] at [0] floor 5"),
-    },
+    (Call::New(4, 0), "open"),
+    (Call::Append(0, "a"), "0"),
+    (Call::Append(5 * DAY, "b"), "21474836480"),
+    (Call::Begin(0, 1), "begun"),
+    (Call::ReadAt(21474836480), "21474836480 b"),
+    (Call::DropBefore(5), "floor 5"),
+    (Call::Snapshot, "0[a;] 5[b;] "),
+    (Call::Put("c"), "put"),
+    (Call::Snapshot, "0[a;] 5[b;] "),
+    (Call::Complete, "21474836481"),
+    (Call::Snapshot, "0[a;] 5[b;c;] "),
+    (Call::ReadAt(0), "Gone"),
+    (Call::Next, "21474836480 b"),
+    (Call::Stop, "0[a;] 5[b;c;] at [0] floor 5"),
 ];
 
 #[test]
 fn calls_pass_over_cycles_that_were_dropped(rt: HostRuntime) -> Result<(), Fail> {
-    expect_lives(rt.alloc(), &DROPPED)
+    expect_lives(rt.alloc(), &[DROPPED])
 }

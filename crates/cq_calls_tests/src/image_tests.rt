@@ -1,9 +1,9 @@
 //! The images of snapshots that are taken while a message is begun, and the printed text of their records.
-use crate::lives::{Start, expect_calls};
+use crate::lives::Lives;
 use crate::queues::{Call, Calls};
 use cq_chain::fits_all;
 use cq_cycle::Roll;
-use cq_fixtures::{DAY, config_of, expect_text};
+use cq_fixtures::{DAY, expect_text};
 use cq_image::{ImageRead, image, read};
 use cq_layout::Shape;
 use cq_model::{CycleList, Message};
@@ -44,18 +44,6 @@ fn push_image(cycle: u32, image: &ImageRead, out: &mut String) -> Result<(), All
     out.push_str("] open\n")
 }
 
-/// What an image is read as.
-fn push_read(
-    alloc: Global,
-    shape: Shape,
-    cycle: u32,
-    bytes: &[u8],
-    out: &mut String,
-) -> Result<(), Fail> {
-    let image = read(alloc, cycle, shape, Roll::Daily, 0, bytes)?;
-    Ok(push_image(cycle, &image, out)?)
-}
-
 /// The records of an image as text.
 fn push_records(
     alloc: Global,
@@ -77,7 +65,8 @@ fn push_cycle(
     out: &mut String,
 ) -> Result<(), Fail> {
     let bytes = image_of(alloc, shape, list, !is_last)?;
-    push_read(alloc, shape, list.cycle, bytes.as_slice(), out)?;
+    let image = read(alloc, list.cycle, shape, Roll::Daily, 0, bytes.as_slice())?;
+    push_image(list.cycle, &image, out)?;
     if is_last {
         return push_records(alloc, shape, list.cycle, bytes.as_slice(), out);
     }
@@ -100,6 +89,7 @@ fn push_images(
 
 /// Calls after which a message is begun in the last of two cycles.
 const BEFORE_SNAPSHOT: Calls = &[
+    (Call::New(4, 0), "open"),
     (Call::Append(0, "a"), "0"),
     (Call::Append(5 * DAY, "b"), "21474836480"),
     (Call::Begin(0, 1), "begun"),
@@ -108,9 +98,9 @@ const BEFORE_SNAPSHOT: Calls = &[
 /// Makes these calls of a new queue, and gives what the images of a snapshot after them are read as.
 fn push_imaged(alloc: Global, calls: Calls, out: &mut String) -> Result<(), Fail> {
     let shape = Shape::new(64, 8, 1)?;
-    let mut fixture = Start::New(0).queue(alloc, config_of(alloc, shape, 4)?)?;
-    expect_calls(alloc, "before the snapshot", &mut fixture, calls)?;
-    let lists = fixture.snapshot_lists(alloc)?;
+    let mut lives = Lives::of(shape);
+    lives.expect(alloc, calls)?;
+    let lists = lives.snapshot_lists(alloc)?;
     push_images(alloc, shape, lists.as_slice(), out)
 }
 

@@ -8,6 +8,8 @@ mod allocating_tests;
 #[cfg(test)]
 mod backwards_tests;
 #[cfg(test)]
+mod both;
+#[cfg(test)]
 mod cycle_tests;
 #[cfg(test)]
 mod floor_tests;

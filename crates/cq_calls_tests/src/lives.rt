@@ -1,44 +1,13 @@
-//! Lives of queues: how they begin, their calls with what each returns, and their ends with what is there then.
+//! Lives of queues: calls in turn, from how a queue begins to what is left of it.
 
-use crate::queues::{Calls, Fixture};
-use cq_fixtures::{Cycles, contents_of, contents_text, expect_answer, expect_end, small_config};
-use cq_journal::Journal;
-use cq_model::{Config, Contents};
+use crate::queues::{Call, Calls, Fixture, misplaced};
+use cq_fixtures::{Cycles, config_of, contents_of, contents_text, expect_answer};
+use cq_layout::Shape;
+use cq_model::{Config, Contents, CycleList};
 use cq_shown::{CreateError, Stopped, recover};
 use cq_words::Queue;
 use std::alloc::{AllocError, Global};
 use std::test::Fail;
-
-/// How a queue begins.
-#[derive(Clone, Copy)]
-pub enum Start {
-    /// New at a moment.
-    New(u64),
-    /// Opened again with these cycles, and the name "reader" at these positions.
-    Held(Cycles, &'static [u64]),
-}
-
-impl Start {
-    /// A queue of this configuration that begins so.
-    pub fn queue(self, alloc: Global, config: Config) -> Result<Fixture, CreateError> {
-        match self {
-            Start::New(moment) => created(alloc, config, moment),
-            Start::Held(cycles, positions) => {
-                reopened(alloc, config, &contents_of(alloc, cycles, positions)?)
-            }
-        }
-    }
-
-    /// A journal of this configuration that begins so.
-    pub fn journal(self, alloc: Global, config: Config) -> Result<Journal, CreateError> {
-        match self {
-            Start::New(moment) => Journal::create(alloc, config, moment),
-            Start::Held(cycles, positions) => {
-                Journal::reopen(alloc, config, &contents_of(alloc, cycles, positions)?)
-            }
-        }
-    }
-}
 
 /// A new queue of this configuration.
 fn created(alloc: Global, config: Config, moment: u64) -> Result<Fixture, CreateError> {
@@ -52,61 +21,155 @@ fn reopened(alloc: Global, config: Config, contents: &Contents) -> Result<Fixtur
     Ok(Fixture::new(queue, caller))
 }
 
-/// What is checked after the calls of a queue.
-#[derive(Clone, Copy)]
-pub enum End {
-    /// Nothing.
-    Dropped,
-    /// Why there is no such queue.
-    Refused(&'static str),
-    /// What it holds once it was stopped.
-    Stopped(&'static str),
-    /// What it holds once a caller stopped it that met no other.
-    StoppedByOther(&'static str),
-    /// Which cells of its first cycle are not 0 once it was stopped, from this one on.
-    Cells(u32, &'static str),
-    /// What these cells of its first cycle hold once a caller stopped it that met no other, and its write position.
-    Published(&'static [u32], &'static str),
-    /// What these calls return once it was stopped and opened again.
-    Reopened(Calls),
-}
-
-impl End {
-    /// The text that is wanted.
-    fn want(self) -> &'static str {
-        match self {
-            End::Dropped | End::Reopened(_) => "",
-            End::Refused(want)
-            | End::Stopped(want)
-            | End::StoppedByOther(want)
-            | End::Cells(_, want)
-            | End::Published(_, want) => want,
-        }
-    }
-
-    /// What is checked of a queue that was stopped, as text.
-    fn text(self, alloc: Global, stopped: &Stopped) -> Result<String, Fail> {
-        match self {
-            End::Dropped | End::Refused(_) | End::Reopened(_) => Ok(String::new(alloc)),
-            End::Stopped(_) | End::StoppedByOther(_) => {
-                contents_text(alloc, &recover(alloc, stopped)?)
-            }
-            End::Cells(from, _) => Ok(cells_text(alloc, stopped, from)?),
-            End::Published(cells, _) => Ok(published_text(alloc, stopped, cells)?),
-        }
-    }
-}
-
-/// A queue with cycles of 64 cells and the name "reader".
-pub struct Life {
+/// Queues with the name "reader", one after the other, each from its start to its end.
+#[derive(Drop)]
+pub struct Lives {
+    /// The measures of their cycles.
+    shape: Shape,
+    /// How many queues have begun.
+    count: usize,
+    /// How many calls of the last one were made.
+    calls: usize,
     /// How many cycles it may have.
-    pub cycles: u32,
-    /// How it begins.
-    pub start: Start,
-    /// Calls of it in turn, each with what it returns.
-    pub calls: Calls,
-    /// What is checked after them.
-    pub end: End,
+    cycles: u32,
+    /// The queue with its callers, unless it is stopped.
+    running: Option<Fixture>,
+    /// What it holds once it is stopped.
+    contents: Option<Contents>,
+}
+
+impl Lives {
+    /// No queue yet, with cycles of this shape.
+    pub fn of(shape: Shape) -> Lives {
+        Lives {
+            shape,
+            count: 0,
+            calls: 0,
+            cycles: 0,
+            running: None,
+            contents: None,
+        }
+    }
+
+    /// Begins the next life, of a queue that may have this many cycles. Returns its configuration.
+    fn begin(&mut self, alloc: Global, cycles: u32) -> Result<Config, Fail> {
+        self.count = self.count.saturating_add(1);
+        self.calls = 0;
+        self.cycles = cycles;
+        config_of(alloc, self.shape, cycles)
+    }
+
+    /// Goes on with a queue, or with none if it was refused.
+    fn enter(&mut self, alloc: Global, made: Result<Fixture, CreateError>) -> Result<String, Fail> {
+        match made {
+            Ok(fixture) => {
+                self.running = Some(fixture);
+                Ok(String::from_str(alloc, "open")?)
+            }
+            Err(refusal) => {
+                self.running = None;
+                Ok(format!(in alloc; "{refusal}")?)
+            }
+        }
+    }
+
+    fn create(&mut self, alloc: Global, cycles: u32, moment: u64) -> Result<String, Fail> {
+        let config = self.begin(alloc, cycles)?;
+        self.enter(alloc, created(alloc, config, moment))
+    }
+
+    fn hold(
+        &mut self,
+        alloc: Global,
+        cycles: u32,
+        held: Cycles,
+        position: u64,
+    ) -> Result<String, Fail> {
+        let config = self.begin(alloc, cycles)?;
+        let contents = contents_of(alloc, held, &[position])?;
+        self.enter(alloc, reopened(alloc, config, &contents))
+    }
+
+    /// The queue with its callers, which is stopped next.
+    fn taken(&mut self) -> Result<Fixture, Fail> {
+        match self.running.take() {
+            Some(fixture) => Ok(fixture),
+            None => misplaced("queue"),
+        }
+    }
+
+    /// Keeps what is left of the queue, and gives it as text.
+    fn keep(&mut self, alloc: Global, stopped: &Stopped) -> Result<String, Fail> {
+        let contents = recover(alloc, stopped)?;
+        let text = contents_text(alloc, &contents)?;
+        self.contents = Some(contents);
+        Ok(text)
+    }
+
+    fn stop(&mut self, alloc: Global) -> Result<String, Fail> {
+        let stopped = self.taken()?.stop();
+        self.keep(alloc, &stopped)
+    }
+
+    fn stop_by_other(&mut self, alloc: Global) -> Result<String, Fail> {
+        let stopped = self.taken()?.stop_by_other();
+        self.keep(alloc, &stopped)
+    }
+
+    fn reopen(&mut self, alloc: Global) -> Result<String, Fail> {
+        if self.running.is_some() {
+            let _left = self.stop(alloc)?;
+        }
+        let Some(contents) = self.contents.take() else {
+            return misplaced("stopped queue");
+        };
+        let config = config_of(alloc, self.shape, self.cycles)?;
+        self.enter(alloc, reopened(alloc, config, &contents))
+    }
+
+    /// What a call returns.
+    fn answer_text(&mut self, alloc: Global, call: Call) -> Result<String, Fail> {
+        match call {
+            Call::New(cycles, moment) => self.create(alloc, cycles, moment),
+            Call::Held(cycles, held, position) => self.hold(alloc, cycles, held, position),
+            Call::Stop => self.stop(alloc),
+            Call::StopByOther => self.stop_by_other(alloc),
+            Call::Cells(from) => Ok(cells_text(alloc, &self.taken()?.stop(), from)?),
+            Call::Published(cells) => {
+                Ok(published_text(alloc, &self.taken()?.stop_by_other(), cells)?)
+            }
+            Call::Reopen => self.reopen(alloc),
+            _ => match &mut self.running {
+                Some(fixture) => fixture.answer_text(alloc, call),
+                None => misplaced("queue"),
+            },
+        }
+    }
+
+    /// Makes the next call. Fails if it does not return what is wanted, and names the life and the call in the fault.
+    fn expect_next(&mut self, alloc: Global, call: Call, want: &str) -> Result<(), Fail> {
+        let answer = self.answer_text(alloc, call)?;
+        let life = format!(in alloc; "life {}", self.count)?;
+        expect_answer(life.as_str(), self.calls, answer.as_str(), want)?;
+        self.calls = self.calls.saturating_add(1);
+        Ok(())
+    }
+
+    /// Makes these calls in turn. Fails if one of them does not return what is wanted.
+    pub fn expect(&mut self, alloc: Global, calls: Calls) -> Result<(), Fail> {
+        for (call, want) in calls {
+            self.expect_next(alloc, *call, want)?;
+        }
+        Ok(())
+    }
+
+    /// What a snapshot gives.
+    pub fn snapshot_lists(&mut self, alloc: Global) -> Result<Vec<CycleList>, Fail> {
+        match &mut self.running {
+            Some(fixture) => Ok(fixture.snapshot_lists(alloc)?),
+            None => misplaced("queue"),
+        }
+    }
 }
 
 /// The cells of the first slot that are not 0, from this one on, each after its number.
@@ -141,76 +204,11 @@ fn published_text(alloc: Global, stopped: &Stopped, cells: &[u32]) -> Result<Str
     Ok(text)
 }
 
-/// Makes these calls in turn. Fails if one of them does not return what is wanted.
-pub fn expect_calls(
-    alloc: Global,
-    row: &str,
-    fixture: &mut Fixture,
-    calls: Calls,
-) -> Result<(), Fail> {
-    for (number, (call, want)) in calls.iter().enumerate() {
-        let answer = fixture.answer_text(alloc, *call)?;
-        expect_answer(row, number, answer.as_str(), want)?;
-    }
-    Ok(())
-}
-
-/// The same of a queue that was opened again.
-fn expect_calls_again(
-    alloc: Global,
-    row: &str,
-    mut fixture: Fixture,
-    calls: Calls,
-) -> Result<(), Fail> {
-    let row = format!(in alloc; "{row}, opened again")?;
-    expect_calls(alloc, row.as_str(), &mut fixture, calls)
-}
-
-impl Life {
-    /// The queue, opened again with what it held when it was stopped.
-    fn opened_again(&self, alloc: Global, stopped: &Stopped) -> Result<Fixture, Fail> {
-        let contents = recover(alloc, stopped)?;
-        Ok(reopened(alloc, small_config(alloc, self.cycles)?, &contents)?)
-    }
-
-    /// Fails if a queue that was stopped is not as wanted.
-    fn expect_stopped(&self, alloc: Global, row: &str, stopped: &Stopped) -> Result<(), Fail> {
-        if let End::Reopened(calls) = self.end {
-            return expect_calls_again(alloc, row, self.opened_again(alloc, stopped)?, calls);
-        }
-        let text = self.end.text(alloc, stopped)?;
-        expect_end(row, text.as_str(), self.end.want())
-    }
-
-    /// Fails if a call of this queue does not return what is wanted, or if the queue is not as wanted at its end.
-    fn expect_lived(&self, alloc: Global, row: &str, mut fixture: Fixture) -> Result<(), Fail> {
-        expect_calls(alloc, row, &mut fixture, self.calls)?;
-        let stopped = match self.end {
-            End::Dropped => return Ok(()),
-            End::Refused(want) => return expect_end(row, "no refusal", want),
-            End::StoppedByOther(_) | End::Published(_, _) => fixture.stop_by_other(),
-            End::Stopped(_) | End::Cells(_, _) | End::Reopened(_) => fixture.stop(),
-        };
-        self.expect_stopped(alloc, row, &stopped)
-    }
-
-    /// Fails if a queue of this configuration does not live so. The row is named in the fault.
-    pub fn expect(&self, alloc: Global, row: &str, config: Config) -> Result<(), Fail> {
-        match self.start.queue(alloc, config) {
-            Ok(fixture) => self.expect_lived(alloc, row, fixture),
-            Err(refusal) => {
-                let refusal = format!(in alloc; "{refusal}")?;
-                expect_end(row, refusal.as_str(), self.end.want())
-            }
-        }
-    }
-}
-
-/// Fails if a queue with cycles of 64 cells does not live as one of these.
-pub fn expect_lives(alloc: Global, lives: &[Life]) -> Result<(), Fail> {
-    for (number, life) in lives.iter().enumerate() {
-        let row = format!(in alloc; "life {number}")?;
-        life.expect(alloc, row.as_str(), small_config(alloc, life.cycles)?)?;
+/// Makes these calls of queues with cycles of 64 cells. Fails if one of them does not return what is wanted.
+pub fn expect_lives(alloc: Global, lists: &[Calls]) -> Result<(), Fail> {
+    let mut lives = Lives::of(Shape::new(64, 8, 1)?);
+    for calls in lists {
+        lives.expect(alloc, calls)?;
     }
     Ok(())
 }

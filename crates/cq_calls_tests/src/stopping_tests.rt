@@ -1,87 +1,51 @@
 //! What is left of queues that are stopped.
-use crate::lives::{End, Life, Start, expect_lives};
-use crate::queues::{Call, Calls};
+use crate::lives::expect_lives;
+use crate::queues::{Call, Calls, THREE_CYCLES};
 use cq_fixtures::{DAY, expect_row, small_config};
 use cq_image::image;
 use std::alloc::Global;
 use std::test::Fail;
 
-/// "hello", and seven bytes of another message, during which no other caller appends.
-const BEGUN_AFTER_HELLO: Calls = &[
+/// "hello", and seven bytes of another message.
+const BEGUN: Calls = &[
+    (Call::New(4, 0), "open"),
     (Call::Append(0, "hello"), "0"),
     (Call::Begin(0, 12), "begun"),
     (Call::Put("1234567"), "put"),
-    (Call::AppendAndReadByNew("x"), "Busy, 0 hello"),
 ];
 
-/// The same, but the other message is dropped first.
-const DROPPED_AFTER_HELLO: Calls = &[
-    (Call::Append(0, "hello"), "0"),
-    (Call::Begin(0, 12), "begun"),
-    (Call::Put("1234567"), "put"),
-    (Call::DropWriting, "dropped"),
+/// The other message is dropped.
+const DROPPED: Calls = &[(Call::DropWriting, "dropped")];
+
+/// No other caller appends after the message that was begun. What others completed is kept.
+const HELLO_IS_KEPT: Calls = &[
     (Call::AppendAndReadByNew("x"), "Busy, 0 hello"),
+    (Call::Stop, "0[hello;] at [0]"),
+    (Call::Reopen, "open"),
+    (Call::Append(0, "x"), "1"),
 ];
 
-static KEPT: [Life; 8] = [
-    // What others completed is kept.
-    Life {
-        cycles: 4,
-        start: Start::New(0),
-        calls: BEGUN_AFTER_HELLO,
-        end: End::Stopped("0[hello;] at [0]"),
-    },
-    Life {
-        cycles: 4,
-        start: Start::New(0),
-        calls: BEGUN_AFTER_HELLO,
-        end: End::Reopened(&[(Call::Append(0, "x"), "1")]),
-    },
-    Life {
-        cycles: 4,
-        start: Start::New(0),
-        calls: DROPPED_AFTER_HELLO,
-        end: End::Stopped("0[hello;] at [0]"),
-    },
-    Life {
-        cycles: 4,
-        start: Start::New(0),
-        calls: DROPPED_AFTER_HELLO,
-        end: End::Reopened(&[(Call::Append(0, "x"), "1")]),
-    },
+const KEPT: Calls = &[
     // Cycles without messages are kept.
-    Life {
-        cycles: 4,
-        start: Start::New(0),
-        calls: &[(Call::Advance(5 * DAY), "cycle 5")],
-        end: End::Stopped("0[] 5[] at [0]"),
-    },
+    (Call::New(4, 0), "open"),
+    (Call::Advance(5 * DAY), "cycle 5"),
+    (Call::Stop, "0[] 5[] at [0]"),
     // What a queue was opened with is kept.
-    Life {
-        cycles: 4,
-        start: Start::Held(&[(0, &["hello", "ab"]), (5, &[]), (9, &["z"])], &[1]),
-        calls: &[],
-        end: End::Stopped("0[hello;ab;] 5[] 9[z;] at [1]"),
-    },
+    (Call::Held(4, THREE_CYCLES, 1), "open"),
+    (Call::Stop, "0[hello;ab;] 5[] 9[z;] at [1]"),
     // A queue without cycles is refused.
-    Life {
-        cycles: 4,
-        start: Start::Held(&[], &[0]),
-        calls: &[],
-        end: End::Refused("BadContents"),
-    },
+    (Call::Held(4, &[], 0), "BadContents"),
     // A new queue has the cycle of its moment.
-    Life {
-        cycles: 4,
-        start: Start::New(5 * DAY),
-        calls: &[],
-        end: End::Stopped("5[] at [0]"),
-    },
+    (Call::New(4, 5 * DAY), "open"),
+    (Call::Stop, "5[] at [0]"),
 ];
 
 #[test]
 fn a_stopped_queue_keeps_what_is_complete(rt: HostRuntime) -> Result<(), Fail> {
-    expect_lives(rt.alloc(), &KEPT)
+    expect_lives(
+        rt.alloc(),
+        &[BEGUN, HELLO_IS_KEPT, BEGUN, DROPPED, HELLO_IS_KEPT, KEPT],
+    )
 }
 
 /// The image of a cycle without messages that has ended, or that has not.

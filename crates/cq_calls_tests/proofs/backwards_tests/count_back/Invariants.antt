@@ -1,5 +1,0 @@
-use Rattle.cq_words.specs.Values.{IsOf}
-use Rattle.cq_calls_tests.proofs.backwards_tests.count_back.Given as goal
-
-abbrev pub invariant-loop-count : goal.invariant-loop-count
-invariant-loop-count l = IsOf l.queue l.appender × IsOf l.queue l.tailer.caller
