@@ -49,13 +49,8 @@ fn missed_of(alloc: Global, append: &Append<'_>) -> Result<String, Fail> {
         call: Call::Append(append.text),
     };
     for steps in 0..stands + 4 {
-        push_missed_lost(
-            alloc,
-            &lost,
-            steps,
-            append.wanted(stands, steps),
-            &mut missed,
-        )?;
+        let wanted = append.wanted(stands, steps);
+        push_missed_lost(alloc, &lost, steps, wanted, &mut missed)?;
     }
     Ok(missed)
 }

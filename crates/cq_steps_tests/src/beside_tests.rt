@@ -2,14 +2,15 @@
 //! queue at that moment gives.
 ghost use Rattle.std.specs.Prelude.{◌≡◌, ◌≤◌, ◌^◌, ℕ, List, IfOk, IfSome, None};
 ghost use Rattle.cq_shown.specs.Plans.{settings_in};
+ghost use Rattle.cq_steps_tests.specs.Writers.{HasSeen, IsIdle, IsIdleAt};
 ghost use Rattle.cq_walks.specs.Trails.{HasMessage, IsTrail};
 ghost use Rattle.cq_words.specs.Values.{IsOf};
 
 use crate::looking::look;
 use crate::publishing::publish;
 use crate::queues::{
-    Call, Measures, append_first, assert_none, layout_of, lose, new_queue, push_left,
-    steps_to_stand,
+    Call, Loss, Measures, append_first, assert_none, layout_of, left_text, lose, new_queue,
+    push_at, push_text, steps_to_stand,
 };
 use crate::reading::{load_first, tell};
 use crate::steps::Steps;
@@ -17,7 +18,7 @@ use crate::writing::write;
 use cq_cycle::Index;
 use cq_fixtures::{DAY, push_missed};
 use cq_layout::Layout;
-use cq_tail::{At, Found, Tailer};
+use cq_tail::{Found, Tailer};
 use cq_walks::{MessagePlace, Trail, behind};
 use cq_words::{Caller, Queue};
 use std::alloc::{AllocError, Global};
@@ -48,17 +49,6 @@ impl Call<'_> {
     }
 }
 
-/// How an appender is lost.
-#[derive(Clone, Copy)]
-struct Loss {
-    /// Its call.
-    call: Call<'static>,
-    /// How many steps of that it makes.
-    steps: u32,
-    /// Where the tail is.
-    trail: Trail,
-}
-
 /// What another caller is at when the appender is lost.
 #[derive(Clone, Copy)]
 enum Middle {
@@ -70,6 +60,19 @@ enum Middle {
     Take,
     /// It met a third caller, and meets the one that is lost.
     Meet,
+}
+
+/// A caller next to an appender that is lost.
+#[derive(Clone, Copy)]
+struct Case {
+    /// How many messages are there before.
+    count: u32,
+    /// The appender's call.
+    call: Call<'static>,
+    /// After how many steps of that the appender is lost.
+    steps: u32,
+    /// What the caller is at then.
+    middle: Middle,
 }
 
 /// Appends "a" this many times and once more. Returns where the last one is, and the trail after it.
@@ -107,54 +110,21 @@ fn append_some(
     Some((Some(at), trail))
 }
 
-/// A caller reads a message that it has seen.
-fn push_copy(
+/// A caller reads a message that it has seen. Returns its first cell and the floor.
+fn copied(
     queue: &Queue,
     reader: &mut Caller,
     at: MessagePlace,
-    writer: &mut Caller,
+    mut writer: Caller,
     loss: &Loss,
-    out: &mut String,
-) -> Result<(), AllocError>
-    requires of { IsOf queue.now reader.old × IsOf queue.now writer.old }
-    requires idle { (reader.old.view.claim ≡ None) × (writer.old.view.claim ≡ None) }
-    requires seen { (message : List ℕ) × HasMessage (settings_in queue.now.plan) reader.old.view at message }
-    requires trail { IsTrail (settings_in queue.now.plan) writer.old.view loss.now.trail }
-    ensures of { IsOf queue.now reader.new }
-    ensures idle { reader.new.view.claim ≡ None }
+) -> (u32, u32)
+    requires reader { HasSeen queue.now reader.old at × (reader.old.view.claim ≡ None) }
+    requires writer { IsIdleAt queue.now writer loss.now.trail }
+    ensures { IsIdle queue.now reader.new }
 {
     let cell = load_first(queue, reader, at);
-    lose(queue, writer, &loss.trail, loss.call, loss.steps);
-    let floor = tell(queue, reader, at);
-    write!(out, "cell {cell:08x}, floor {floor}")
-}
-
-/// Adds what a read at an index returns.
-fn push_at(found: At, out: &mut String) -> Result<(), AllocError> {
-    match found {
-        At::Message(message) => {
-            out.push_str(str::from_utf8(message.as_slice()).unwrap_or("no text"))
-        }
-        At::NotYet => out.push_str("NotYet"),
-        At::Never => out.push_str("Never"),
-        At::Gone => out.push_str("Gone"),
-    }
-}
-
-/// Adds what a caller reads at an index, after the header that it has seen there.
-fn push_found(
-    alloc: Global,
-    queue: &Queue,
-    tailer: &mut Tailer,
-    header: u32,
-    index: Index,
-    out: &mut String,
-) -> Result<(), AllocError>
-    requires { IsOf queue.now tailer.old.caller }
-    ensures { IsOf queue.now tailer.new.caller }
-{
-    write!(out, "header {header}, ")?;
-    push_at(tailer.read_at(alloc, queue, index)?, out)
+    lose(queue, &mut writer, loss);
+    (cell, tell(queue, reader, at))
 }
 
 /// Adds what a caller reads after the last message that it has seen.
@@ -162,289 +132,206 @@ fn push_look(
     alloc: Global,
     queue: &Queue,
     mut reader: Caller,
-    writer: &mut Caller,
+    mut writer: Caller,
     loss: &Loss,
     out: &mut String,
 ) -> Result<Caller, AllocError>
-    requires of { IsOf queue.now reader × IsOf queue.now writer.old }
-    requires idle { (reader.view.claim ≡ None) × (writer.old.view.claim ≡ None) }
-    requires seen { IsTrail (settings_in queue.now.plan) reader.view loss.now.trail }
-    requires trail { IsTrail (settings_in queue.now.plan) writer.old.view loss.now.trail }
-    ensures of { IfOk result (λ caller. IsOf queue.now caller) }
-    ensures idle { IfOk result (λ caller. caller.view.claim ≡ None) }
+    requires reader { IsIdleAt queue.now reader loss.now.trail }
+    requires writer { IsIdleAt queue.now writer loss.now.trail }
+    ensures { IfOk result (λ caller. IsIdle queue.now caller) }
 {
     let header = look(queue, &mut reader, &loss.trail);
-    lose(queue, writer, &loss.trail, loss.call, loss.steps);
+    lose(queue, &mut writer, loss);
     let index = Index::new(loss.trail.cycle, loss.trail.walker.sequence());
     let mut tailer = Tailer::new(reader);
-    push_found(alloc, queue, &mut tailer, header, index, out)?;
+    let found = tailer.read_at(alloc, queue, index)?;
+    write!(out, "header {header}, ")?;
+    push_at(found, out)?;
     Ok(tailer.into_caller())
 }
 
-/// A caller takes the first message.
-fn push_take(
-    queue: &Queue,
-    reader: &mut Caller,
-    writer: &mut Caller,
-    loss: &Loss,
-    out: &mut String,
-) -> Result<(), AllocError>
-    requires of { IsOf queue.now reader.old × IsOf queue.now writer.old }
-    requires idle { (reader.old.view.claim ≡ None) × (writer.old.view.claim ≡ None) }
-    requires trail { IsTrail (settings_in queue.now.plan) writer.old.view loss.now.trail }
-    ensures of { IsOf queue.now reader.new }
-    ensures idle { reader.new.view.claim ≡ None }
+/// A caller takes the first message. Returns the position that it loaded, and where it found the name, or `None`
+/// if there is no name or no message.
+fn taken(queue: &Queue, reader: &mut Caller, mut writer: Caller, loss: &Loss) -> Option<(u64, u64)>
+    requires reader { IsIdle queue.now reader.old }
+    requires writer { IsIdleAt queue.now writer loss.now.trail }
+    ensures { IsIdle queue.now reader.new }
 {
     if queue.config().names().is_empty() {
-        return out.push_str("no name");
+        return None;
     }
     let position = queue.load_position(reader, 0);
-    lose(queue, writer, &loss.trail, loss.call, loss.steps);
+    lose(queue, &mut writer, loss);
     if position >= reader.seen_end() {
-        return out.push_str("no message");
+        return None;
     }
-    let found = queue.seek(reader, 0, position, position + 1);
-    write!(out, "at {position}, found {found}")
+    Some((position, queue.seek(reader, 0, position, position + 1)))
 }
 
-/// A caller meets a third one, and then the one that is lost.
-fn push_meet(
-    queue: &Queue,
-    reader: &mut Caller,
-    writer: &mut Caller,
-    loss: &Loss,
-    out: &mut String,
-) -> Result<(), AllocError>
-    requires of { IsOf queue.now reader.old × IsOf queue.now writer.old }
-    requires idle { (reader.old.view.claim ≡ None) × (writer.old.view.claim ≡ None) }
-    requires trail { IsTrail (settings_in queue.now.plan) writer.old.view loss.now.trail }
-    ensures of { IsOf queue.now reader.new }
-    ensures idle { reader.new.view.claim ≡ None }
+/// A caller meets a third one, and then the one that is lost. Returns the ends that the caller and the third one have seen.
+fn met(queue: &Queue, reader: &mut Caller, mut writer: Caller, loss: &Loss) -> (u64, u64)
+    requires reader { IsIdle queue.now reader.old }
+    requires writer { IsIdleAt queue.now writer loss.now.trail }
+    ensures { IsIdle queue.now reader.new }
 {
     let mut third = queue.split(reader);
     queue.meet(reader, &mut third);
-    lose(queue, writer, &loss.trail, loss.call, loss.steps);
-    queue.meet(writer, reader);
+    lose(queue, &mut writer, loss);
+    queue.meet(&mut writer, reader);
     let end = reader.seen_end();
     queue.meet(&mut third, reader);
-    write!(out, "end {end}, {}", third.seen_end())
+    (end, third.seen_end())
 }
 
 /// What a tailer reads until no message has come, and a semicolon.
-fn push_messages(
-    alloc: Global,
-    queue: &Queue,
-    tailer: &mut Tailer,
-    out: &mut String,
-) -> Result<(), AllocError>
-    requires { IsOf queue.now tailer.old.caller }
+fn messages_text(alloc: Global, queue: &Queue, mut tailer: Tailer) -> Result<String, AllocError>
+    requires { IsOf queue.now tailer.caller }
 {
+    let mut text = String::new(alloc);
     for _ in 0..20 {
         let Found::Message(_index, message) = tailer.next(alloc, queue)? else {
-            return out.push_str("; ");
+            return format!(in alloc; "{text}; ");
         };
-        out.push_str(str::from_utf8(message.as_slice()).unwrap_or("no text"))?;
+        push_text(message.as_slice(), &mut text)?;
     }
-    out.push_str(" and more; ")
+    format!(in alloc; "{text} and more; ")
 }
 
-/// What a caller reads from the start on.
-fn push_reads(
-    alloc: Global,
-    queue: &Queue,
-    reader: Caller,
-    out: &mut String,
-) -> Result<(), AllocError>
-    requires of { IsOf queue.now reader }
-    requires idle { reader.view.claim ≡ None }
-{
-    push_messages(alloc, queue, &mut Tailer::new(reader), out)
-}
-
-/// Adds what a call returns that is at this point when the appender is lost. `at` is the last message, if there is
-/// one.
-fn push_middle(
-    alloc: Global,
-    queue: &Queue,
-    mut reader: Caller,
-    at: Option<MessagePlace>,
-    writer: &mut Caller,
-    loss: &Loss,
-    middle: Middle,
-    out: &mut String,
-) -> Result<Caller, AllocError>
-    requires of { IsOf queue.now reader × IsOf queue.now writer.old }
-    requires idle { (reader.view.claim ≡ None) × (writer.old.view.claim ≡ None) }
-    requires seen { IfSome at (λ at. (message : List ℕ) × HasMessage (settings_in queue.now.plan) reader.view at message) }
-    requires trail { IsTrail (settings_in queue.now.plan) writer.old.view loss.now.trail × IsTrail (settings_in queue.now.plan) reader.view loss.now.trail }
-    ensures of { IfOk result (λ caller. IsOf queue.now caller) }
-    ensures idle { IfOk result (λ caller. caller.view.claim ≡ None) }
-{
-    match (middle, at) {
-        (Middle::Look, _) => return push_look(alloc, queue, reader, writer, loss, out),
-        (Middle::Copy, Some(at)) => push_copy(queue, &mut reader, at, writer, loss, out)?,
-        (Middle::Copy, None) => out.push_str("no message")?,
-        (Middle::Take, _) => push_take(queue, &mut reader, writer, loss, out)?,
-        (Middle::Meet, _) => push_meet(queue, &mut reader, writer, loss, out)?,
-    }
-    Ok(reader)
-}
-
-/// Adds what a caller's call returns next to an appender that is lost after this many messages and this many steps,
-/// and then what the caller reads from the start on.
+/// Adds what a caller's call returns next to an appender that is lost, and then what the caller reads from the start on.
 fn push_beside(
     alloc: Global,
     queue: &Queue,
     mut writer: Caller,
-    count: u32,
-    beside: &Beside,
-    steps: u32,
+    case: Case,
     out: &mut String,
 ) -> Result<(), AllocError>
-    requires of { IsOf queue.now writer }
-    requires idle { writer.view.claim ≡ None }
+    requires { IsIdle queue.now writer }
 {
-    let Some((at, trail)) = append_some(queue, &mut writer, count) else {
+    let Some((at, trail)) = append_some(queue, &mut writer, case.count) else {
         return out.push_str("not appended; ");
     };
-    let reader = queue.split(&mut writer);
+    let mut reader = queue.split(&mut writer);
     let loss = Loss {
-        call: beside.call,
-        steps,
+        call: case.call,
+        steps: case.steps,
         trail,
     };
-    let reader = push_middle(
-        alloc,
-        queue,
-        reader,
-        at,
-        &mut writer,
-        &loss,
-        beside.middle,
-        out,
-    )?;
-    out.push_str("; ")?;
-    push_reads(alloc, queue, reader, out)
+    match (case.middle, at) {
+        (Middle::Look, _) => reader = push_look(alloc, queue, reader, writer, &loss, out)?,
+        (Middle::Copy, Some(at)) => {
+            let (cell, floor) = copied(queue, &mut reader, at, writer, &loss);
+            write!(out, "cell {cell:08x}, floor {floor}")?;
+        }
+        (Middle::Copy, None) => out.push_str("no message")?,
+        (Middle::Take, _) => match taken(queue, &mut reader, writer, &loss) {
+            Some((position, found)) => write!(out, "at {position}, found {found}")?,
+            None => out.push_str("no message")?,
+        },
+        (Middle::Meet, _) => {
+            let (end, third) = met(queue, &mut reader, writer, &loss);
+            write!(out, "end {end}, {third}")?;
+        }
+    }
+    let messages = messages_text(alloc, queue, Tailer::new(reader))?;
+    write!(out, "; {messages}")
 }
 
 /// The same in a new queue, and then what is left.
-fn push_told(
-    alloc: Global,
-    count: u32,
-    beside: &Beside,
-    steps: u32,
-    out: &mut String,
-) -> Result<(), Fail> {
+fn told_text(alloc: Global, case: Case) -> Result<String, Fail> {
     let (queue, mut writer) = new_queue(alloc, MEASURES)?;
     let other = queue.split(&mut writer);
-    push_beside(alloc, &queue, writer, count, beside, steps, out)?;
-    push_left(alloc, MEASURES, &queue.stop(other), out)
+    let mut told = String::new(alloc);
+    push_beside(alloc, &queue, writer, case, &mut told)?;
+    told.push_str(left_text(alloc, MEASURES, &queue.stop(other))?.as_str())?;
+    Ok(told)
 }
 
-/// What the call of a caller returns that is in the middle: until a certain step of the lost appender, and from that
-/// step on.
+/// What a caller in the middle of a call tells until a certain step of the lost appender, and from that step on: if the
+/// appender appends "b", and if it begins cycle 5.
 struct Beside {
-    call: Call<'static>,
     middle: Middle,
     before: &'static str,
-    behind: &'static str,
+    appended: &'static str,
+    advanced: &'static str,
 }
 
-static BESIDE: [Beside; 8] = [
+/// After eight messages.
+static BESIDE: [Beside; 4] = [
     Beside {
-        call: Call::Append("b"),
         middle: Middle::Copy,
         before: "cell 00000061, floor 0; aaaaaaaa; 0[a;a;a;a;a;a;a;a;] at [0], 8",
-        behind: "cell 00000061, floor 0; aaaaaaaab; 0[a;a;a;a;a;a;a;a;b;] at [0], 9",
+        appended: "cell 00000061, floor 0; aaaaaaaab; 0[a;a;a;a;a;a;a;a;b;] at [0], 9",
+        advanced: "cell 00000061, floor 0; aaaaaaaa; 0[a;a;a;a;a;a;a;a;] 5[] at [0], 21474836480",
     },
     Beside {
-        call: Call::Append("b"),
         middle: Middle::Look,
         before: "header 0, NotYet; aaaaaaaa; 0[a;a;a;a;a;a;a;a;] at [0], 8",
-        behind: "header 0, b; aaaaaaaab; 0[a;a;a;a;a;a;a;a;b;] at [0], 9",
+        appended: "header 0, b; aaaaaaaab; 0[a;a;a;a;a;a;a;a;b;] at [0], 9",
+        advanced: "header 0, Never; aaaaaaaa; 0[a;a;a;a;a;a;a;a;] 5[] at [0], 21474836480",
     },
     Beside {
-        call: Call::Append("b"),
         middle: Middle::Take,
         before: "at 0, found 0; aaaaaaaa; 0[a;a;a;a;a;a;a;a;] at [1], 8",
-        behind: "at 0, found 0; aaaaaaaab; 0[a;a;a;a;a;a;a;a;b;] at [1], 9",
+        appended: "at 0, found 0; aaaaaaaab; 0[a;a;a;a;a;a;a;a;b;] at [1], 9",
+        advanced: "at 0, found 0; aaaaaaaa; 0[a;a;a;a;a;a;a;a;] 5[] at [1], 21474836480",
     },
     Beside {
-        call: Call::Append("b"),
         middle: Middle::Meet,
         before: "end 8, 8; aaaaaaaa; 0[a;a;a;a;a;a;a;a;] at [0], 8",
-        behind: "end 9, 9; aaaaaaaab; 0[a;a;a;a;a;a;a;a;b;] at [0], 9",
-    },
-    Beside {
-        call: Call::Advance(5 * DAY),
-        middle: Middle::Copy,
-        before: "cell 00000061, floor 0; aaaaaaaa; 0[a;a;a;a;a;a;a;a;] at [0], 8",
-        behind: "cell 00000061, floor 0; aaaaaaaa; 0[a;a;a;a;a;a;a;a;] 5[] at [0], 21474836480",
-    },
-    Beside {
-        call: Call::Advance(5 * DAY),
-        middle: Middle::Look,
-        before: "header 0, NotYet; aaaaaaaa; 0[a;a;a;a;a;a;a;a;] at [0], 8",
-        behind: "header 0, Never; aaaaaaaa; 0[a;a;a;a;a;a;a;a;] 5[] at [0], 21474836480",
-    },
-    Beside {
-        call: Call::Advance(5 * DAY),
-        middle: Middle::Take,
-        before: "at 0, found 0; aaaaaaaa; 0[a;a;a;a;a;a;a;a;] at [1], 8",
-        behind: "at 0, found 0; aaaaaaaa; 0[a;a;a;a;a;a;a;a;] 5[] at [1], 21474836480",
-    },
-    Beside {
-        call: Call::Advance(5 * DAY),
-        middle: Middle::Meet,
-        before: "end 8, 8; aaaaaaaa; 0[a;a;a;a;a;a;a;a;] at [0], 8",
-        behind: "end 21474836480, 21474836480; aaaaaaaa; 0[a;a;a;a;a;a;a;a;] 5[] at [0], 21474836480",
+        appended: "end 9, 9; aaaaaaaab; 0[a;a;a;a;a;a;a;a;b;] at [0], 9",
+        advanced: "end 21474836480, 21474836480; aaaaaaaa; 0[a;a;a;a;a;a;a;a;] 5[] at [0], 21474836480",
     },
 ];
 
-static BESIDE_FIRST: [Beside; 4] = [
+/// Where no message is.
+static BESIDE_FIRST: [Beside; 2] = [
     Beside {
-        call: Call::Append("b"),
         middle: Middle::Look,
         before: "header 0, NotYet; ; 0[] at [0], 0",
-        behind: "header 0, b; b; 0[b;] at [0], 1",
+        appended: "header 0, b; b; 0[b;] at [0], 1",
+        advanced: "header 0, Never; ; 0[] 5[] at [0], 21474836480",
     },
     Beside {
-        call: Call::Append("b"),
         middle: Middle::Meet,
         before: "end 0, 0; ; 0[] at [0], 0",
-        behind: "end 1, 1; b; 0[b;] at [0], 1",
-    },
-    Beside {
-        call: Call::Advance(5 * DAY),
-        middle: Middle::Look,
-        before: "header 0, NotYet; ; 0[] at [0], 0",
-        behind: "header 0, Never; ; 0[] 5[] at [0], 21474836480",
-    },
-    Beside {
-        call: Call::Advance(5 * DAY),
-        middle: Middle::Meet,
-        before: "end 0, 0; ; 0[] at [0], 0",
-        behind: "end 21474836480, 21474836480; ; 0[] 5[] at [0], 21474836480",
+        appended: "end 1, 1; b; 0[b;] at [0], 1",
+        advanced: "end 21474836480, 21474836480; ; 0[] 5[] at [0], 21474836480",
     },
 ];
 
-impl Beside {
-    /// What has to be returned if the step that others see was made, or was not.
-    fn wanted(&self, is_shown: bool) -> &'static str {
-        if is_shown { self.behind } else { self.before }
+/// Adds what differs from what is wanted, next to an appender that is lost in a call after each number of steps.
+fn push_missed_beside(
+    alloc: Global,
+    mut case: Case,
+    before: &str,
+    behind: &str,
+    missed: &mut String,
+) -> Result<(), Fail> {
+    let shows = case.call.shows(layout_of(alloc, MEASURES)?, case.count);
+    for steps in 0..shows + case.call.rest() + 1 {
+        case.steps = steps;
+        let told = told_text(alloc, case)?;
+        let want = if shows <= steps { behind } else { before };
+        push_missed(alloc, missed, steps as usize, told.as_str(), want)?;
     }
+    Ok(())
 }
 
-/// Returns what differs from what is wanted, next to an appender that is lost after this many messages and after each
-/// number of steps.
+/// Returns what differs from what is wanted, next to an appender that is lost after this many messages.
 fn missed_beside(alloc: Global, count: u32, beside: &Beside) -> Result<String, Fail> {
     let mut missed = String::new(alloc);
-    let shows = beside.call.shows(layout_of(alloc, MEASURES)?, count);
-    for steps in 0..shows + beside.call.rest() + 1 {
-        let mut told = String::new(alloc);
-        push_told(alloc, count, beside, steps, &mut told)?;
-        let want = beside.wanted(shows <= steps);
-        push_missed(alloc, &mut missed, steps as usize, told.as_str(), want)?;
+    let calls = [
+        (Call::Append("b"), beside.appended),
+        (Call::Advance(5 * DAY), beside.advanced),
+    ];
+    for (call, behind) in calls {
+        let case = Case {
+            count,
+            call,
+            steps: 0,
+            middle: beside.middle,
+        };
+        push_missed_beside(alloc, case, beside.before, behind, &mut missed)?;
     }
     Ok(missed)
 }

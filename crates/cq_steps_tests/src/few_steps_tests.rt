@@ -2,13 +2,12 @@
 //! payloads, and the load of the floor with which a read ends. An append takes two more that its caller does not
 //! count: the compare-and-swap that begins its message, and the store of its length.
 
-ghost use Rattle.std.specs.Prelude.{◌≡◌};
 ghost use Rattle.cq_words.specs.Values.{IsOf};
 
-use crate::many::{COUNT, SPACING, append_all, full_queue, new_queue, reopened_queue};
+use crate::many::{COUNT, Many, SPACING, append_all, new_queue};
 use cq_cycle::Index;
 use cq_tail::{At, Direction, Found, Tailer};
-use cq_words::{Caller, Queue};
+use cq_words::Queue;
 use std::alloc::Global;
 use std::test::Fail;
 
@@ -18,47 +17,10 @@ fn missing() -> Result<u64, Fail> {
     Ok(none.ok_or("a message is missing")?)
 }
 
-/// The steps of a read by index, by a caller that was just split off.
-fn read_steps(alloc: Global, queue: &Queue, caller: &mut Caller, sequence: u32) -> Result<u64, Fail>
-    requires { IsOf queue.now caller.old }
-    ensures { IsOf queue.now caller.new }
+/// Reads this many messages by a tailer. Returns all steps that it made until then.
+fn steps_after(alloc: Global, queue: &Queue, mut tailer: Tailer, count: u32) -> Result<u64, Fail>
+    requires { IsOf queue.now tailer.caller }
 {
-    let mut tailer = Tailer::new(queue.split(caller));
-    match tailer.read_at(alloc, queue, Index::new(0, sequence))? {
-        At::Message(_message) => Ok(tailer.into_caller().steps()),
-        At::NotYet | At::Never | At::Gone => missing(),
-    }
-}
-
-/// The most steps of a read by index here and there, each by a new caller.
-fn most_read_steps(alloc: Global, queue: &Queue, caller: &mut Caller) -> Result<u64, Fail>
-    requires { IsOf queue.now caller.old }
-{
-    let mut most = 0;
-    for k in 0..500u32 {
-        most = most.max(read_steps(alloc, queue, caller, k * 7_919 % COUNT)?);
-    }
-    Ok(most)
-}
-
-/// The same over a queue of many messages.
-fn most_steps_of_reads(alloc: Global) -> Result<u64, Fail> {
-    let (queue, mut caller) = full_queue(alloc)?;
-    most_read_steps(alloc, &queue, &mut caller)
-}
-
-#[test]
-fn a_read_by_index_takes_few_steps(rt: HostRuntime) -> Result<(), Fail> {
-    assert!(rt; most_steps_of_reads(rt.alloc())? <= 11 + u64::from(SPACING));
-    Ok(())
-}
-
-/// Returns the steps of this many reads forwards by a new caller, one after the other.
-fn forward_steps(alloc: Global, queue: &Queue, caller: &mut Caller, count: u32) -> Result<u64, Fail>
-    requires { IsOf queue.now caller.old }
-    ensures { IsOf queue.now caller.new }
-{
-    let mut tailer = Tailer::new(queue.split(caller));
     for _ in 0..count {
         match tailer.next(alloc, queue)? {
             Found::Message(_index, _message) => {}
@@ -68,103 +30,95 @@ fn forward_steps(alloc: Global, queue: &Queue, caller: &mut Caller, count: u32) 
     Ok(tailer.into_caller().steps())
 }
 
-/// The most steps of one of these reads forwards, each by the caller that read the message before it.
-fn most_forward_steps(
-    alloc: Global,
-    queue: &Queue,
-    caller: &mut Caller,
-    wanted: &[u32],
-) -> Result<u64, Fail>
-    requires { IsOf queue.now caller.old }
-{
-    let mut most = 0;
-    for sequence in wanted {
-        let before = forward_steps(alloc, queue, caller, *sequence)?;
-        let with = forward_steps(alloc, queue, caller, sequence.saturating_add(1))?;
-        most = most.max(with.saturating_sub(before));
+impl Many {
+    /// The steps of a read by index, by a caller that is just split off.
+    fn read_steps(&mut self, alloc: Global, sequence: u32) -> Result<u64, Fail> {
+        let mut tailer = Tailer::new(self.queue.split(&mut self.caller));
+        match tailer.read_at(alloc, &self.queue, Index::new(0, sequence))? {
+            At::Message(_message) => Ok(tailer.into_caller().steps()),
+            At::NotYet | At::Never | At::Gone => missing(),
+        }
     }
-    Ok(most)
+
+    /// The most steps of a read by index here and there, each by a new caller.
+    fn most_read_steps(&mut self, alloc: Global) -> Result<u64, Fail> {
+        let mut most = 0;
+        for k in 0..500u32 {
+            most = most.max(self.read_steps(alloc, k * 7_919 % COUNT)?);
+        }
+        Ok(most)
+    }
+
+    /// The steps of this many reads forwards by a new caller, one after the other.
+    fn forward_steps(&mut self, alloc: Global, count: u32) -> Result<u64, Fail> {
+        let tailer = Tailer::new(self.queue.split(&mut self.caller));
+        steps_after(alloc, &self.queue, tailer, count)
+    }
+
+    /// The most steps of one of these reads forwards, each by the caller that read the message before it.
+    fn most_forward_steps(&mut self, alloc: Global, wanted: &[u32]) -> Result<u64, Fail> {
+        let mut most = 0;
+        for sequence in wanted {
+            let before = self.forward_steps(alloc, *sequence)?;
+            let with = self.forward_steps(alloc, sequence.saturating_add(1))?;
+            most = most.max(with.saturating_sub(before));
+        }
+        Ok(most)
+    }
+
+    /// The steps of this many reads backwards from the end on by a new caller, and of its way to the end.
+    fn backward_steps(&mut self, alloc: Global, count: u32) -> Result<u64, Fail> {
+        let mut tailer = Tailer::new(self.queue.split(&mut self.caller));
+        tailer.to_end(&self.queue);
+        tailer.direction(Direction::Backwards);
+        steps_after(alloc, &self.queue, tailer, count)
+    }
+
+    /// The steps of reads of all messages backwards, without the way to the end.
+    fn all_backward_steps(&mut self, alloc: Global) -> Result<u64, Fail> {
+        let way = self.backward_steps(alloc, 0)?;
+        let all = self.backward_steps(alloc, COUNT)?;
+        Ok(all.saturating_sub(way))
+    }
 }
 
-/// The same over a queue of many messages.
-fn most_steps_of_forward_reads(alloc: Global, wanted: &[u32]) -> Result<u64, Fail> {
-    let (queue, mut caller) = full_queue(alloc)?;
-    most_forward_steps(alloc, &queue, &mut caller, wanted)
+#[test]
+fn a_read_by_index_takes_few_steps(rt: HostRuntime) -> Result<(), Fail> {
+    let most = Many::new(rt.alloc())?.most_read_steps(rt.alloc())?;
+    assert!(rt; most <= 11 + u64::from(SPACING));
+    Ok(())
 }
 
 #[test]
 fn a_read_behind_the_last_one_takes_one_step(rt: HostRuntime) -> Result<(), Fail> {
     let wanted = [1, 2, 16, 4_095, 4_097, 12_345, 29_999];
-    assert!(rt; most_steps_of_forward_reads(rt.alloc(), &wanted)? <= 1);
+    let most = Many::new(rt.alloc())?.most_forward_steps(rt.alloc(), &wanted)?;
+    assert!(rt; most <= 1);
     Ok(())
 }
 
 #[test]
 fn a_read_over_an_index_table_takes_three_steps(rt: HostRuntime) -> Result<(), Fail> {
     // An index table comes before each 4,096th message.
-    let wanted = [4_096, 8_192, 28_672];
-    assert!(rt; most_steps_of_forward_reads(rt.alloc(), &wanted)? <= 3);
+    let most = Many::new(rt.alloc())?.most_forward_steps(rt.alloc(), &[4_096, 8_192, 28_672])?;
+    assert!(rt; most <= 3);
     Ok(())
-}
-
-/// Returns the steps of this many reads backwards from the end on by a new caller, and of its way to the end.
-fn backward_steps(
-    alloc: Global,
-    queue: &Queue,
-    caller: &mut Caller,
-    count: u32,
-) -> Result<u64, Fail>
-    requires { IsOf queue.now caller.old }
-    ensures { IsOf queue.now caller.new }
-{
-    let mut tailer = Tailer::new(queue.split(caller));
-    tailer.to_end(queue);
-    tailer.direction(Direction::Backwards);
-    for _ in 0..count {
-        match tailer.next(alloc, queue)? {
-            Found::Message(_index, _message) => {}
-            Found::NotYet | Found::BeforeStart => return missing(),
-        }
-    }
-    Ok(tailer.into_caller().steps())
-}
-
-/// The steps of reads of all messages backwards, without the way to the end.
-fn all_backward_steps(alloc: Global, queue: &Queue, caller: &mut Caller) -> Result<u64, Fail>
-    requires { IsOf queue.now caller.old }
-{
-    let way = backward_steps(alloc, queue, caller, 0)?;
-    let all = backward_steps(alloc, queue, caller, COUNT)?;
-    Ok(all.saturating_sub(way))
-}
-
-/// The same over a queue of many messages.
-fn steps_of_backward_reads(alloc: Global) -> Result<u64, Fail> {
-    let (queue, mut caller) = full_queue(alloc)?;
-    all_backward_steps(alloc, &queue, &mut caller)
 }
 
 #[test]
 fn reads_backwards_look_at_one_header_a_message(rt: HostRuntime) -> Result<(), Fail> {
+    let steps = Many::new(rt.alloc())?.all_backward_steps(rt.alloc())?;
     // In each block of 64 messages the slot's cycle, the write position and two entries are loaded too.
-    let most = u64::from(COUNT + 4 * (COUNT / 64 + 2));
-    assert!(rt; steps_of_backward_reads(rt.alloc())? <= most);
+    assert!(rt; steps <= u64::from(COUNT + 4 * (COUNT / 64 + 2)));
     Ok(())
-}
-
-/// The same over a queue that is opened again, whose messages have no hints.
-fn steps_of_backward_reads_without_hints(alloc: Global) -> Result<u64, Fail> {
-    let (queue, mut caller) = reopened_queue(alloc)?;
-    all_backward_steps(alloc, &queue, &mut caller)
 }
 
 #[test]
 fn reads_backwards_without_hints_look_at_two_headers_a_message(
     rt: HostRuntime,
 ) -> Result<(), Fail> {
-    assert!(rt;
-        steps_of_backward_reads_without_hints(rt.alloc())? <= u64::from(2 * COUNT + COUNT / 64)
-    );
+    let steps = Many::reopened(rt.alloc())?.all_backward_steps(rt.alloc())?;
+    assert!(rt; steps <= u64::from(2 * COUNT + COUNT / 64));
     Ok(())
 }
 

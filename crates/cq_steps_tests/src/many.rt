@@ -10,6 +10,7 @@ use cq_model::Config;
 use cq_shown::recover;
 use cq_words::{Caller, Queue};
 use std::alloc::Global;
+use std::marker::Model;
 use std::test::Fail;
 
 /// How many messages the queues have.
@@ -44,20 +45,37 @@ pub fn append_all(queue: &Queue, caller: Caller, count: u32) -> Result<Caller, F
     Ok(appender.into_caller())
 }
 
-/// A queue to which all messages were appended, and a caller that knows no place.
-pub fn full_queue(alloc: Global) -> Result<(Queue, Caller), Fail>
-    ensures { IfOk result (λ made. IsOf made.0 made.1) }
-{
-    let (queue, caller) = new_queue(alloc)?;
-    let caller = append_all(&queue, caller, COUNT)?;
-    Ok((queue, caller))
+/// A queue of all messages, and a caller that knows no place. Contracts see no more of it than that it is of this queue.
+#[derive(Drop)]
+pub struct Many {
+    pub queue: Queue,
+    pub caller: Caller,
 }
 
-/// The same, stopped and opened again: no message has an entry, and there is no write position.
-pub fn reopened_queue(alloc: Global) -> Result<(Queue, Caller), Fail>
-    ensures { IfOk result (λ made. IsOf made.0 made.1) }
-{
-    let (queue, caller) = full_queue(alloc)?;
-    let contents = recover(alloc, &queue.stop(caller))?;
-    Ok(Queue::reopen(alloc, config(alloc)?, &contents)?)
+impl Model for Many {
+    ghost use Rattle.std.specs.Prelude.{ℕ};
+    ghost use Rattle.cq_words.specs.Values.{IsOf};
+
+    ghost Value = { ℕ };
+
+    ghost view = { λ m. 0 };
+
+    ghost invariant = { λ m. IsOf m.queue m.caller };
+}
+
+impl Many {
+    /// A new queue to which the messages were appended.
+    pub fn new(alloc: Global) -> Result<Many, Fail> {
+        let (queue, caller) = new_queue(alloc)?;
+        let caller = append_all(&queue, caller, COUNT)?;
+        Ok(Many { queue, caller })
+    }
+
+    /// The same, stopped and opened again: no message has an entry, and there is no write position.
+    pub fn reopened(alloc: Global) -> Result<Many, Fail> {
+        let Many { queue, caller } = Many::new(alloc)?;
+        let contents = recover(alloc, &queue.stop(caller))?;
+        let (queue, caller) = Queue::reopen(alloc, config(alloc)?, &contents)?;
+        Ok(Many { queue, caller })
+    }
 }

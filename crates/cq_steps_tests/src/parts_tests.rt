@@ -3,7 +3,7 @@ ghost use Rattle.std.specs.Prelude.{◌≡◌, None};
 ghost use Rattle.cq_words.specs.Values.{IsOf};
 
 use crate::queues::{
-    Call, Lost, Measures, Outcome, assert_none, new_queue, push_left, push_missed_lost,
+    Call, Lost, Measures, Outcome, assert_none, left_text, new_queue, push_missed_lost,
 };
 use cq_append::{Appender, NoRoom, Writing};
 use cq_fixtures::push_missed;
@@ -46,26 +46,19 @@ fn put_behind(queue: &Queue, caller: Caller, bytes: &[u8], size: usize) -> Resul
     Ok(put_part(queue, appender, bytes, size)?)
 }
 
-/// Adds what is left of a queue whose appender was lost once these bytes of a message after "a" were put, in pieces
-/// of this size.
-fn push_left_of_parts(
-    alloc: Global,
-    bytes: &[u8],
-    size: usize,
-    left: &mut String,
-) -> Result<(), Fail> {
+/// What is left of a queue whose appender was lost once these bytes of a message after "a" were put, in pieces of this size.
+fn left_of_parts(alloc: Global, bytes: &[u8], size: usize) -> Result<String, Fail> {
     let (queue, mut caller) = new_queue(alloc, MEASURES)?;
     let other = queue.split(&mut caller);
     put_behind(&queue, caller, bytes, size)?;
-    push_left(alloc, MEASURES, &queue.stop(other), left)
+    left_text(alloc, MEASURES, &queue.stop(other))
 }
 
 /// Returns what differs from what is wanted, if the appender is lost after each number of bytes.
 fn missed_parts(alloc: Global, size: usize) -> Result<String, Fail> {
     let mut missed = String::new(alloc);
     for count in 0..TEXT.len() + 1 {
-        let mut left = String::new(alloc);
-        push_left_of_parts(alloc, &TEXT[..count], size, &mut left)?;
+        let left = left_of_parts(alloc, &TEXT[..count], size)?;
         push_missed(alloc, &mut missed, count, left.as_str(), "0[a;] at [0], 1")?;
     }
     Ok(missed)
@@ -82,71 +75,34 @@ fn a_message_of_which_a_part_is_put_is_lost(rt: HostRuntime) -> Result<(), Fail>
     Ok(())
 }
 
-/// A message that is given up after others. Its caller is lost at each step in turn.
-struct GiveUp {
-    /// How many messages are there before.
-    count: u32,
-    /// The message.
-    text: &'static str,
-    /// How many steps it takes to give it up.
-    steps: u32,
-    /// What is left.
-    left: &'static str,
-}
-
-/// Three cells and the header: after the meta-data of the first message, after a message, and after a full table.
-static GIVEN_UP: [GiveUp; 3] = [
-    GiveUp {
-        count: 0,
-        text: "hello, world",
-        steps: 4,
-        left: "0[] at [0], 0",
-    },
-    GiveUp {
-        count: 1,
-        text: "hello, world",
-        steps: 4,
-        left: "0[a;] at [0], 1",
-    },
-    GiveUp {
-        count: 8,
-        text: "hello, worl",
-        steps: 4,
-        left: "0[a;a;a;a;a;a;a;a;] at [0], 8",
-    },
+/// How many messages are there before, the message that is given up after them, how many steps it takes to give it up, and
+/// what is left. Its caller is lost at each step in turn.
+static GIVEN_UP: [(u32, &str, u32, &str); 3] = [
+    // Three cells and the header: after the meta-data of the first message, after a message, and after a full table.
+    (0, "hello, world", 4, "0[] at [0], 0"),
+    (1, "hello, world", 4, "0[a;] at [0], 1"),
+    (8, "hello, worl", 4, "0[a;a;a;a;a;a;a;a;] at [0], 8"),
 ];
 
 /// Returns the results and remains that differ from what is wanted, if the caller is lost after each number of steps.
-fn missed_of(alloc: Global, given: &GiveUp) -> Result<String, Fail> {
+fn missed_of(alloc: Global, lost: &Lost<'_>, all: u32, left: &str) -> Result<String, Fail> {
     let mut missed = String::new(alloc);
-    let lost = Lost {
-        measures: MEASURES,
-        count: given.count,
-        call: Call::GiveUp(given.text),
-    };
-    for steps in 0..given.steps {
-        push_missed_lost(
-            alloc,
-            &lost,
-            steps,
-            (Outcome::Lost, given.left),
-            &mut missed,
-        )?;
+    for steps in 0..all {
+        push_missed_lost(alloc, lost, steps, (Outcome::Lost, left), &mut missed)?;
     }
-    push_missed_lost(
-        alloc,
-        &lost,
-        given.steps,
-        (Outcome::Made, given.left),
-        &mut missed,
-    )?;
+    push_missed_lost(alloc, lost, all, (Outcome::Made, left), &mut missed)?;
     Ok(missed)
 }
 
 #[test]
 fn an_appender_that_gives_a_message_up_is_lost(rt: HostRuntime) -> Result<(), Fail> {
-    for given in &GIVEN_UP {
-        assert_none(&rt, missed_of(rt.alloc(), given)?.as_str());
+    for (count, text, steps, left) in &GIVEN_UP {
+        let lost = Lost {
+            measures: MEASURES,
+            count: *count,
+            call: Call::GiveUp(text),
+        };
+        assert_none(&rt, missed_of(rt.alloc(), &lost, *steps, left)?.as_str());
     }
     Ok(())
 }

@@ -1,5 +1,0 @@
-use Rattle.cq_words.specs.Values.{IsOf}
-use Rattle.cq_steps_tests.proofs.near_tests.starts.Given as goal
-
-abbrev pub invariant-loop-sequence : goal.invariant-loop-sequence
-invariant-loop-sequence l = IsOf l.fn.queue l.caller
