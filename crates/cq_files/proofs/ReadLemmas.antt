@@ -14,8 +14,8 @@ use Rattle.cq_files.proofs.QueueLemmas.{file_part, keeps-refl, keeps-trans}
 
 module _ (Holds : Files → CycleImage → Type 0) (IsRight : Files → ImageFile → Type 0) (layout : CycleLayout) (all : List ImageFile)
     (before : Option Files) (was : ℕ) (entered : Entered) where
-  -- these images were read of the first of all files, and others are left: the files hold them, their messages fit the layout, and
-  -- each file that was read is right. No file has changed since
+  -- these images were read of the first of all files, and others are left: the files hold them, their messages fit the
+  -- layout, and each file that was read is right. No file has changed since
   pub record HaveRead (front left : List ImageFile) (images : List CycleImage) (now : Option Files) (failed : ℕ) (inside : Entered) : Type 0 where
     pub files : map file_part images ≡ front
     pub fit : AllByRecursion (λ image. AreNext layout [] image.messages) images
