@@ -73,7 +73,10 @@ impl Journals {
                 self.work = Work::Write(journal.into_writer());
                 Ok(String::from_str(alloc, "open")?)
             }
-            Err(refusal) => Ok(format!(in alloc; "{refusal}")?),
+            Err(refusal) => {
+                self.work = Work::None;
+                Ok(format!(in alloc; "{refusal}")?)
+            }
         }
     }
 

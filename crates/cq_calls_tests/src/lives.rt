@@ -56,6 +56,7 @@ impl Lives {
         self.count = self.count.saturating_add(1);
         self.calls = 0;
         self.cycles = cycles;
+        self.contents = None;
         config_of(alloc, self.shape, cycles)
     }
 

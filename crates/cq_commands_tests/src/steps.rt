@@ -359,7 +359,10 @@ fn put<F: Folder>(alloc: Global, folder: &mut F, file: &str, bytes: &[u8]) -> Sa
 const IMAGE_FILES: [&str; 3] = ["19700101.cqi", "19700102.cqi", "19700103.cqi"];
 
 fn put_images<F: Folder>(alloc: Global, folder: &mut F, images: &[&[u8]]) -> Said {
-    for (file, image) in IMAGE_FILES.iter().zip(images) {
+    for (place, image) in images.iter().enumerate() {
+        let Some(file) = IMAGE_FILES.get(place) else {
+            return Err(FolderFault::Device);
+        };
         put(alloc, folder, file, image)?;
     }
     Ok(String::new(alloc))
