@@ -111,6 +111,11 @@ fn taken_into_text<E: Debug>(alloc: Global, taken: &Result<TakeInto, E>) -> Resu
     }
 }
 
+/// A buffer of dots that a call may fill.
+fn new_buffer(alloc: Global, size: usize) -> Result<Vec<u8>, AllocError> {
+    Vec::from_elem(alloc, b'.', size)
+}
+
 /// What a read into a buffer returns, and then the whole buffer.
 fn with_buffer(alloc: Global, answer: &str, buffer: &[u8]) -> Result<String, Fail> {
     let text = str::from_utf8(buffer)?;
@@ -119,21 +124,25 @@ fn with_buffer(alloc: Global, answer: &str, buffer: &[u8]) -> Result<String, Fai
 
 /// What the next read into a buffer of this size returns.
 fn next_into_text(alloc: Global, endpoint: &mut Endpoint, size: usize) -> Result<String, Fail> {
-    let mut buffer = Vec::from_elem(alloc, b'.', size)?;
-    let answer = found_into_text(alloc, endpoint.next_into(buffer.as_mut_slice()))?;
-    with_buffer(alloc, answer.as_str(), buffer.as_slice())
+    let mut buffer = new_buffer(alloc, size)?;
+    let found = endpoint.next_into(buffer.as_mut_slice());
+    with_buffer(
+        alloc,
+        found_into_text(alloc, found)?.as_str(),
+        buffer.as_slice(),
+    )
 }
 
 /// What a read at an index into a buffer of this size returns.
 fn read_at_into_text(
     alloc: Global,
     endpoint: &mut Endpoint,
-    index: Index,
+    index: u64,
     size: usize,
 ) -> Result<String, Fail> {
-    let mut buffer = Vec::from_elem(alloc, b'.', size)?;
-    let answer = at_into_text(alloc, endpoint.read_at_into(index, buffer.as_mut_slice()))?;
-    with_buffer(alloc, answer.as_str(), buffer.as_slice())
+    let mut buffer = new_buffer(alloc, size)?;
+    let at = endpoint.read_at_into(Index::of_value(index), buffer.as_mut_slice());
+    with_buffer(alloc, at_into_text(alloc, at)?.as_str(), buffer.as_slice())
 }
 
 /// What a take into a buffer of this size returns.
@@ -143,9 +152,13 @@ fn take_into_text(
     name: &str,
     size: usize,
 ) -> Result<String, Fail> {
-    let mut buffer = Vec::from_elem(alloc, b'.', size)?;
-    let answer = taken_into_text(alloc, &endpoint.take_into(name, buffer.as_mut_slice()))?;
-    with_buffer(alloc, answer.as_str(), buffer.as_slice())
+    let mut buffer = new_buffer(alloc, size)?;
+    let taken = endpoint.take_into(name, buffer.as_mut_slice());
+    with_buffer(
+        alloc,
+        taken_into_text(alloc, &taken)?.as_str(),
+        buffer.as_slice(),
+    )
 }
 
 /// What a snapshot gives.
@@ -174,9 +187,7 @@ impl Call {
                 let index = Index::of_value(index);
                 at_text(alloc, index, &endpoint.read_at(alloc, index))
             }
-            Call::ReadAtInto(index, size) => {
-                read_at_into_text(alloc, endpoint, Index::of_value(index), size)
-            }
+            Call::ReadAtInto(index, size) => read_at_into_text(alloc, endpoint, index, size),
             Call::Take(name) => taken_text(alloc, &endpoint.take(alloc, name)),
             Call::TakeInto(name, size) => take_into_text(alloc, endpoint, name, size),
             Call::DropBefore(cycle) => {
