@@ -1,5 +1,5 @@
 #!/usr/bin/env python3
-"""Refuses each growth of memory in turn: docs/refused_memory.py [tests CRATE.. | buffers], of cq's commands, or of tests.
+"""Refuses each growth of memory in turn, of cq's commands or of tests: docs/refused_memory.py [tests CRATE.. | buffers | cycles]
 
 For each command below and each k, from 1 until nothing is refused any more, the command is run on a copy of its folder
 with the k-th growth refused. Within a minute it has to do one of these:
@@ -22,6 +22,9 @@ With the word buffers, nothing is refused, and growths are counted: two tests of
 except that after a read backwards one reads a single message into a buffer, and the other 1,299 of them. Reads into a
 buffer allocate nothing, so both have to grow memory equally often.
 
+With the word cycles, commands run in little memory on a queue that may have 64 cycles of 65,536 cells, of which one has
+begun. `read`, `take` and `drop` make no slots for the others, which would take 64 MiB.
+
 A library in front of the C library's malloc, calloc, realloc and aligned_alloc refuses; it is compiled by cc. CQ names
 the program; if it is not set, it is crates/cq/out/cq, which the launcher ./cq builds. The status is 0 if all is as said.
 """
@@ -29,6 +32,7 @@ import collections
 import itertools
 import os
 import re
+import resource
 import shutil
 import subprocess
 import sys
@@ -138,18 +142,30 @@ BUFFERS = [
     "allocating_tests::all_messages_are_read_into_a_room_after_a_read_backwards",
 ]
 
+# A queue of many cycles, the commands that open one cycle of it, what they print, and the memory that they get, in bytes.
+LARGE = [(["init", "D", "daily", "0", "65536", "64", "16", "64", "reader"], b""), HELLO]
+READERS = [
+    (["read", "D"], b"00004e2000000000 hello\n00004e2000000001 world\n"),
+    (["take", "D", "reader"], b"00004e2000000000 hello\n"),
+    (["drop", "D", "20000"], b"20000\n"),
+]
+LITTLE = 24 << 20
+
 # How a test ends that failed, or whose comparison failed, and how its text names the refusal of memory.
 FAILED, STOPPED = 101, -6
 WANTS = re.compile(rb"\b(AllocError|AllocFailed|OutOfMemory|want of memory)\b")
 COMPARED = re.compile(rb'  left: "(.*)"\n right: "(.*)"\n', re.S)
 
 
-def run(program, words, given, folder, more=None):
-    """What a command gives over a folder: its status, what it printed and what it said is wrong."""
-    environment = dict(os.environ, **(more or {}))
+def run(program, words, given, folder, more=None, most=resource.RLIM_INFINITY):
+    """What a command gives over a folder in this much memory: its status, what it printed and what it said is wrong."""
     words = [folder if word == "D" else word for word in words]
+    how = {
+        "env": dict(os.environ, **(more or {})),
+        "preexec_fn": lambda: resource.setrlimit(resource.RLIMIT_AS, (most, most)),
+    }
     try:
-        done = subprocess.run([program, *words], input=given, capture_output=True, env=environment, timeout=60, check=False)
+        done = subprocess.run([program, *words], input=given, capture_output=True, timeout=60, check=False, **how)
     except subprocess.TimeoutExpired:
         return None, b"", b"no end within a minute"
     return done.returncode, done.stdout, done.stderr
@@ -294,9 +310,24 @@ def try_buffers(shim, room):
     return wrong == 0
 
 
+def program_named():
+    """The program cq."""
+    return os.environ.get("CQ", os.path.join(HERE, "crates/cq/out/cq"))
+
+
+def try_cycles(room):
+    """Whether commands that read take memory for the cycles that have begun alone."""
+    for words, given in LARGE:
+        assert run(program_named(), words, given, room)[0] == 0, words
+    ran = [(words, printed, run(program_named(), words, b"", room, most=LITTLE)) for words, printed in READERS]
+    wrong = [f"{words[0]}: {result}" for words, printed, result in ran if result != (0, printed, b"")]
+    print("\n".join([*wrong, f"1 of 64 cycles in {LITTLE >> 20} MiB: {len(ran)} commands, {len(wrong)} wrong"]))
+    return not wrong
+
+
 def try_commands(shim, room):
     """Whether each growth of the commands may be refused."""
-    program = os.environ.get("CQ", os.path.join(HERE, "crates/cq/out/cq"))
+    program = program_named()
     failed = False
     for number, row in enumerate(ROWS):
         place = os.path.join(room, str(number))
@@ -310,10 +341,12 @@ def try_commands(shim, room):
 
 
 def main(words):
-    if words and words != ["buffers"] and (words[0] != "tests" or len(words) == 1):
+    if words and words not in (["buffers"], ["cycles"]) and (words[0] != "tests" or len(words) == 1):
         print(__doc__.split("\n", 1)[0], file=sys.stderr)
         return 2
     with tempfile.TemporaryDirectory() as room:
+        if words == ["cycles"]:
+            return 0 if try_cycles(room) else 1
         source, shim = os.path.join(room, "shim.c"), os.path.join(room, "shim.so")
         with open(source, "w", encoding="utf-8") as file:
             file.write(SHIM)
