@@ -1,5 +1,5 @@
 #!/usr/bin/env python3
-"""Refuses each growth of memory in turn, of cq's commands or of tests: docs/refused_memory.py [tests CRATE.. | buffers | cycles]
+"""Refuses each growth of memory in turn, to commands or tests: docs/refused_memory.py [tests CRATE.. | buffers | cycles]
 
 For each command below and each k, from 1 until nothing is refused any more, the command is run on a copy of its folder
 with the k-th growth refused. Within a minute it has to do one of these:
@@ -157,13 +157,15 @@ WANTS = re.compile(rb"\b(AllocError|AllocFailed|OutOfMemory|want of memory)\b")
 COMPARED = re.compile(rb'  left: "(.*)"\n right: "(.*)"\n', re.S)
 
 
-def run(program, words, given, folder, more=None, most=resource.RLIM_INFINITY):
-    """What a command gives over a folder in this much memory: its status, what it printed and what it said is wrong."""
+def in_little():
+    """Bounds the memory of this process."""
+    resource.setrlimit(resource.RLIMIT_AS, (LITTLE, resource.getrlimit(resource.RLIMIT_AS)[1]))
+
+
+def run(program, words, given, folder, more=None, begin=None):
+    """What a command, whose process begins so, gives over a folder: its status, what it printed and what it said is wrong."""
     words = [folder if word == "D" else word for word in words]
-    how = {
-        "env": dict(os.environ, **(more or {})),
-        "preexec_fn": lambda: resource.setrlimit(resource.RLIMIT_AS, (most, most)),
-    }
+    how = {"env": dict(os.environ, **(more or {})), "preexec_fn": begin}
     try:
         done = subprocess.run([program, *words], input=given, capture_output=True, timeout=60, check=False, **how)
     except subprocess.TimeoutExpired:
@@ -319,7 +321,7 @@ def try_cycles(room):
     """Whether commands that read take memory for the cycles that have begun alone."""
     for words, given in LARGE:
         assert run(program_named(), words, given, room)[0] == 0, words
-    ran = [(words, printed, run(program_named(), words, b"", room, most=LITTLE)) for words, printed in READERS]
+    ran = [(words, printed, run(program_named(), words, b"", room, begin=in_little)) for words, printed in READERS]
     wrong = [f"{words[0]}: {result}" for words, printed, result in ran if result != (0, printed, b"")]
     print("\n".join([*wrong, f"1 of 64 cycles in {LITTLE >> 20} MiB: {len(ran)} commands, {len(wrong)} wrong"]))
     return not wrong
