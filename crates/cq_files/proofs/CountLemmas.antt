@@ -34,12 +34,6 @@ counts_passed before now fault (Err passed) counts is = record {
   device = λ device. counts.device (subst IsDeviceFault is device);
 }
 
--- so does one of a later call
-pub counts_behind : {T U : Type 0} (before middle now : ℕ) (fault : ToolFault) (result : Result U ToolFault) → before ≤ middle
-    → CountsFaults {T = T} middle now (Err fault) → IsErrAnd result (λ passed. passed ≡ fault) → CountsFaults before now result
-counts_behind before middle now fault result low counts is =
-    counts_passed before now fault result (counts_from before middle now (Err fault) low counts) is
-
 -- want of memory that is passed on
 pub counts_scarce : {T : Type 0} (before now : ℕ) (result : Result T ToolFault) → before ≤ now
     → IsErrAnd result (λ passed. passed ≡ OutOfMemory) → CountsFaults before now result
@@ -52,6 +46,11 @@ pub counts_other : {T : Type 0} (before now : ℕ) (fault : ToolFault) (result :
 counts_other before now fault (Ok value) later other is = record { later = later; device = tt }
 counts_other before now fault (Err passed) later other is =
     record { later = later; device = λ device. absurd (other (subst IsDeviceFault is device)) }
+
+-- a fault that is none of the device needs no count
+pub uncounted : {T : Type 0} {before now : ℕ} {fault : ToolFault} → before ≤ now → ¬ IsDeviceFault fault
+    → CountsFaults {T = T} before now (Err fault)
+uncounted later other = record { later = later; device = λ device. absurd (other device) }
 
 -- a fault of the writer
 pub counts_printed : {T : Type 0} (before now : ℕ) (result : Result T ToolFault) → before ≤ now

@@ -8,4 +8,5 @@ pub mod WritingLemmas
 pub mod CheckLemmas
 pub mod ShownLemmas
 pub mod CountLemmas
+pub mod LookingLemmas
 mod MovingLemmas

@@ -1,9 +1,9 @@
 -- Which faults of a folder and its files are answered.
-use Rattle.std.specs.Prelude.{◌≡◌, ◌⊎◌, ⊤, ℕ, ◌+◌, true, false, ◌<◌, ◌≤◌, List, length, slice_get, take, Result, Ok, Err, IsOk, IsSome, IsSomeAnd, Some, string_bytes}
+use Rattle.std.specs.Prelude.{◌≡◌, ◌⊎◌, ⊤, ℕ, ◌+◌, true, false, ◌<◌, ◌≤◌, List, Contains, length, slice_get, take, Result, Ok, Err, IsOk, IsSome, IsSomeAnd, Some, string_bytes}
 use Rattle.std.specs.List.{AllByRecursion}
 use Rattle.std.specs.declared.cmp.Ordering.TheVariants.{Less}
 use Rattle.cq_cycle.specs.declared.roll.TheConstants.{LAST_CYCLE}
-use Rattle.cq_layout.specs.Layout.{IsLawfulLayout}
+use Rattle.cq_layout.specs.Layout.{CycleLayout, IsLawfulLayout}
 use Rattle.cq_model.specs.Settings.{IsLawfulSettings, Settings}
 use Rattle.cq_image.specs.declared.fault.ImageFault.{ImageFault}
 use Rattle.cq_image.specs.Reading.{read_of}
@@ -17,10 +17,11 @@ use Rattle.cq_config_text.specs.declared.version.FolderVersion.TheVariants as ve
 use Rattle.cq_config_text.specs.declared.config_fault.ConfigFault.{ConfigFault}
 use Rattle.cq_config_text.specs.declared.config_fault.ConfigFault.TheVariants as config
 use Rattle.cq_files.specs.declared.opening.CycleImage.{CycleImage}
+use Rattle.cq_files.specs.declared.opening.ImageFile.{ImageFile}
 use Rattle.cq_files.specs.declared.opening.SavedQueue.{SavedQueue}
 use Rattle.cq_files.specs.Dumped.{IsDumped}
 use Rattle.cq_files.specs.Salvaged.{IsSalvaged}
-use Rattle.cq_files.specs.Queue.{HoldQueue, IsImageFile, IsImageName, IsLawfulImage, file_of, name_cmp}
+use Rattle.cq_files.specs.Queue.{AreImageFiles, HoldQueue, IsImageFile, IsImageName, IsLawfulImage, file_of, name_cmp}
 use Rattle.cq_files.specs.declared.files.TheConstants.{MOST_FILE_BYTES}
 use Rattle.cq_text.specs.declared.fault.ToolFault.{ToolFault}
 use Rattle.cq_text.specs.declared.fault.ToolFault.TheVariants.{OutOfMemory, FolderFault, FileFault, FileTooLarge, WriteFault, ConfigLine, BadShape, BadConfig, BadCycleName, FaultyImage, NoQueueHere, OldVersion, WrongEnd, NoSuchFile, ImagesAtFault}
@@ -185,6 +186,12 @@ IsFirstFault P files (FaultyImage file fault) = IsReached P files (string_bytes 
 IsFirstFault P files (BadCycleName file) = IsNameReached files (string_bytes file)
 IsFirstFault P files _ = ⊤
 
+-- why these images, of a folder with these settings, are not looked at: the first fault, where this must hold of each before
+-- the next one is looked at
+abbrev pub IsFirstOf : (Files → Settings → List ℕ → Type 0) → Settings → List ImageFile → Files → ToolFault → Type 0
+IsFirstOf P settings images files fault = HasSettings files settings → IsLawfulSettings settings → AreImageFiles settings images files
+    → HasCause files fault × IsFirstFault P files fault
+
 -- a fault that is found before any image is looked at
 abbrev pub IsFolderFault : ToolFault → Type 0
 IsFolderFault OutOfMemory = ⊤
@@ -250,9 +257,25 @@ pub record RefusesFile (Refuses : Settings → Files → ToolFault → Type 0) (
 abbrev pub IsShowFault : (Settings → Files → ToolFault → Type 0) → List ℕ → Files → ToolFault → Type 0
 IsShowFault Refuses file files fault = (IsFolderFault fault × HasCause files fault) ⊎ RefusesFile Refuses file files fault
 
--- what it holds is not refused
-abbrev pub IsNoFault : Settings → Files → ToolFault → Type 0
-IsNoFault settings files fault = ⊥
+-- why no file is given of a folder with these settings that lists these images: it has no such image; else the name of that
+-- one is no cycle's
+abbrev pub IsGivingFault : Settings → List (List ℕ) → List ℕ → ToolFault → Type 0
+IsGivingFault settings names file OutOfMemory = ⊤
+IsGivingFault settings names file (NoSuchFile name) = (string_bytes name ≡ file) × ¬ Contains names file
+IsGivingFault settings names file (BadCycleName name) =
+    (string_bytes name ≡ file) × Contains names file × ((cycle : ℕ) → ¬ IsImageName settings cycle (string_bytes name))
+IsGivingFault settings names file _ = ⊥
+
+-- why bytes are not read by this layout as the image in a file
+abbrev pub IsReadingFault : CycleLayout → ImageFile → List ℕ → ToolFault → Type 0
+IsReadingFault layout file bytes OutOfMemory = ⊤
+IsReadingFault layout file bytes (FaultyImage name fault) =
+    (string_bytes name ≡ string_bytes file.name) × (read_of layout file.cycle bytes ≡ Err fault)
+IsReadingFault layout file bytes _ = ⊥
+
+-- a file that is given is not read
+abbrev pub IsUnreadFault : List ℕ → Settings → Files → ToolFault → Type 0
+IsUnreadFault file settings files fault = IsFileFault file fault × HasCause files fault
 
 -- why the records of a file are not printed: it is not read, or holds no image; else the lines are not written
 abbrev pub IsRecordsFault : List ℕ → Settings → Files → ToolFault → Type 0

@@ -5,6 +5,7 @@ pub mod Saved
 pub mod CheckText
 pub mod Dumped
 pub mod Counted
+pub mod Looking
 pub mod Salvaged
 pub mod Shown
 pub mod Migrated

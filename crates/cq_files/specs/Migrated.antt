@@ -116,13 +116,6 @@ pub record EndsWronglyInEither (settings : Settings) (files : Files) (file : Lis
   pub read : AreInEither settings images files
   pub first : EndsWronglyIn images file
 
--- why bytes are not read as the image in this file
-abbrev pub IsReadingFault : Settings → ImageFile → List ℕ → ToolFault → Type 0
-IsReadingFault settings file bytes OutOfMemory = ⊤
-IsReadingFault settings file bytes (FaultyImage name fault) =
-    (string_bytes name ≡ string_bytes file.name) × (read_of (moving_layout settings bytes) file.cycle bytes ≡ Err fault)
-IsReadingFault settings file bytes _ = ⊥
-
 -- what the files have to do with the fault of an image
 abbrev pub HasImageCause : Settings → Files → ToolFault → Type 0
 HasImageCause settings files (FaultyImage file fault) = HoldsFaultInEither settings files (string_bytes file) fault
@@ -145,9 +138,9 @@ IsMovingFault settings files (WrongEnd file) = EndsWronglyInEither settings file
 IsMovingFault settings files _ = ⊥
 
 -- why these images, of a folder with these settings, are not moved
-abbrev pub IsMovingFaultOf : Settings → List ImageFile → Option Files → ToolFault → Type 0
-IsMovingFaultOf settings images held fault = IfSome held (λ files. HasSettings files settings → IsLawfulSettings settings
-    → AreImageFiles settings images files → IsMovingFault settings files fault)
+abbrev pub IsMovingFaultOf : Settings → List ImageFile → Files → ToolFault → Type 0
+IsMovingFaultOf settings images files fault = HasSettings files settings → IsLawfulSettings settings
+    → AreImageFiles settings images files → IsMovingFault settings files fault
 
 -- why a folder of version 1 that has these settings is not moved: the limits of version 2; else its images
 abbrev pub IsMoveFault : Settings → Files → ToolFault → Type 0
@@ -155,9 +148,9 @@ IsMoveFault settings files fault = IsLimitFault (moved_settings settings) fault
     ⊎ (IsLawfulSettings (moved_settings settings) × IsMovingFault settings files fault)
 
 -- why a folder with these settings and images is not moved
-abbrev pub IsMoveFaultOf : Settings → List (List ℕ) → Option Files → ToolFault → Type 0
-IsMoveFaultOf settings names held fault = IfSome held (λ files. HasSettings files settings → IsLawfulSettings settings
-    → ListsImages names files → IsMoveFault settings files fault)
+abbrev pub IsMoveFaultOf : Settings → List (List ℕ) → Files → ToolFault → Type 0
+IsMoveFaultOf settings names files fault = HasSettings files settings → IsLawfulSettings settings → ListsImages names files
+    → IsMoveFault settings files fault
 
 -- the folder is of version 1 and not moved
 pub record RefusesMove (files : Files) (fault : ToolFault) : Type 0 where
