@@ -18,6 +18,7 @@ use Rattle.cq_files.specs.Queue.{IsImageFile, IsImageName, IsOpenFolder}
 use Rattle.cq_files.specs.Shown.{IsGiven, IsShown}
 use Rattle.cq_files.specs.declared.given.GivenImage.{GivenImage}
 use Rattle.cq_files.specs.Counted.{CountsFaults}
+use Rattle.cq_files.specs.Looking.{Looks}
 use Rattle.cq_files.proofs.CauseLemmas.{has_settings}
 use Rattle.cq_files.proofs.CountLemmas.{counts_passed, counts_printed, uncounted}
 
@@ -155,15 +156,23 @@ module _ (IsFault : List ℕ → ToolFault → Type 0) (Shows : Settings → Lis
   -- it is not read
   pub ends_unread : {T U : Type 0} (after : Option Files) (output : Option (List ℕ)) (was now : ℕ) (result : Result T ToolFault)
       (fault : ToolFault) → IsErrAnd result (λ passed. passed ≡ fault) → (IsFileFault file fault → IsFault file fault)
-      → fault ≢ WriteFault → IfSome before (λ files. IsShowFault (IsUnreadFault file) file files fault) → KeepsFiles before after
-      → CountsFaults {T = U} was now (Err fault) → Showing after output output was now result
-  ends_unread after output was now result fault is so other cause kept counts =
-      nothing_shown before after output was now _ _ result fault is other
-      (not_read IsUnshown before file fault (λ settings files unread. inl (so unread.0, unread.1)) cause) kept
-      (counts_passed was now fault result counts is)
+      → Looks {T = U} (λ fault. fault ≢ WriteFault) (IsShowFault (IsUnreadFault file) file) before after was now (Err fault)
+      → Showing after output output was now result
+  ends_unread after output was now result fault is so looks =
+      nothing_shown before after output was now _ _ result fault is looks.fault
+      (not_read IsUnshown before file fault (λ settings files unread. inl (so unread.0, unread.1)) looks.cause) looks.kept
+      (counts_passed was now fault result looks.counted is)
 
-  module _ (after : Option Files) (was now : ℕ) (given : GivenImage) (is_given : IsGiven file before given) (kept : KeepsFiles before after)
-      (later : was ≤ now) where
+  -- it is, and the folder is left
+  module _ (middle after : Option Files) (was between now : ℕ) (given : GivenImage) (is_given : IsGiven file before given)
+      (looks : Looks (λ fault. fault ≢ WriteFault) (IsShowFault (IsUnreadFault file) file) before middle was between (Ok given))
+      (same : after ≡ middle) (no_more : now ≡ between) where
+    kept : KeepsFiles before after
+    kept = subst (KeepsFiles before) (sym same) looks.kept
+
+    later : was ≤ now
+    later = subst (λ (n : ℕ). was ≤ n) (sym no_more) looks.counted.later
+
     -- what it holds is refused
     pub ends_refused : {T : Type 0} (output : Option (List ℕ)) (result : Result T ToolFault) (fault : ToolFault)
         → IsErrAnd result (λ passed. passed ≡ fault) → (fault ≢ WriteFault) × ¬ IsDeviceFault fault
