@@ -5,6 +5,7 @@ use Rattle.std.specs.Io.KnownBytes.{Appends}
 use Rattle.cq_orders.specs.declared.order.Order.{Order}
 use Rattle.cq_text.specs.declared.fault.ToolFault.{ToolFault}
 use Rattle.cq_text.specs.declared.fault.ToolFault.TheVariants.{ImagesAtFault, WriteFault}
+use Rattle.cq_files.specs.Counted.{CountsFaults}
 use Rattle.cq_text.specs.CycleLine.{IsCycleLine}
 use Rattle.cq_text.specs.Output.{AppendsBeginning}
 use Rattle.cq_commands.specs.Messages.{IsReadOut}
@@ -18,6 +19,11 @@ use Rattle.cq_commands.proofs.running.run.Goals as goal
 of_known : {T : Type 0} (s : Streams) (result : Result T ToolFault) (order known : Order) → order ≡ known
     → Ends known s result → Ends order s result
 of_known s result order known is ends = subst (λ (o : Order). Ends o s result) (sym is) ends
+
+-- so it ends, and that is what the folder counted
+ended : {T : Type 0} {was now : ℕ} (s : Streams) (result : Result T ToolFault) (order known : Order) → order ≡ known → CountsFaults was now result
+    → Ends known s result → record { ended : Ends order s result; counted : CountsFaults was now result }
+ended s result order known is counted ends = record { ended = of_known s result order known is ends; counted = counted }
 
 -- what holds anyway holds after a fault
 anyway : {T : Type 0} (result : Result T ToolFault) (P : Type 0) → P → IfErr result (λ fault. P)
@@ -50,9 +56,9 @@ returns-in-Cycle-clause-ended g c =
       version = tt;
     })
 
-pub returns-in-Init-clause-ended : goal.returns-in-Init-clause-ended
-returns-in-Init-clause-ended g c =
-    of_known _ c.init.result c.args.order.now _ c.in-Init.is (record {
+pub returns-in-Init : goal.returns-in-Init
+returns-in-Init g c =
+    ended _ c.init.result c.args.order.now _ c.in-Init.is c.init.ensures.counted (record {
       done = search rules;
       cause = search rules;
       left = both c.init.result _ _ c.init.ensures.left c.init.ensures.safe;
@@ -62,9 +68,9 @@ returns-in-Init-clause-ended g c =
       version = tt;
     })
 
-pub returns-in-Write-clause-ended : goal.returns-in-Write-clause-ended
-returns-in-Write-clause-ended g c =
-    of_known _ c.write.result c.args.order.now _ c.in-Write.is (record {
+pub returns-in-Write : goal.returns-in-Write
+returns-in-Write g c =
+    ended _ c.write.result c.args.order.now _ c.in-Write.is c.write.ensures.counted (record {
       done = c.write.ensures.saved.done;
       cause = c.write.ensures.cause;
       left = c.write.ensures.saved.left;
@@ -74,10 +80,10 @@ returns-in-Write-clause-ended g c =
       version = c.write.ensures.version;
     })
 
-pub returns-in-Read-clause-ended : goal.returns-in-Read-clause-ended
-returns-in-Read-clause-ended g c =
+pub returns-in-Read : goal.returns-in-Read
+returns-in-Read g c =
     let before = g.F.Folder.files c.args.folder.now in
-    of_known _ c.read.result c.args.order.now _ c.in-Read.is (record {
+    ended _ c.read.result c.args.order.now _ c.in-Read.is c.read.ensures.counted (record {
       done = on_ok_weaker c.read.result
           (λ printed. (
             c.read.ensures.kept,
@@ -94,13 +100,13 @@ returns-in-Read-clause-ended g c =
       version = c.read.ensures.version;
     })
 
-pub returns-in-Take-clause-ended : goal.returns-in-Take-clause-ended
-returns-in-Take-clause-ended g c =
+pub returns-in-Take : goal.returns-in-Take
+returns-in-Take g c =
     let before = g.F.Folder.files c.args.folder.now in
     let after = g.F.Folder.files c.take.new.folder in
     let saved = subst (λ (name : List ℕ). SavesAndPrints before after (g.W.Write.contents c.args.output.now)
     (g.W.Write.contents c.take.new.output) (IsTaken name before after) c.take.result) c.as_str-in-Take.ensures.value c.take.ensures.saved in
-    of_known _ c.take.result c.args.order.now _ c.in-Take.is (record {
+    ended _ c.take.result c.args.order.now _ c.in-Take.is c.take.ensures.counted (record {
       done = saved.done;
       cause = search rules;
       left = saved.left;
@@ -110,9 +116,9 @@ returns-in-Take-clause-ended g c =
       version = c.take.ensures.version;
     })
 
-pub returns-in-DropBefore-clause-ended : goal.returns-in-DropBefore-clause-ended
-returns-in-DropBefore-clause-ended g c =
-    of_known _ c.drop_before.result c.args.order.now _ c.in-DropBefore.is (record {
+pub returns-in-DropBefore : goal.returns-in-DropBefore
+returns-in-DropBefore g c =
+    ended _ c.drop_before.result c.args.order.now _ c.in-DropBefore.is c.drop_before.ensures.counted (record {
       done = c.drop_before.ensures.saved.done;
       cause = c.drop_before.ensures.cause;
       left = c.drop_before.ensures.saved.left;
@@ -122,9 +128,9 @@ returns-in-DropBefore-clause-ended g c =
       version = c.drop_before.ensures.version;
     })
 
-pub returns-in-Check-clause-ended : goal.returns-in-Check-clause-ended
-returns-in-Check-clause-ended g c =
-    of_known _ c.check.result c.args.order.now _ c.in-Check.is (record {
+pub returns-in-Check : goal.returns-in-Check
+returns-in-Check g c =
+    ended _ c.check.result c.args.order.now _ c.in-Check.is c.check.ensures.counted (record {
       done = search rules;
       cause = search rules;
       left = anyway c.check.result _ c.check.ensures.kept;
@@ -134,9 +140,9 @@ returns-in-Check-clause-ended g c =
       version = tt;
     })
 
-pub returns-in-Dump-clause-ended : goal.returns-in-Dump-clause-ended
-returns-in-Dump-clause-ended g c =
-    of_known _ c.dump.result c.args.order.now _ c.in-Dump.is (record {
+pub returns-in-Dump : goal.returns-in-Dump
+returns-in-Dump g c =
+    ended _ c.dump.result c.args.order.now _ c.in-Dump.is c.dump.ensures.counted (record {
       done = search rules;
       cause = search rules;
       left = anyway c.dump.result _ c.dump.ensures.kept;
@@ -146,9 +152,9 @@ returns-in-Dump-clause-ended g c =
       version = tt;
     })
 
-pub returns-in-Salvage-clause-ended : goal.returns-in-Salvage-clause-ended
-returns-in-Salvage-clause-ended g c =
-    of_known _ c.salvage.result c.args.order.now _ c.in-Salvage.is (record {
+pub returns-in-Salvage : goal.returns-in-Salvage
+returns-in-Salvage g c =
+    ended _ c.salvage.result c.args.order.now _ c.in-Salvage.is c.salvage.ensures.counted (record {
       done = search rules;
       cause = search rules;
       left = anyway c.salvage.result _ c.salvage.ensures.kept;
@@ -158,9 +164,9 @@ returns-in-Salvage-clause-ended g c =
       version = tt;
     })
 
-pub returns-in-Migrate-clause-ended : goal.returns-in-Migrate-clause-ended
-returns-in-Migrate-clause-ended g c =
-    of_known _ c.migrate.result c.args.order.now _ c.in-Migrate.is (record {
+pub returns-in-Migrate : goal.returns-in-Migrate
+returns-in-Migrate g c =
+    ended _ c.migrate.result c.args.order.now _ c.in-Migrate.is c.migrate.ensures.counted (record {
       done = search rules;
       cause = c.migrate.ensures.cause;
       left = c.migrate.ensures.left;
@@ -169,30 +175,3 @@ returns-in-Migrate-clause-ended g c =
       told = c.migrate.ensures.told;
       version = tt;
     })
-
-pub returns-in-Init-clause-counted : goal.returns-in-Init-clause-counted
-returns-in-Init-clause-counted g c = c.init.ensures.counted
-
-pub returns-in-Write-clause-counted : goal.returns-in-Write-clause-counted
-returns-in-Write-clause-counted g c = c.write.ensures.counted
-
-pub returns-in-Read-clause-counted : goal.returns-in-Read-clause-counted
-returns-in-Read-clause-counted g c = c.read.ensures.counted
-
-pub returns-in-Take-clause-counted : goal.returns-in-Take-clause-counted
-returns-in-Take-clause-counted g c = c.take.ensures.counted
-
-pub returns-in-DropBefore-clause-counted : goal.returns-in-DropBefore-clause-counted
-returns-in-DropBefore-clause-counted g c = c.drop_before.ensures.counted
-
-pub returns-in-Check-clause-counted : goal.returns-in-Check-clause-counted
-returns-in-Check-clause-counted g c = c.check.ensures.counted
-
-pub returns-in-Dump-clause-counted : goal.returns-in-Dump-clause-counted
-returns-in-Dump-clause-counted g c = c.dump.ensures.counted
-
-pub returns-in-Salvage-clause-counted : goal.returns-in-Salvage-clause-counted
-returns-in-Salvage-clause-counted g c = c.salvage.ensures.counted
-
-pub returns-in-Migrate-clause-counted : goal.returns-in-Migrate-clause-counted
-returns-in-Migrate-clause-counted g c = c.migrate.ensures.counted
