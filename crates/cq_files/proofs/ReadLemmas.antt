@@ -26,8 +26,10 @@ module _ (Holds : Files → CycleImage → Type 0) (IsRight : Files → ImageFil
     pub counted : was ≤ failed
     pub stays : inside ≡ entered
 
-  pub none_read : (left : List ImageFile) → left ≡ all → HaveRead [] left [] before was entered
-  none_read left is = record {
+module _ {Holds : Files → CycleImage → Type 0} {IsRight : Files → ImageFile → Type 0} {layout : CycleLayout} {all : List ImageFile}
+    {before : Option Files} {was : ℕ} {entered : Entered} where
+  pub none_read : {left : List ImageFile} → left ≡ all → HaveRead Holds IsRight layout all before was entered [] left [] before was entered
+  none_read is = record {
     files = refl;
     fit = tt;
     held = none_so before Holds;
@@ -38,24 +40,24 @@ module _ (Holds : Files → CycleImage → Type 0) (IsRight : Files → ImageFil
     stays = refl;
   }
 
-  module _ (front left : List ImageFile) (images : List CycleImage) (now : Option Files) (failed : ℕ) (inside : Entered)
-      (read : HaveRead front left images now failed inside) where
+  module _ {front left : List ImageFile} {images : List CycleImage} {now : Option Files} {failed : ℕ} {inside : Entered}
+      (read : HaveRead Holds IsRight layout all before was entered front left images now failed inside) where
     -- the next file is one of all
-    pub parted_at : (file : ImageFile) (rest : List ImageFile) → left ≡ file ∷ rest → all ≡ front ++ file ∷ rest
-    parted_at file rest is = read.parted ∙ ap (λ (others : List ImageFile). front ++ others) is
+    pub parted_at : {file : ImageFile} {rest : List ImageFile} → left ≡ file ∷ rest → all ≡ front ++ file ∷ rest
+    parted_at is = read.parted ∙ ap (λ (others : List ImageFile). front ++ others) is
 
     -- one image more
-    pub one_read : (file : ImageFile) (rest : List ImageFile) (image : CycleImage) (next : Option Files) (later : ℕ) (stays : Entered)
+    pub one_read : {file : ImageFile} {rest : List ImageFile} {next : Option Files} {later : ℕ} {stays : Entered} (image : CycleImage)
         → left ≡ file ∷ rest → image.file ≡ file → AreNext layout [] image.messages → IfSome now (λ held. Holds held image)
         → IfSome now (λ held. IsRight held file) → KeepsFiles now next → failed ≤ later → stays ≡ inside
-        → HaveRead (front ++ file ∷ []) rest (images ++ image ∷ []) next later stays
-    one_read file rest image next later stays is same fits holds right kept counted still = record {
+        → HaveRead Holds IsRight layout all before was entered (front ++ file ∷ []) rest (images ++ image ∷ []) next later stays
+    one_read {file} {rest} {next} image is same fits holds right kept counted still = record {
       files = map-append file_part images (image ∷ []) ∙ ap (λ (files : List ImageFile). files ++ image.file ∷ []) read.files
           ∙ ap (λ (f : ImageFile). front ++ f ∷ []) same;
       fit = each-append (λ (image : CycleImage). AreNext layout [] image.messages) images (image ∷ []) read.fit (fits, tt);
       held = one_more_so before now Holds images image read.kept read.held holds;
       right = one_more_so before now IsRight front file read.kept read.right right;
-      parted = parted_at file rest is ∙ sym (append_assoc front (file ∷ []) rest);
+      parted = parted_at is ∙ sym (append_assoc front (file ∷ []) rest);
       kept = keeps-trans before now next read.kept kept;
       counted = omega (arith, read.counted, counted);
       stays = still ∙ read.stays;

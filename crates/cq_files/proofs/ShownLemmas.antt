@@ -117,14 +117,16 @@ others_silent P (Ok value) is = tt
 others_silent P (Err fault) is = λ other. absurd (other is)
 
 -- how a command ends that only prints a text
-pub record EndsShowing {T : Type 0} (before after : Option Files) (old new : Option (List ℕ)) (was now : ℕ) (IsText : List ℕ → Type 0)
-    (IsCause : Files → ToolFault → Type 0) (result : Result T ToolFault) : Type 0 where
-  pub printed : OnOk result ((text : List ℕ) × IsText text × Appends old new text)
-  pub cause : IfErr result (λ fault. IfSome before (λ files. IsCause files fault))
-  pub kept : KeepsFiles before after
-  pub silent : IfErr result (λ fault. fault ≢ WriteFault → Keeps old new)
-  pub broken : IfErr result (λ fault. fault ≡ WriteFault → (text : List ℕ) × IsText text × AppendsBeginning old new text)
-  pub counted : CountsFaults was now result
+abbrev pub EndsShowing : {T : Type 0} → Option Files → Option Files → Option (List ℕ) → Option (List ℕ) → ℕ → ℕ → (List ℕ → Type 0)
+    → (Files → ToolFault → Type 0) → Result T ToolFault → Type 0
+EndsShowing before after old new was now IsText IsCause result = record {
+  printed : OnOk result ((text : List ℕ) × IsText text × Appends old new text);
+  cause : IfErr result (λ fault. IfSome before (λ files. IsCause files fault));
+  kept : KeepsFiles before after;
+  silent : IfErr result (λ fault. fault ≢ WriteFault → Keeps old new);
+  broken : IfErr result (λ fault. fault ≡ WriteFault → (text : List ℕ) × IsText text × AppendsBeginning old new text);
+  counted : CountsFaults was now result;
+}
 
 -- a fault that is passed on before anything is printed
 nothing_shown : {T : Type 0} (before after : Option Files) (output : Option (List ℕ)) (was now : ℕ) (IsText : List ℕ → Type 0)
@@ -154,17 +156,17 @@ module _ (IsFault : List ℕ → ToolFault → Type 0) (Shows : Settings → Lis
       EndsShowing before after old new was now (IsShown Shows file before) (λ files fault. IsShowFault IsUnshown file files fault) result
 
   -- it is not read
-  pub ends_unread : {T U : Type 0} (after : Option Files) (output : Option (List ℕ)) (was now : ℕ) (result : Result T ToolFault)
-      (fault : ToolFault) → IsErrAnd result (λ passed. passed ≡ fault) → (IsFileFault file fault → IsFault file fault)
+  pub ends_unread : {T U : Type 0} {after : Option Files} {was now : ℕ} {fault : ToolFault} (output : Option (List ℕ))
+      (result : Result T ToolFault) → IsErrAnd result (λ passed. passed ≡ fault) → (IsFileFault file fault → IsFault file fault)
       → Looks {T = U} (λ fault. fault ≢ WriteFault) (IsShowFault (IsUnreadFault file) file) before after was now (Err fault)
       → Showing after output output was now result
-  ends_unread after output was now result fault is so looks =
+  ends_unread {after} {was} {now} {fault} output result is so looks =
       nothing_shown before after output was now _ _ result fault is looks.fault
       (not_read IsUnshown before file fault (λ settings files unread. inl (so unread.0, unread.1)) looks.cause) looks.kept
       (counts_passed was now fault result looks.counted is)
 
   -- it is, and the folder is left
-  module _ (middle after : Option Files) (was between now : ℕ) (given : GivenImage) (is_given : IsGiven file before given)
+  module _ {middle after : Option Files} {was between now : ℕ} {given : GivenImage} (is_given : IsGiven file before given)
       (looks : Looks (λ fault. fault ≢ WriteFault) (IsShowFault (IsUnreadFault file) file) before middle was between (Ok given))
       (same : after ≡ middle) (no_more : now ≡ between) where
     kept : KeepsFiles before after

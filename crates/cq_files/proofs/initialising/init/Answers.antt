@@ -1,4 +1,4 @@
-use Rattle.std.proofs.Common.{List, ℕ, rules}
+use Rattle.std.proofs.Common.{rules}
 use Rattle.std.proofs.lemmas.Result.{on_ok_weaker}
 use Rattle.cq_folder.specs.Folder.{WritesFile}
 use Rattle.cq_folder.specs.declared.names.TheConstants.{CONFIG_FILE}
@@ -10,17 +10,12 @@ use Rattle.cq_files.proofs.initialising.init.Goals as goal
 
 pub returns-clause-left : goal.returns-clause-left
 returns-clause-left g c =
-    let before = g.F.Folder.files c.args.folder.now in
-    let middle = g.F.Folder.files c.check_new.new.folder in
-    let after = g.F.Folder.files c.write_file.new.folder in
-    let bytes = c.as_slice.result.now in
-    let made : IsInitialText c.args.settings.now bytes = search rules in
+    let made : IsInitialText c.args.settings.now c.as_slice.result.now = search rules in
     let kept = c.in_ok-check_new.ensures.kept in
     let told = c.write_file.ensures in
-    left_after c.write_file.result before middle after (WritesFile middle after CONFIG_FILE.now bytes)
-    ((text : List ℕ) × IsInitialText c.args.settings.now text × WritesFile before after CONFIG_FILE.now text) kept
-    (λ written. (bytes, made, kept_then_wrote before middle after CONFIG_FILE.now bytes kept written))
-    (left_by_save c.write_file.result middle after (WritesFile middle after CONFIG_FILE.now bytes) told.save told.scarce told.whole)
+    left_after c.write_file.result _ _ _ (WritesFile _ _ CONFIG_FILE.now c.as_slice.result.now) _ kept
+    (λ written. (c.as_slice.result.now, made, kept_then_wrote _ _ _ CONFIG_FILE.now _ kept written))
+    (left_by_save c.write_file.result _ _ _ told.save told.scarce told.whole)
 
 pub returns-in_err-roll-clause-left : goal.returns-in_err-roll-clause-left
 returns-in_err-roll-clause-left g c = still_kept c.from_residual.result _ _ _ (keeps-refl (g.F.Folder.files c.args.folder.now))
@@ -33,12 +28,9 @@ returns-in_err-text-clause-left g c = still_kept c.from_residual-in_err-text.res
 
 pub returns-clause-written : goal.returns-clause-written
 returns-clause-written g c =
-    let before = g.F.Folder.files c.args.folder.now in
-    let middle = g.F.Folder.files c.check_new.new.folder in
-    let after = g.F.Folder.files c.write_file.new.folder in
     let made : IsInitialText c.args.settings.now c.as_slice.result.now = search rules in
     on_ok_weaker c.write_file.result
-    (λ written. (c.as_slice.result.now, made, kept_then_wrote before middle after CONFIG_FILE.now _ c.in_ok-check_new.ensures.kept written))
+    (λ written. (c.as_slice.result.now, made, kept_then_wrote _ _ _ CONFIG_FILE.now _ c.in_ok-check_new.ensures.kept written))
     c.write_file.ensures.written
 
 pub returns-clause-counted : goal.returns-clause-counted
