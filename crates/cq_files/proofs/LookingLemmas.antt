@@ -11,12 +11,12 @@ use Rattle.cq_files.proofs.CauseLemmas.{of_any}
 use Rattle.cq_files.proofs.CountLemmas.{counts_from, counts_passed, uncounted}
 use Rattle.cq_files.proofs.QueueLemmas.{keeps-trans}
 
--- all of them are done
+-- a call that is done
 pub looks_done : {T : Type 0} {IsFault : ToolFault → Type 0} {IsCause : Files → ToolFault → Type 0} {before after : Option Files}
     {was now : ℕ} {value : T} → KeepsFiles before after → was ≤ now → Looks IsFault IsCause before after was now (Ok value)
 looks_done kept later = record { kept = kept; counted = record { later = later; device = tt }; fault = tt; cause = tt }
 
--- the fault of one is passed on
+-- a fault is passed on
 pub looks_passed : {T U : Type 0} {IsFault : ToolFault → Type 0} {IsCause : Files → ToolFault → Type 0} {before after : Option Files}
     {was now : ℕ} {fault : ToolFault} {result : Result U ToolFault} → IsErrAnd result (λ passed. passed ≡ fault) → KeepsFiles before after
     → CountsFaults {T = T} was now (Err fault) → IsFault fault → IfSome before (λ files. IsCause files fault)
@@ -28,7 +28,7 @@ looks_passed {T} {IsFault} {IsCause} {before} {was} {now} {fault} {result} is ke
   cause = passed_on result (λ fault. IfSome before (λ files. IsCause files fault)) fault is cause;
 }
 
--- so is a fault that is none of the device, whatever the files are
+-- a fault of no device is passed on, whatever the files hold
 pub looks_anyway : {T : Type 0} {IsFault : ToolFault → Type 0} {IsCause : Files → ToolFault → Type 0} {before after : Option Files}
     {was now : ℕ} {result : Result T ToolFault} (fault : ToolFault) → IsErrAnd result (λ passed. passed ≡ fault) → KeepsFiles before after
     → was ≤ now → ¬ IsDeviceFault fault → IsFault fault → ((files : Files) → IsCause files fault)
@@ -36,7 +36,7 @@ pub looks_anyway : {T : Type 0} {IsFault : ToolFault → Type 0} {IsCause : File
 looks_anyway {IsCause} {before} fault is kept later other one cause =
     looks_passed {T = ℕ} is kept (uncounted later other) one (of_any before (λ files. IsCause files fault) cause)
 
--- the last of them ends as it does, after those that came before it
+-- a call ends as the last one that it makes, after the others
 pub looks_after : {T : Type 0} {IsFault : ToolFault → Type 0} {Is Was : Files → ToolFault → Type 0} {before middle after : Option Files}
     {was between now : ℕ} (result : Result T ToolFault) → KeepsFiles before middle → was ≤ between
     → ((fault : ToolFault) → IfSome middle (λ files. Is files fault) → IfSome before (λ files. Was files fault))

@@ -50,7 +50,7 @@ not_given {saved} Refuses (Some a) file (BadCycleName name) opened why =
     })
 not_given Refuses (Some a) file _ opened why = absurd why
 
--- which is no fault of the writer, and none of the device
+-- why no file is given is no fault of the writer, and none of the device
 pub not_given_else : (settings : Settings) (names : List (List ℕ)) (file : List ℕ) (fault : ToolFault) → IsGivingFault settings names file fault
     → (fault ≢ WriteFault) × ¬ IsDeviceFault fault
 not_given_else settings names file OutOfMemory why = (search rules, λ device. device)
@@ -58,7 +58,7 @@ not_given_else settings names file (NoSuchFile name) why = (search rules, λ dev
 not_given_else settings names file (BadCycleName name) why = (search rules, λ device. device)
 not_given_else settings names file _ why = absurd why
 
--- what one that is given holds is refused
+-- what a given image holds is refused
 pub given_refused : {saved : SavedConfig} {names : List (List ℕ)} (Refuses : Settings → Files → ToolFault → Type 0) (a : Option Files)
     (file : List ℕ) (cycle : ℕ) (fault : ToolFault) → IsOpenFolder a saved names → Contains names file → IsImageName saved.config cycle file
     → IfSome a (λ files. Refuses saved.config files fault) → IfSome a (λ files. IsShowFault Refuses file files fault)

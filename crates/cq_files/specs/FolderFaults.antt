@@ -186,11 +186,10 @@ IsFirstFault P files (FaultyImage file fault) = IsReached P files (string_bytes 
 IsFirstFault P files (BadCycleName file) = IsNameReached files (string_bytes file)
 IsFirstFault P files _ = ⊤
 
--- why these images, of a folder with these settings, are not looked at: the first fault, where this must hold of each before
--- the next one is looked at
-abbrev pub IsFirstOf : (Files → Settings → List ℕ → Type 0) → Settings → List ImageFile → Files → ToolFault → Type 0
-IsFirstOf P settings images files fault = HasSettings files settings → IsLawfulSettings settings → AreImageFiles settings images files
-    → HasCause files fault × IsFirstFault P files fault
+-- the first fault of these images, of a folder with these settings, where P must hold of each before the next is looked at
+abbrev pub IsFirstFaultOf : (Files → Settings → List ℕ → Type 0) → Settings → List ImageFile → Files → ToolFault → Type 0
+IsFirstFaultOf P settings images files fault = HasSettings files settings → HasCause files fault
+    × (IsLawfulSettings settings → AreImageFiles settings images files → IsFirstFault P files fault)
 
 -- a fault that is found before any image is looked at
 abbrev pub IsFolderFault : ToolFault → Type 0
@@ -273,7 +272,7 @@ IsReadingFault layout file bytes (FaultyImage name fault) =
     (string_bytes name ≡ string_bytes file.name) × (read_of layout file.cycle bytes ≡ Err fault)
 IsReadingFault layout file bytes _ = ⊥
 
--- a file that is given is not read
+-- why a given file is not read
 abbrev pub IsUnreadFault : List ℕ → Settings → Files → ToolFault → Type 0
 IsUnreadFault file settings files fault = IsFileFault file fault × HasCause files fault
 
@@ -284,7 +283,7 @@ IsRecordsFault file settings files fault = (IsImageFault file fault × HasCause 
 
 -- why what is saved of a file is not printed: it is not read; else the lines are not written
 abbrev pub IsMessagesFault : List ℕ → Settings → Files → ToolFault → Type 0
-IsMessagesFault file settings files fault = (IsFileFault file fault × HasCause files fault)
+IsMessagesFault file settings files fault = IsUnreadFault file settings files fault
     ⊎ ((fault ≡ WriteFault) × ((text : List ℕ) × IsSalvaged settings file text files))
 
 -- why a file is not dumped

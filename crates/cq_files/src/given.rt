@@ -1,6 +1,6 @@
 //! Reads the image that a command is given by the name of its file.
 
-ghost use Rattle.std.specs.Prelude.{◌≢◌, IfErr, IfOk};
+ghost use Rattle.std.specs.Prelude.{◌≡◌, ◌≢◌, IfErr, IfOk, OnOk, Some};
 ghost use Rattle.cq_model.specs.Settings.{texts};
 ghost use Rattle.cq_files.specs.FolderFaults.{IsGivingFault, IsShowFault, IsUnreadFault};
 ghost use Rattle.cq_files.specs.Looking.{Looks};
@@ -42,6 +42,7 @@ pub(crate) fn read_given<F: Folder>(
     ensures given { IfOk result (IsGiven file.now (F.files folder.old)) }
     ensures looks { Looks (λ fault. fault ≢ ToolFault.WriteFault) (IsShowFault (IsUnreadFault file.now) file.now)
         (F.files folder.old) (F.files folder.new) (F.failed folder.old) (F.failed folder.new) result }
+    ensures inside { OnOk result (F.entered folder.new ≡ Some Access.Shared) }
 {
     let QueueFolder { saved, image_names } = open_folder(alloc, folder, Access::Shared)?;
     let image = given_file(alloc, &saved.config, image_names.as_slice(), file)?;
@@ -53,7 +54,11 @@ pub(crate) fn read_given<F: Folder>(
     })
 }
 
-/// Returns the file of this name, which has to be one of the images, with the cycle that it names.
+/// Returns the image file of this name, with the cycle that it names.
+///
+/// Errors, in this order:
+/// - `NoSuchFile`: no image has this name;
+/// - `BadCycleName`.
 fn given_file(
     alloc: Global,
     config: &Config,
