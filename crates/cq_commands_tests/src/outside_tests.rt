@@ -105,12 +105,13 @@ fn no_command_is_inside_while_it_waits(rt: HostRuntime) -> Result<(), Fail> {
 static OLD: [Step; 2] = [Step::OldQueue(4), Step::Put("19700101.cqi", b"x")];
 
 /// Commands that write, or refuse what they read, over that folder.
-static FAULTY: [Row; 4] = [
+static FAULTY: [Row; 5] = [
     (
         "cq|check|D",
         b"",
         "19700101.cqi: Cut at 0\ncq: images at fault",
     ),
+    ("cq|dump|D|19700101.cqi", b"", "cq: 19700101.cqi: Cut at 0"),
     ("cq|salvage|D|19700101.cqi", b"", "Cut at 0\n"),
     ("cq|write|D|0", b"a\n", "cq: OldVersion"),
     ("cq|migrate|D", b"", "cq: 19700101.cqi: Cut at 0"),
