@@ -1,6 +1,6 @@
 //! Callers in the middle of a call while an appender is lost: they go on, and get the results that a read of the
 //! queue at that moment gives.
-ghost use Rattle.std.specs.Prelude.{◌≡◌, ◌≤◌, ◌^◌, ℕ, List, IfOk, IfSome, None};
+ghost use Rattle.std.specs.Prelude.{◌≡◌, ◌≤◌, ◌^◌, ℕ, List, IfSome, None};
 ghost use Rattle.cq_shown.specs.Plans.{settings_in};
 ghost use Rattle.cq_steps_tests.specs.Writers.{HasSeen, IsIdle, IsIdleAt};
 ghost use Rattle.cq_walks.specs.Trails.{HasMessage, IsTrail};
@@ -10,7 +10,7 @@ use crate::looking::look;
 use crate::publishing::publish;
 use crate::queues::{
     Call, Loss, Measures, append_first, assert_none, layout_of, left_text, lose, new_queue,
-    push_at, push_text, steps_to_stand,
+    push_at, push_rest, steps_to_stand,
 };
 use crate::reading::{load_first, tell};
 use crate::steps::Steps;
@@ -18,7 +18,7 @@ use crate::writing::write;
 use cq_cycle::Index;
 use cq_fixtures::{DAY, push_missed};
 use cq_layout::Layout;
-use cq_tail::{Found, Tailer};
+use cq_tail::Tailer;
 use cq_walks::{MessagePlace, Trail, behind};
 use cq_words::{Caller, Queue};
 use std::alloc::{AllocError, Global};
@@ -115,53 +115,41 @@ fn copied(
     queue: &Queue,
     reader: &mut Caller,
     at: MessagePlace,
-    mut writer: Caller,
+    writer: &mut Caller,
     loss: &Loss,
 ) -> (u32, u32)
     requires reader { HasSeen queue.now reader.old at × (reader.old.view.claim ≡ None) }
-    requires writer { IsIdleAt queue.now writer loss.now.trail }
+    requires writer { IsIdleAt queue.now writer.old loss.now.trail }
     ensures { IsIdle queue.now reader.new }
 {
     let cell = load_first(queue, reader, at);
-    lose(queue, &mut writer, loss);
+    lose(queue, writer, loss);
     (cell, tell(queue, reader, at))
 }
 
-/// Adds what a caller reads after the last message that it has seen.
-fn push_look(
-    alloc: Global,
-    queue: &Queue,
-    mut reader: Caller,
-    mut writer: Caller,
-    loss: &Loss,
-    out: &mut String,
-) -> Result<Caller, AllocError>
-    requires reader { IsIdleAt queue.now reader loss.now.trail }
-    requires writer { IsIdleAt queue.now writer loss.now.trail }
-    ensures { IfOk result (λ caller. IsIdle queue.now caller) }
+/// A caller loads the tail. Returns the header there.
+fn looked(queue: &Queue, reader: &mut Caller, writer: &mut Caller, loss: &Loss) -> u32
+    requires reader { IsIdleAt queue.now reader.old loss.now.trail }
+    requires writer { IsIdleAt queue.now writer.old loss.now.trail }
+    ensures { IsIdle queue.now reader.new }
 {
-    let header = look(queue, &mut reader, &loss.trail);
-    lose(queue, &mut writer, loss);
-    let index = Index::new(loss.trail.cycle, loss.trail.walker.sequence());
-    let mut tailer = Tailer::new(reader);
-    let found = tailer.read_at(alloc, queue, index)?;
-    write!(out, "header {header}, ")?;
-    push_at(found, out)?;
-    Ok(tailer.into_caller())
+    let header = look(queue, reader, &loss.trail);
+    lose(queue, writer, loss);
+    header
 }
 
 /// A caller takes the first message. Returns the position that it loaded, and where it found the name, or `None`
 /// if there is no name or no message.
-fn taken(queue: &Queue, reader: &mut Caller, mut writer: Caller, loss: &Loss) -> Option<(u64, u64)>
+fn taken(queue: &Queue, reader: &mut Caller, writer: &mut Caller, loss: &Loss) -> Option<(u64, u64)>
     requires reader { IsIdle queue.now reader.old }
-    requires writer { IsIdleAt queue.now writer loss.now.trail }
+    requires writer { IsIdleAt queue.now writer.old loss.now.trail }
     ensures { IsIdle queue.now reader.new }
 {
     if queue.config().names().is_empty() {
         return None;
     }
     let position = queue.load_position(reader, 0);
-    lose(queue, &mut writer, loss);
+    lose(queue, writer, loss);
     if position >= reader.seen_end() {
         return None;
     }
@@ -169,71 +157,109 @@ fn taken(queue: &Queue, reader: &mut Caller, mut writer: Caller, loss: &Loss) ->
 }
 
 /// A caller meets a third one, and then the one that is lost. Returns the ends that the caller and the third one have seen.
-fn met(queue: &Queue, reader: &mut Caller, mut writer: Caller, loss: &Loss) -> (u64, u64)
+fn met(queue: &Queue, reader: &mut Caller, writer: &mut Caller, loss: &Loss) -> (u64, u64)
     requires reader { IsIdle queue.now reader.old }
-    requires writer { IsIdleAt queue.now writer loss.now.trail }
+    requires writer { IsIdleAt queue.now writer.old loss.now.trail }
     ensures { IsIdle queue.now reader.new }
 {
     let mut third = queue.split(reader);
     queue.meet(reader, &mut third);
-    lose(queue, &mut writer, loss);
-    queue.meet(&mut writer, reader);
+    lose(queue, writer, loss);
+    queue.meet(writer, reader);
     let end = reader.seen_end();
     queue.meet(&mut third, reader);
     (end, third.seen_end())
 }
 
-/// What a tailer reads until no message has come, and a semicolon.
-fn messages_text(alloc: Global, queue: &Queue, mut tailer: Tailer) -> Result<String, AllocError>
-    requires { IsOf queue.now tailer.caller }
-{
-    let mut text = String::new(alloc);
-    for _ in 0..20 {
-        let Found::Message(_index, message) = tailer.next(alloc, queue)? else {
-            return format!(in alloc; "{text}; ");
-        };
-        push_text(message.as_slice(), &mut text)?;
-    }
-    format!(in alloc; "{text} and more; ")
+/// What a caller is at, which last message it has seen, and how the appender is lost.
+#[derive(Clone, Copy)]
+struct Spot {
+    middle: Middle,
+    at: Option<MessagePlace>,
+    loss: Loss<'static>,
 }
 
-/// Adds what a caller's call returns next to an appender that is lost, and then what the caller reads from the start on.
+/// Adds what a call returns that a caller is at when the appender is lost.
+fn push_middle(
+    queue: &Queue,
+    reader: &mut Caller,
+    writer: &mut Caller,
+    spot: &Spot,
+    out: &mut String,
+) -> Result<(), AllocError>
+    requires reader { IsIdleAt queue.now reader.old spot.now.loss.trail }
+    requires writer { IsIdleAt queue.now writer.old spot.now.loss.trail }
+    requires seen { IfSome spot.now.at (λ at. HasSeen queue.now reader.old at) }
+    ensures { IsIdle queue.now reader.new }
+{
+    match (spot.middle, spot.at) {
+        (Middle::Copy, Some(at)) => {
+            let (cell, floor) = copied(queue, reader, at, writer, &spot.loss);
+            write!(out, "cell {cell:08x}, floor {floor}")
+        }
+        (Middle::Copy, None) => out.push_str("no message"),
+        (Middle::Look, _) => {
+            let header = looked(queue, reader, writer, &spot.loss);
+            write!(out, "header {header}")
+        }
+        (Middle::Take, _) => match taken(queue, reader, writer, &spot.loss) {
+            Some((position, found)) => write!(out, "at {position}, found {found}"),
+            None => out.push_str("no message"),
+        },
+        (Middle::Meet, _) => {
+            let (end, third) = met(queue, reader, writer, &spot.loss);
+            write!(out, "end {end}, {third}")
+        }
+    }
+}
+
+/// Adds what a tailer reads after the last message that was there before, and then from the start on.
+fn push_reads(
+    alloc: Global,
+    queue: &Queue,
+    tailer: &mut Tailer,
+    trail: &Trail,
+    out: &mut String,
+) -> Result<(), AllocError>
+    requires { IsOf queue.now tailer.old.caller }
+{
+    let index = Index::new(trail.cycle, trail.walker.sequence());
+    out.push_str(", ")?;
+    push_at(alloc, queue, tailer, index, out)?;
+    out.push_str("; ")?;
+    push_rest(alloc, queue, tailer, out)
+}
+
+/// Adds what a caller's call returns next to an appender that is lost, and what the caller reads then.
 fn push_beside(
     alloc: Global,
     queue: &Queue,
-    mut writer: Caller,
+    writer: &mut Caller,
     case: Case,
     out: &mut String,
 ) -> Result<(), AllocError>
-    requires { IsIdle queue.now writer }
+    requires { IsIdle queue.now writer.old }
 {
-    let Some((at, trail)) = append_some(queue, &mut writer, case.count) else {
+    let Some((at, trail)) = append_some(queue, writer, case.count) else {
         return out.push_str("not appended; ");
     };
-    let mut reader = queue.split(&mut writer);
     let loss = Loss {
         call: case.call,
         steps: case.steps,
         trail,
     };
-    match (case.middle, at) {
-        (Middle::Look, _) => reader = push_look(alloc, queue, reader, writer, &loss, out)?,
-        (Middle::Copy, Some(at)) => {
-            let (cell, floor) = copied(queue, &mut reader, at, writer, &loss);
-            write!(out, "cell {cell:08x}, floor {floor}")?;
-        }
-        (Middle::Copy, None) => out.push_str("no message")?,
-        (Middle::Take, _) => match taken(queue, &mut reader, writer, &loss) {
-            Some((position, found)) => write!(out, "at {position}, found {found}")?,
-            None => out.push_str("no message")?,
-        },
-        (Middle::Meet, _) => {
-            let (end, third) = met(queue, &mut reader, writer, &loss);
-            write!(out, "end {end}, {third}")?;
-        }
+    let spot = Spot {
+        middle: case.middle,
+        at,
+        loss,
+    };
+    let mut reader = queue.split(writer);
+    let told = push_middle(queue, &mut reader, writer, &spot, out);
+    let mut tailer = Tailer::new(reader);
+    match told {
+        Ok(()) => push_reads(alloc, queue, &mut tailer, &spot.loss.trail, out),
+        Err(refused) => Err(refused),
     }
-    let messages = messages_text(alloc, queue, Tailer::new(reader))?;
-    write!(out, "; {messages}")
 }
 
 /// The same in a new queue, and then what is left.
@@ -241,7 +267,7 @@ fn told_text(alloc: Global, case: Case) -> Result<String, Fail> {
     let (queue, mut writer) = new_queue(alloc, MEASURES)?;
     let other = queue.split(&mut writer);
     let mut told = String::new(alloc);
-    push_beside(alloc, &queue, writer, case, &mut told)?;
+    push_beside(alloc, &queue, &mut writer, case, &mut told)?;
     told.push_str(left_text(alloc, MEASURES, &queue.stop(other))?.as_str())?;
     Ok(told)
 }
@@ -259,27 +285,27 @@ struct Beside {
 static BESIDE: [Beside; 4] = [
     Beside {
         middle: Middle::Copy,
-        before: "cell 00000061, floor 0; aaaaaaaa; 0[a;a;a;a;a;a;a;a;] at [0], 8",
-        appended: "cell 00000061, floor 0; aaaaaaaab; 0[a;a;a;a;a;a;a;a;b;] at [0], 9",
-        advanced: "cell 00000061, floor 0; aaaaaaaa; 0[a;a;a;a;a;a;a;a;] 5[] at [0], 21474836480",
+        before: "cell 00000061, floor 0, NotYet; aaaaaaaa, NotYet; 0[a;a;a;a;a;a;a;a;] at [0], 8",
+        appended: "cell 00000061, floor 0, b; aaaaaaaab, NotYet; 0[a;a;a;a;a;a;a;a;b;] at [0], 9",
+        advanced: "cell 00000061, floor 0, Never; aaaaaaaa, NotYet; 0[a;a;a;a;a;a;a;a;] 5[] at [0], 21474836480",
     },
     Beside {
         middle: Middle::Look,
-        before: "header 0, NotYet; aaaaaaaa; 0[a;a;a;a;a;a;a;a;] at [0], 8",
-        appended: "header 0, b; aaaaaaaab; 0[a;a;a;a;a;a;a;a;b;] at [0], 9",
-        advanced: "header 0, Never; aaaaaaaa; 0[a;a;a;a;a;a;a;a;] 5[] at [0], 21474836480",
+        before: "header 0, NotYet; aaaaaaaa, NotYet; 0[a;a;a;a;a;a;a;a;] at [0], 8",
+        appended: "header 0, b; aaaaaaaab, NotYet; 0[a;a;a;a;a;a;a;a;b;] at [0], 9",
+        advanced: "header 0, Never; aaaaaaaa, NotYet; 0[a;a;a;a;a;a;a;a;] 5[] at [0], 21474836480",
     },
     Beside {
         middle: Middle::Take,
-        before: "at 0, found 0; aaaaaaaa; 0[a;a;a;a;a;a;a;a;] at [1], 8",
-        appended: "at 0, found 0; aaaaaaaab; 0[a;a;a;a;a;a;a;a;b;] at [1], 9",
-        advanced: "at 0, found 0; aaaaaaaa; 0[a;a;a;a;a;a;a;a;] 5[] at [1], 21474836480",
+        before: "at 0, found 0, NotYet; aaaaaaaa, NotYet; 0[a;a;a;a;a;a;a;a;] at [1], 8",
+        appended: "at 0, found 0, b; aaaaaaaab, NotYet; 0[a;a;a;a;a;a;a;a;b;] at [1], 9",
+        advanced: "at 0, found 0, Never; aaaaaaaa, NotYet; 0[a;a;a;a;a;a;a;a;] 5[] at [1], 21474836480",
     },
     Beside {
         middle: Middle::Meet,
-        before: "end 8, 8; aaaaaaaa; 0[a;a;a;a;a;a;a;a;] at [0], 8",
-        appended: "end 9, 9; aaaaaaaab; 0[a;a;a;a;a;a;a;a;b;] at [0], 9",
-        advanced: "end 21474836480, 21474836480; aaaaaaaa; 0[a;a;a;a;a;a;a;a;] 5[] at [0], 21474836480",
+        before: "end 8, 8, NotYet; aaaaaaaa, NotYet; 0[a;a;a;a;a;a;a;a;] at [0], 8",
+        appended: "end 9, 9, b; aaaaaaaab, NotYet; 0[a;a;a;a;a;a;a;a;b;] at [0], 9",
+        advanced: "end 21474836480, 21474836480, Never; aaaaaaaa, NotYet; 0[a;a;a;a;a;a;a;a;] 5[] at [0], 21474836480",
     },
 ];
 
@@ -287,15 +313,15 @@ static BESIDE: [Beside; 4] = [
 static BESIDE_FIRST: [Beside; 2] = [
     Beside {
         middle: Middle::Look,
-        before: "header 0, NotYet; ; 0[] at [0], 0",
-        appended: "header 0, b; b; 0[b;] at [0], 1",
-        advanced: "header 0, Never; ; 0[] 5[] at [0], 21474836480",
+        before: "header 0, NotYet; , NotYet; 0[] at [0], 0",
+        appended: "header 0, b; b, NotYet; 0[b;] at [0], 1",
+        advanced: "header 0, Never; , NotYet; 0[] 5[] at [0], 21474836480",
     },
     Beside {
         middle: Middle::Meet,
-        before: "end 0, 0; ; 0[] at [0], 0",
-        appended: "end 1, 1; b; 0[b;] at [0], 1",
-        advanced: "end 21474836480, 21474836480; ; 0[] 5[] at [0], 21474836480",
+        before: "end 0, 0, NotYet; , NotYet; 0[] at [0], 0",
+        appended: "end 1, 1, b; b, NotYet; 0[b;] at [0], 1",
+        advanced: "end 21474836480, 21474836480, Never; , NotYet; 0[] 5[] at [0], 21474836480",
     },
 ];
 

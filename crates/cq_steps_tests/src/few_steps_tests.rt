@@ -4,7 +4,7 @@
 
 ghost use Rattle.cq_words.specs.Values.{IsOf};
 
-use crate::many::{COUNT, Many, SPACING, append_all, new_queue};
+use crate::many::{COUNT, Many, SPACING, append_all};
 use cq_cycle::Index;
 use cq_tail::{At, Direction, Found, Tailer};
 use cq_words::Queue;
@@ -82,50 +82,65 @@ impl Many {
     }
 }
 
+/// The most steps of a read by index of a new queue.
+fn most_read_steps(alloc: Global) -> Result<u64, Fail> {
+    Many::new(alloc)?.most_read_steps(alloc)
+}
+
 #[test]
 fn a_read_by_index_takes_few_steps(rt: HostRuntime) -> Result<(), Fail> {
-    let most = Many::new(rt.alloc())?.most_read_steps(rt.alloc())?;
-    assert!(rt; most <= 11 + u64::from(SPACING));
+    assert!(rt; most_read_steps(rt.alloc())? <= 11 + u64::from(SPACING));
     Ok(())
+}
+
+/// The most steps of one of these reads forwards of a new queue.
+fn most_forward_steps(alloc: Global, wanted: &[u32]) -> Result<u64, Fail> {
+    Many::new(alloc)?.most_forward_steps(alloc, wanted)
 }
 
 #[test]
 fn a_read_behind_the_last_one_takes_one_step(rt: HostRuntime) -> Result<(), Fail> {
     let wanted = [1, 2, 16, 4_095, 4_097, 12_345, 29_999];
-    let most = Many::new(rt.alloc())?.most_forward_steps(rt.alloc(), &wanted)?;
-    assert!(rt; most <= 1);
+    assert!(rt; most_forward_steps(rt.alloc(), &wanted)? <= 1);
     Ok(())
 }
 
 #[test]
 fn a_read_over_an_index_table_takes_three_steps(rt: HostRuntime) -> Result<(), Fail> {
     // An index table comes before each 4,096th message.
-    let most = Many::new(rt.alloc())?.most_forward_steps(rt.alloc(), &[4_096, 8_192, 28_672])?;
-    assert!(rt; most <= 3);
+    assert!(rt; most_forward_steps(rt.alloc(), &[4_096, 8_192, 28_672])? <= 3);
     Ok(())
+}
+
+/// The steps of reads of all messages of a new queue backwards.
+fn all_backward_steps(alloc: Global) -> Result<u64, Fail> {
+    Many::new(alloc)?.all_backward_steps(alloc)
 }
 
 #[test]
 fn reads_backwards_look_at_one_header_a_message(rt: HostRuntime) -> Result<(), Fail> {
-    let steps = Many::new(rt.alloc())?.all_backward_steps(rt.alloc())?;
     // In each block of 64 messages the slot's cycle, the write position and two entries are loaded too.
-    assert!(rt; steps <= u64::from(COUNT + 4 * (COUNT / 64 + 2)));
+    assert!(rt; all_backward_steps(rt.alloc())? <= u64::from(COUNT + 4 * (COUNT / 64 + 2)));
     Ok(())
+}
+
+/// The same of a queue that is opened again.
+fn all_backward_steps_without_hints(alloc: Global) -> Result<u64, Fail> {
+    Many::reopened(alloc)?.all_backward_steps(alloc)
 }
 
 #[test]
 fn reads_backwards_without_hints_look_at_two_headers_a_message(
     rt: HostRuntime,
 ) -> Result<(), Fail> {
-    let steps = Many::reopened(rt.alloc())?.all_backward_steps(rt.alloc())?;
+    let steps = all_backward_steps_without_hints(rt.alloc())?;
     assert!(rt; steps <= u64::from(2 * COUNT + COUNT / 64));
     Ok(())
 }
 
 /// Returns the steps of this many appends to a new queue by one caller.
 fn append_steps(alloc: Global, count: u32) -> Result<u64, Fail> {
-    let (queue, caller) = new_queue(alloc)?;
-    let steps = append_all(&queue, caller, count)?.steps();
+    let steps = Many::of(alloc, count)?.caller.steps();
     Ok(steps.saturating_add(2 * u64::from(count)))
 }
 
@@ -153,19 +168,19 @@ fn an_append_behind_a_new_table_takes_six_steps(rt: HostRuntime) -> Result<(), F
     Ok(())
 }
 
-/// Returns the steps of an append by a caller that was just split off, after this many messages.
-fn new_append_steps(alloc: Global, count: u32) -> Result<u64, Fail> {
-    let (queue, caller) = new_queue(alloc)?;
-    let mut caller = append_all(&queue, caller, count)?;
-    let other = queue.split(&mut caller);
-    Ok(append_all(&queue, other, 1)?.steps().saturating_add(2))
+impl Many {
+    /// Returns the steps of an append by a caller that is just split off.
+    fn new_append_steps(&mut self) -> Result<u64, Fail> {
+        let other = self.queue.split(&mut self.caller);
+        Ok(append_all(&self.queue, other, 1)?.steps().saturating_add(2))
+    }
 }
 
 /// The most steps of an append of one of these messages, each by a new caller.
 fn most_new_append_steps(alloc: Global, sequences: &[u32]) -> Result<u64, Fail> {
     let mut most = 0;
     for sequence in sequences {
-        most = most.max(new_append_steps(alloc, *sequence)?);
+        most = most.max(Many::of(alloc, *sequence)?.new_append_steps()?);
     }
     Ok(most)
 }

@@ -6,7 +6,7 @@ ghost use Rattle.cq_words.specs.Values.{IsOf};
 use cq_append::Appender;
 use cq_fixtures::config_of;
 use cq_layout::Shape;
-use cq_model::Config;
+use cq_model::{Config, Contents};
 use cq_shown::recover;
 use cq_words::{Caller, Queue};
 use std::alloc::Global;
@@ -25,7 +25,7 @@ fn config(alloc: Global) -> Result<Config, Fail> {
 }
 
 /// A new queue, and its first caller.
-pub fn new_queue(alloc: Global) -> Result<(Queue, Caller), Fail>
+fn new_queue(alloc: Global) -> Result<(Queue, Caller), Fail>
     ensures of { IfOk result (λ made. IsOf made.0 made.1) }
     ensures idle { IfOk result (λ made. made.1.view.claim ≡ None) }
 {
@@ -45,7 +45,7 @@ pub fn append_all(queue: &Queue, caller: Caller, count: u32) -> Result<Caller, F
     Ok(appender.into_caller())
 }
 
-/// A queue of all messages, and a caller that knows no place. Contracts see no more of it than that it is of this queue.
+/// A queue of many messages, and a caller of it. Contracts see no more of it than that it is of this queue.
 #[derive(Drop)]
 pub struct Many {
     pub queue: Queue,
@@ -64,18 +64,34 @@ impl Model for Many {
 }
 
 impl Many {
-    /// A new queue to which the messages were appended.
-    pub fn new(alloc: Global) -> Result<Many, Fail> {
+    /// A new queue to which this many messages were appended.
+    pub fn of(alloc: Global, count: u32) -> Result<Many, Fail> {
         let (queue, caller) = new_queue(alloc)?;
-        let caller = append_all(&queue, caller, COUNT)?;
+        let caller = append_all(&queue, caller, count)?;
         Ok(Many { queue, caller })
+    }
+
+    /// A new queue to which all messages were appended.
+    pub fn new(alloc: Global) -> Result<Many, Fail> {
+        Many::of(alloc, COUNT)
     }
 
     /// The same, stopped and opened again: no message has an entry, and there is no write position.
     pub fn reopened(alloc: Global) -> Result<Many, Fail> {
         let Many { queue, caller } = Many::new(alloc)?;
         let contents = recover(alloc, &queue.stop(caller))?;
-        let (queue, caller) = Queue::reopen(alloc, config(alloc)?, &contents)?;
+        Many::held(alloc, config(alloc)?, &contents, 0)
+    }
+
+    /// A queue that is opened again with contents, and to which this many messages were appended then.
+    pub fn held(
+        alloc: Global,
+        config: Config,
+        contents: &Contents,
+        count: u32,
+    ) -> Result<Many, Fail> {
+        let (queue, caller) = Queue::reopen(alloc, config, contents)?;
+        let caller = append_all(&queue, caller, count)?;
         Ok(Many { queue, caller })
     }
 }

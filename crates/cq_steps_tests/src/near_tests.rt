@@ -2,7 +2,7 @@
 
 ghost use Rattle.cq_words.specs.Values.{IsOf};
 
-use crate::many::{Many, append_all};
+use crate::many::Many;
 use cq_fixtures::{config_of, contents_of};
 use cq_layout::Shape;
 use cq_walks::{enter_slot, near};
@@ -20,52 +20,52 @@ fn start(queue: &Queue, caller: &mut Caller, wanted: u32) -> u32
 }
 
 impl Many {
-    /// The same of several messages.
-    fn starts(&mut self, alloc: Global, wanted: &[u32]) -> Result<Vec<u32>, Fail> {
-        let mut starts = Vec::new(alloc);
-        for sequence in wanted {
-            starts.push(start(&self.queue, &mut self.caller, *sequence))?;
+    /// Fails if the walk to a message does not begin where wanted. Each row has the message, and the sequence there.
+    fn expect_starts(&mut self, rows: &[(u32, u32)]) -> Result<(), Fail> {
+        for (wanted, want) in rows {
+            let start = start(&self.queue, &mut self.caller, *wanted);
+            if start != *want {
+                return Err(Fail::new(format_args!("to {wanted}: {start} in place of {want}")));
+            }
         }
-        Ok(starts)
+        Ok(())
     }
-}
-
-/// Fails if walks do not begin where wanted.
-fn expect_starts(starts: &[u32], want: &[u32]) -> Result<(), Fail> {
-    if starts == want {
-        return Ok(());
-    }
-    Err(Fail::new(format_args!("{starts:?} in place of {want:?}")))
 }
 
 #[test]
 fn walks_begin_at_the_last_entry(rt: HostRuntime) -> Result<(), Fail> {
     // Of 30,000 messages one in 16 has an entry.
-    let wanted = [0, 15, 16, 17, 31, 4_095, 4_096, 12_345, 29_983, 29_998];
-    let starts = Many::new(rt.alloc())?.starts(rt.alloc(), &wanted)?;
-    expect_starts(
-        starts.as_slice(),
-        &[0, 0, 16, 16, 16, 4_080, 4_096, 12_336, 29_968, 29_984],
-    )
+    Many::new(rt.alloc())?.expect_starts(&[
+        (0, 0),
+        (15, 0),
+        (16, 16),
+        (17, 16),
+        (31, 16),
+        (4_095, 4_080),
+        (4_096, 4_096),
+        (12_345, 12_336),
+        (29_983, 29_968),
+        (29_998, 29_984),
+    ])
 }
 
 #[test]
 fn walks_begin_at_the_last_message(rt: HostRuntime) -> Result<(), Fail> {
-    let starts = Many::new(rt.alloc())?.starts(rt.alloc(), &[29_999, 30_000, u32::MAX])?;
-    expect_starts(starts.as_slice(), &[29_999, 29_999, 29_999])
+    Many::new(rt.alloc())?.expect_starts(&[(29_999, 29_999), (30_000, 29_999), (u32::MAX, 29_999)])
 }
 
 /// A queue that is opened again with three messages, after which one is appended.
 fn opened_with_three(alloc: Global) -> Result<Many, Fail> {
-    let config = config_of(alloc, Shape::new(64, 8, 1)?, 1)?;
     let contents = contents_of(alloc, &[(0, &["a", "b", "c"])], &[0])?;
-    let (queue, caller) = Queue::reopen(alloc, config, &contents)?;
-    let caller = append_all(&queue, caller, 1)?;
-    Ok(Many { queue, caller })
+    Many::held(
+        alloc,
+        config_of(alloc, Shape::new(64, 8, 1)?, 1)?,
+        &contents,
+        1,
+    )
 }
 
 #[test]
 fn walks_to_messages_without_entries_begin_before_the_first(rt: HostRuntime) -> Result<(), Fail> {
-    let starts = opened_with_three(rt.alloc())?.starts(rt.alloc(), &[0, 1, 2, 3, 4])?;
-    expect_starts(starts.as_slice(), &[0, 0, 0, 3, 3])
+    opened_with_three(rt.alloc())?.expect_starts(&[(0, 0), (1, 0), (2, 0), (3, 3), (4, 3)])
 }

@@ -1,5 +1,5 @@
 use Rattle.cq_words.specs.Values.{IsOf}
-use Rattle.cq_steps_tests.proofs.beside_tests.messages_text.Given as goal
+use Rattle.cq_steps_tests.proofs.queues.push_rest.Given as goal
 
 abbrev pub invariant-loop : goal.invariant-loop
 invariant-loop l = IsOf l.queue l.tailer.caller

@@ -1,5 +1,0 @@
-use Rattle.cq_words.specs.Values.{IsOf}
-use Rattle.cq_steps_tests.proofs.hint_tests.rest_text.Given as goal
-
-abbrev pub invariant-loop : goal.invariant-loop
-invariant-loop l = IsOf l.queue l.tailer.caller
