@@ -34,8 +34,10 @@ impl Many {
     /// The steps of a read by index, by a caller that is just split off.
     fn read_steps(&mut self, alloc: Global, sequence: u32) -> Result<u64, Fail> {
         let mut tailer = Tailer::new(self.queue.split(&mut self.caller));
-        match tailer.read_at(alloc, &self.queue, Index::new(0, sequence))? {
-            At::Message(_message) => Ok(tailer.into_caller().steps()),
+        let found = tailer.read_at(alloc, &self.queue, Index::new(0, sequence));
+        let steps = tailer.into_caller().steps();
+        match found? {
+            At::Message(_message) => Ok(steps),
             At::NotYet | At::Never | At::Gone => missing(),
         }
     }
