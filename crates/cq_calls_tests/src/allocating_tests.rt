@@ -40,16 +40,18 @@ impl Both {
         let found = self.tailer.next(alloc, &self.queue)?;
         Ok(matches!(found, Found::Message(_, _)))
     }
+    /// How many messages were appended, whether the last of them is read, and how many before it are read into a buffer.
+    fn into_text(&mut self, alloc: Global, most: u32) -> Result<String, Fail> {
+        let appended = self.append_numbers();
+        let is_read = self.reads_last(alloc)?;
+        let read = self.read_into_a_room(most);
+        Ok(format!(in alloc; "{appended} {is_read} {read}")?)
+    }
 }
 
-/// How many messages were appended to a new queue, whether the last of them is read, and how many before it are read into
-/// a buffer. The index of the queue has an entry for one message in 256.
+/// The same of a new queue. Its index has an entry for one message in 256.
 fn new_queue_text(alloc: Global, most: u32) -> Result<String, Fail> {
-    let mut both = Both::new(alloc, 1, 256)?;
-    let appended = both.append_numbers();
-    let is_read = both.reads_last(alloc)?;
-    let read = both.read_into_a_room(most);
-    Ok(format!(in alloc; "{appended} {is_read} {read}")?)
+    Both::new(alloc, 1, 256)?.into_text(alloc, most)
 }
 
 #[test]

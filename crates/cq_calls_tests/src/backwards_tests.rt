@@ -125,18 +125,21 @@ impl Both {
         }
         Ok(0)
     }
+
+    /// How many messages are appended and read forwards, how many of them backwards, and what comes before them.
+    fn text(&mut self, alloc: Global) -> Result<String, Fail> {
+        let appended = self.append_all();
+        let all = self.read_all(alloc)?;
+        let forwards = all.len();
+        let backwards = self.count_back(alloc, all)?;
+        let before = self.tailer.next(alloc, &self.queue)?;
+        Ok(format!(in alloc; "{appended} {forwards} {backwards} {before:?}")?)
+    }
 }
 
-/// How many messages are appended to a new queue and read forwards, how many of them backwards, and what comes before
-/// them. The index of the queue has an entry for one message in this many.
+/// The same of a new queue. Its index has an entry for one message in this many.
 fn new_queue_text(alloc: Global, spacing: u32) -> Result<String, Fail> {
-    let mut both = Both::new(alloc, 4, spacing)?;
-    let appended = both.append_all();
-    let all = both.read_all(alloc)?;
-    let forwards = all.len();
-    let backwards = both.count_back(alloc, all)?;
-    let before = both.tailer.next(alloc, &both.queue)?;
-    Ok(format!(in alloc; "{appended} {forwards} {backwards} {before:?}")?)
+    Both::new(alloc, 4, spacing)?.text(alloc)
 }
 
 #[test]

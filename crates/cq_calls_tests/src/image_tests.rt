@@ -95,13 +95,24 @@ const BEFORE_SNAPSHOT: Calls = &[
     (Call::Begin(0, 1), "begun"),
 ];
 
-/// Makes these calls of a new queue, and gives what the images of a snapshot after them are read as.
-fn push_imaged(alloc: Global, calls: Calls, out: &mut String) -> Result<(), Fail> {
-    let shape = Shape::new(64, 8, 1)?;
-    let mut lives = Lives::of(shape);
+/// Makes these calls, and gives what the images of a snapshot after them are read as.
+fn images_text(
+    alloc: Global,
+    shape: Shape,
+    lives: &mut Lives,
+    calls: Calls,
+) -> Result<String, Fail> {
     lives.expect(alloc, calls)?;
     let lists = lives.snapshot_lists(alloc)?;
-    push_images(alloc, shape, lists.as_slice(), out)
+    let mut text = String::new(alloc);
+    push_images(alloc, shape, lists.as_slice(), &mut text)?;
+    Ok(text)
+}
+
+/// The same of a new queue.
+fn new_images_text(alloc: Global, calls: Calls) -> Result<String, Fail> {
+    let shape = Shape::new(64, 8, 1)?;
+    images_text(alloc, shape, &mut Lives::of(shape), calls)
 }
 
 /// What the images are read as, and the records of the last one.
@@ -111,7 +122,5 @@ const READ_BACK: &str = "0[a;] ended\n5[b;] open\n\
 
 #[test]
 fn a_snapshot_during_a_claim_has_images(rt: HostRuntime) -> Result<(), Fail> {
-    let mut text = String::new(rt.alloc());
-    push_imaged(rt.alloc(), BEFORE_SNAPSHOT, &mut text)?;
-    expect_text(text, READ_BACK)
+    expect_text(new_images_text(rt.alloc(), BEFORE_SNAPSHOT)?, READ_BACK)
 }

@@ -1,6 +1,7 @@
 //! Queues whose opener is their only caller.
 //!
 //! The calls are not those of `queues`: a reader of a journal returns a message or none, and no reason.
+use crate::lives::made_text;
 use crate::queues::misplaced;
 use cq_fixtures::{
     Cycles, DAY, contents_of, contents_text, expect_answer, message_or_none, small_config,
@@ -68,16 +69,12 @@ fn held(
 impl Journals {
     /// Goes on with a journal to which messages are appended, if there is one.
     fn write(&mut self, alloc: Global, made: Result<Journal, CreateError>) -> Result<String, Fail> {
-        match made {
-            Ok(journal) => {
-                self.work = Work::Write(journal.into_writer());
-                Ok(String::from_str(alloc, "open")?)
-            }
-            Err(refusal) => {
-                self.work = Work::None;
-                Ok(format!(in alloc; "{refusal}")?)
-            }
-        }
+        let text = made_text(alloc, &made);
+        self.work = match made {
+            Ok(journal) => Work::Write(journal.into_writer()),
+            Err(_) => Work::None,
+        };
+        text
     }
 
     fn read(
@@ -147,16 +144,19 @@ impl Journals {
             Call::Stop => self.stop(alloc),
         }
     }
+
+    fn expect(&mut self, alloc: Global, calls: Calls) -> Result<(), Fail> {
+        for (number, (call, want)) in calls.iter().enumerate() {
+            let answer = self.answer_text(alloc, *call)?;
+            expect_answer("journals", number, answer.as_str(), want)?;
+        }
+        Ok(())
+    }
 }
 
 /// Makes these calls of journals in turn. Fails if one of them does not return what is wanted.
 fn expect_calls(alloc: Global, calls: Calls) -> Result<(), Fail> {
-    let mut journals = Journals { work: Work::None };
-    for (number, (call, want)) in calls.iter().enumerate() {
-        let answer = journals.answer_text(alloc, *call)?;
-        expect_answer("journals", number, answer.as_str(), want)?;
-    }
-    Ok(())
+    Journals { work: Work::None }.expect(alloc, calls)
 }
 
 const APPENDED: Calls = &[

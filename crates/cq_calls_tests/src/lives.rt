@@ -21,6 +21,14 @@ fn reopened(alloc: Global, config: Config, contents: &Contents) -> Result<Fixtur
     Ok(Fixture::new(queue, caller))
 }
 
+/// Whether a queue was made, or why not.
+pub fn made_text<T>(alloc: Global, made: &Result<T, CreateError>) -> Result<String, Fail> {
+    match made {
+        Ok(_) => Ok(String::from_str(alloc, "open")?),
+        Err(refusal) => Ok(format!(in alloc; "{refusal}")?),
+    }
+}
+
 /// Queues with the name "reader", one after the other, each from its start to its end.
 #[derive(Drop)]
 pub struct Lives {
@@ -62,16 +70,9 @@ impl Lives {
 
     /// Goes on with a queue, or with none if it was refused.
     fn enter(&mut self, alloc: Global, made: Result<Fixture, CreateError>) -> Result<String, Fail> {
-        match made {
-            Ok(fixture) => {
-                self.running = Some(fixture);
-                Ok(String::from_str(alloc, "open")?)
-            }
-            Err(refusal) => {
-                self.running = None;
-                Ok(format!(in alloc; "{refusal}")?)
-            }
-        }
+        let text = made_text(alloc, &made);
+        self.running = made.ok();
+        text
     }
 
     fn create(&mut self, alloc: Global, cycles: u32, moment: u64) -> Result<String, Fail> {
@@ -128,6 +129,16 @@ impl Lives {
         self.enter(alloc, reopened(alloc, config, &contents))
     }
 
+    fn cells(&mut self, alloc: Global, from: u32) -> Result<String, Fail> {
+        let stopped = self.taken()?.stop();
+        Ok(cells_text(alloc, &stopped, from)?)
+    }
+
+    fn published(&mut self, alloc: Global, cells: &[u32]) -> Result<String, Fail> {
+        let stopped = self.taken()?.stop_by_other();
+        Ok(published_text(alloc, &stopped, cells)?)
+    }
+
     /// What a call returns.
     fn answer_text(&mut self, alloc: Global, call: Call) -> Result<String, Fail> {
         match call {
@@ -135,10 +146,8 @@ impl Lives {
             Call::Held(cycles, held, position) => self.hold(alloc, cycles, held, position),
             Call::Stop => self.stop(alloc),
             Call::StopByOther => self.stop_by_other(alloc),
-            Call::Cells(from) => Ok(cells_text(alloc, &self.taken()?.stop(), from)?),
-            Call::Published(cells) => {
-                Ok(published_text(alloc, &self.taken()?.stop_by_other(), cells)?)
-            }
+            Call::Cells(from) => self.cells(alloc, from),
+            Call::Published(cells) => self.published(alloc, cells),
             Call::Reopen => self.reopen(alloc),
             _ => match &mut self.running {
                 Some(fixture) => fixture.answer_text(alloc, call),
@@ -160,6 +169,14 @@ impl Lives {
     pub fn expect(&mut self, alloc: Global, calls: Calls) -> Result<(), Fail> {
         for (call, want) in calls {
             self.expect_next(alloc, *call, want)?;
+        }
+        Ok(())
+    }
+
+    /// Makes these lists of calls in turn.
+    fn expect_all(&mut self, alloc: Global, lists: &[Calls]) -> Result<(), Fail> {
+        for calls in lists {
+            self.expect(alloc, calls)?;
         }
         Ok(())
     }
@@ -207,9 +224,5 @@ fn published_text(alloc: Global, stopped: &Stopped, cells: &[u32]) -> Result<Str
 
 /// Makes these calls of queues with cycles of 64 cells. Fails if one of them does not return what is wanted.
 pub fn expect_lives(alloc: Global, lists: &[Calls]) -> Result<(), Fail> {
-    let mut lives = Lives::of(Shape::new(64, 8, 1)?);
-    for calls in lists {
-        lives.expect(alloc, calls)?;
-    }
-    Ok(())
+    Lives::of(Shape::new(64, 8, 1)?).expect_all(alloc, lists)
 }
