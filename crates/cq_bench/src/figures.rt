@@ -56,12 +56,28 @@ pub struct Label<'a> {
     pub threads: &'a str,
 }
 
-/// Prints the line of a figure. In a trial, which only tries whether the case runs, the line has no figure.
+/// A figure as a field of a line. In a trial, which only tries whether the case runs, it is nothing.
+#[derive(Clone, Copy)]
+struct Value {
+    figure: Figure,
+    is_trial: bool,
+}
+
+impl fmt::Display for Value {
+    fn fmt<W: fmt::Write>(&self, f: &mut fmt::Formatter<W>) -> fmt::Result {
+        if self.is_trial {
+            return Ok(());
+        }
+        write!(f, "\"value\":{},", self.figure)
+    }
+}
+
+/// Prints the line of a figure.
 pub fn print_line<R: Print>(
     rt: &R,
     settings: &Settings,
     label: Label,
-    value: Figure,
+    figure: Figure,
     unit: &str,
 ) -> Result<(), BenchFault> {
     let Label {
@@ -69,16 +85,13 @@ pub fn print_line<R: Print>(
         payload,
         threads,
     } = label;
-    let printed = if settings.is_trial {
-        println!(rt;
-            "{{\"impl\":\"cq\",\"case\":\"{case}\",\"payload\":{payload},\"threads\":\"{threads}\",\"unit\":\"{unit}\"}}"
-        )
-    } else {
-        println!(rt;
-            "{{\"impl\":\"cq\",\"case\":\"{case}\",\"payload\":{payload},\"threads\":\"{threads}\",\"value\":{value},\"unit\":\"{unit}\"}}"
-        )
+    let value = Value {
+        figure,
+        is_trial: settings.is_trial,
     };
-    match printed {
+    match println!(rt;
+        "{{\"impl\":\"cq\",\"case\":\"{case}\",\"payload\":{payload},\"threads\":\"{threads}\",{value}\"unit\":\"{unit}\"}}"
+    ) {
         Ok(()) => Ok(()),
         Err(_) => Err(BenchFault::NotPrinted),
     }

@@ -89,10 +89,10 @@ fn span_of<R: Clock>(
 ) -> Result<Span, BenchFault> {
     gate.come();
     let _ = gate.wait(all);
-    let start = now(rt)?;
+    let start = now(rt);
     run(job, bytes)?;
     let end = now(rt)?;
-    Ok(Span { start, end })
+    Ok(Span { start: start?, end })
 }
 
 /// Does each job on a thread of its own, with messages of these bytes. Returns the time from the first start to the

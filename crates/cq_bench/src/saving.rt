@@ -63,10 +63,13 @@ fn filled_image(
 /// Makes the image of a new queue to which this many messages were appended, and measures how long that took.
 fn save<R: AllocGlobal + Clock>(rt: &R, shape: Shape, count: u32) -> Result<Saved, BenchFault> {
     let (queue, caller) = new_queue(rt.alloc(), shape)?;
-    let start = now(rt)?;
+    let start = now(rt);
     let image = filled_image(rt.alloc(), queue, caller, count)?;
-    let time = now(rt)?.duration_since(start);
-    Ok(Saved { image, time })
+    let end = now(rt)?;
+    Ok(Saved {
+        time: end.duration_since(start?),
+        image,
+    })
 }
 
 /// Reads the messages of a cycle from its image.
