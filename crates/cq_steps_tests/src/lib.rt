@@ -2,8 +2,8 @@
 //! between any two steps.
 //!
 //! Each call of this crate makes the steps of an appender's call one by one, on the shared words. It stops when its
-//! `Steps` are used up, and its caller is dropped there, like that of a thread that dies. A caller that has made no
-//! step then stops the queue. An append begins here with a load of the tail header, which an appender right after its
+//! `Steps` are used up, and its caller makes no step after that, like that of a thread that dies. A caller that has made
+//! no step then stops the queue. An append begins here with a load of the tail header, which an appender right after its
 //! own last message leaves out. The load changes nothing.
 #![tactic(auto)]
 
