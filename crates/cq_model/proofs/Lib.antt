@@ -11,6 +11,7 @@ pub mod ListLemmas
 pub mod NameLemmas
 pub mod OpenLemmas
 pub mod ReplyLemmas
+pub mod Sealing
 pub mod SeenLemmas
 pub mod Sound
 pub mod StayLemmas

@@ -4,6 +4,7 @@ pub mod Histories
 pub mod Lists
 pub mod Replies
 pub mod Rows
+pub mod Seals
 pub mod Settings
 pub mod States
 pub mod Takes
