@@ -30,6 +30,8 @@ mod publishing_tests;
 #[cfg(test)]
 mod queues;
 #[cfg(test)]
+mod sealing_tests;
+#[cfg(test)]
 mod snapshot_tests;
 #[cfg(test)]
 mod stopping_tests;
