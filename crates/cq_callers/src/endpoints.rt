@@ -1,6 +1,6 @@
 //! Endpoints of one queue.
 use cq_cycle::Index;
-use cq_endpoint::{Endpoint, Found};
+use cq_endpoint::{Endpoint, Next};
 use cq_model::{Config, Message};
 use std::alloc::Global;
 use std::test::Fail;
@@ -37,7 +37,7 @@ fn pass_on(
 ) -> Result<Option<(Index, Message)>, Fail> {
     let _index = one.append(moment, bytes)?;
     match other.next(alloc)? {
-        Found::Message(index, message) => Ok(Some((index, message))),
-        Found::NotYet | Found::BeforeStart => Ok(None),
+        Next::Message(index, message) => Ok(Some((index, message))),
+        Next::NotYet | Next::Finished | Next::BeforeStart => Ok(None),
     }
 }

@@ -6,6 +6,7 @@
 //! they say of messages is in no contract.
 #![tactic(auto)]
 
+mod closing;
 mod copying;
 mod dropping;
 mod endpoints;
@@ -18,6 +19,7 @@ mod taking;
 mod threading;
 mod writing;
 
+pub use closing::count_to_end;
 pub use copying::copied;
 pub use dropping::drop_old;
 pub use endpoints::sent;

@@ -1,11 +1,11 @@
-//! Reads into rooms.
-use cq_endpoint::{Endpoint, FoundInto};
+//! Reads into buffers.
+use cq_endpoint::{Endpoint, NextInto};
 
-/// Reads the next message of an endpoint into a room, and answers its bytes; none where there is none, or the room is too small.
-/// It takes no memory.
+/// Reads the next message of an endpoint into a buffer, and returns its bytes. Returns none if there is none, or if the buffer
+/// is too small. It allocates nothing.
 pub fn read_in<'a>(endpoint: &mut Endpoint, room: &'a mut [u8]) -> Option<&'a [u8]> {
     match endpoint.next_into(room) {
-        FoundInto::Message(_index, len) => Some(&room[..len as usize]),
-        FoundInto::NoRoom(_) | FoundInto::NotYet | FoundInto::BeforeStart => None,
+        NextInto::Message(_index, len) => Some(&room[..len as usize]),
+        _ => None,
     }
 }

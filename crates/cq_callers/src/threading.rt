@@ -1,5 +1,5 @@
 //! Endpoints in threads.
-use cq_endpoint::{AppendFault, Endpoint, Found};
+use cq_endpoint::{AppendFault, Endpoint, Next};
 use cq_model::Refusal;
 use std::alloc::Global;
 use std::thread::{Threads, join, yield_now};
@@ -26,7 +26,7 @@ pub fn work_in_threads<R: Threads + Sync>(
 fn append_and_read(alloc: Global, mut endpoint: Endpoint, moment: u64) -> bool {
     for _ in 0..TRIES {
         match endpoint.append(moment, b"hello") {
-            Ok(_index) => return matches!(endpoint.next(alloc), Ok(Found::Message(_, _))),
+            Ok(_index) => return matches!(endpoint.next(alloc), Ok(Next::Message(_, _))),
             Err(AppendFault::Refused(Refusal::Busy)) => yield_now(),
             Err(_) => return false,
         }

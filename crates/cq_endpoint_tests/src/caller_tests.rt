@@ -6,15 +6,15 @@ ghost use Rattle.cq_words.specs.Values.{IsOf};
 use crate::new_queues::{new_endpoint, two_endpoints};
 use cq_append::Appender;
 use cq_callers::{
-    append_beside, append_then_read, append_written, copied, drop_old, next_message, read_in,
-    reopened, sent, start, take_next, work_in_threads,
+    append_beside, append_then_read, append_written, copied, count_to_end, drop_old, next_message,
+    read_in, reopened, sent, start, take_next, work_in_threads,
 };
 use cq_cycle::Index;
-use cq_endpoint::{Endpoint, Found};
+use cq_endpoint::Endpoint;
 use cq_fixtures::{
     DAY, expect, expect_row, expect_text, message_or_none, message_text, small_config,
 };
-use cq_tail::Tailer;
+use cq_tail::{Found, Tailer};
 use cq_words::{Caller, Queue};
 use std::alloc::Global;
 use std::sync::Wait;
@@ -87,6 +87,25 @@ fn read_in_rooms(alloc: Global, sizes: &[usize]) -> Result<String, Fail> {
 #[test]
 fn a_message_is_read_into_a_room(rt: HostRuntime) -> Result<(), Fail> {
     expect_text(read_in_rooms(rt.alloc(), &[4, 8])?, "none hello")
+}
+
+/// How many messages an endpoint reads of a queue that another one closes after two of them.
+fn counted(alloc: Global, mut one: Endpoint, mut other: Endpoint) -> Result<u64, Fail> {
+    one.append(0, b"a")?;
+    one.append(0, b"b")?;
+    one.close()?;
+    Ok(count_to_end(alloc, &mut other)?)
+}
+
+/// The same of a new queue.
+fn counted_of_two(alloc: Global) -> Result<u64, Fail> {
+    let (one, other) = two_endpoints(alloc)?;
+    counted(alloc, one, other)
+}
+
+#[test]
+fn messages_are_counted_to_the_end(rt: HostRuntime) -> Result<(), Fail> {
+    expect_row(counted_of_two(rt.alloc())? == 2, 0)
 }
 
 /// Whether two threads append and read, with an endpoint of a new queue each.

@@ -3,7 +3,7 @@
 //! The calls of appenders and tailers in `cq_calls_tests` have the same names and texts. An endpoint gives what its appender
 //! refuses as `Refused(..)`. What tailers find is written here and there, since `cq_fixtures` is below `cq_tail`.
 use cq_cycle::Index;
-use cq_endpoint::{At, AtInto, Direction, Endpoint, Found, FoundInto, Take, TakeInto};
+use cq_endpoint::{Direction, Endpoint, Next, NextInto, ReadAt, ReadAtInto, Taken, TakenInto};
 use cq_fixtures::{
     done_text, expect_answer, index_text, lists_text, message_text, number_text, shown_text,
 };
@@ -16,6 +16,8 @@ use std::test::Fail;
 pub enum Call {
     /// Appends this text at a moment.
     Append(u64, &'static str),
+    /// Appends "a" at moment 0 until it is refused, and counts the messages.
+    AppendAll,
     /// Begins the cycle of a moment.
     Advance(u64),
     /// Begins a message at a moment, of at most this many bytes.
@@ -58,55 +60,63 @@ pub enum Call {
     SeenEnd,
     /// Takes a snapshot.
     Snapshot,
+    /// Closes the queue.
+    Close,
+    /// Asks whether the queue is closed.
+    IsClosed,
 }
 
 /// Calls of an endpoint in turn, each with what it returns.
 pub type Calls = &'static [(Call, &'static str)];
 
 /// What is read next.
-fn found_text(alloc: Global, answer: &Result<Found, AllocError>) -> Result<String, Fail> {
+fn found_text(alloc: Global, answer: &Result<Next, AllocError>) -> Result<String, Fail> {
     match answer {
-        Ok(Found::Message(index, message)) => message_text(alloc, *index, message),
+        Ok(Next::Message(index, message)) => message_text(alloc, *index, message),
         other => shown_text(alloc, other),
     }
 }
 
 /// What is read at an index.
-fn at_text(alloc: Global, index: Index, answer: &Result<At, AllocError>) -> Result<String, Fail> {
+fn at_text(
+    alloc: Global,
+    index: Index,
+    answer: &Result<ReadAt, AllocError>,
+) -> Result<String, Fail> {
     match answer {
-        Ok(At::Message(message)) => message_text(alloc, index, message),
+        Ok(ReadAt::Message(message)) => message_text(alloc, index, message),
         other => shown_text(alloc, other),
     }
 }
 
 /// What is taken.
-fn taken_text<E: Debug>(alloc: Global, answer: &Result<Take, E>) -> Result<String, Fail> {
+fn taken_text<E: Debug>(alloc: Global, answer: &Result<Taken, E>) -> Result<String, Fail> {
     match answer {
-        Ok(Take::Taken(index, message)) => message_text(alloc, *index, message),
+        Ok(Taken::Taken(index, message)) => message_text(alloc, *index, message),
         other => shown_text(alloc, other),
     }
 }
 
 /// What is read next into a buffer: a message's index and length.
-fn found_into_text(alloc: Global, found: FoundInto) -> Result<String, Fail> {
+fn found_into_text(alloc: Global, found: NextInto) -> Result<String, Fail> {
     match found {
-        FoundInto::Message(index, len) => Ok(format!(in alloc; "{} {len}", index.value())?),
+        NextInto::Message(index, len) => Ok(format!(in alloc; "{} {len}", index.value())?),
         other => Ok(format!(in alloc; "{other:?}")?),
     }
 }
 
 /// What is read at an index into a buffer: a message's length.
-fn at_into_text(alloc: Global, at: AtInto) -> Result<String, Fail> {
+fn at_into_text(alloc: Global, at: ReadAtInto) -> Result<String, Fail> {
     match at {
-        AtInto::Message(len) => Ok(format!(in alloc; "{len}")?),
+        ReadAtInto::Message(len) => Ok(format!(in alloc; "{len}")?),
         other => Ok(format!(in alloc; "{other:?}")?),
     }
 }
 
 /// What is taken into a buffer: a message's index and length.
-fn taken_into_text<E: Debug>(alloc: Global, taken: &Result<TakeInto, E>) -> Result<String, Fail> {
+fn taken_into_text<E: Debug>(alloc: Global, taken: &Result<TakenInto, E>) -> Result<String, Fail> {
     match taken {
-        Ok(TakeInto::Taken(index, len)) => Ok(format!(in alloc; "{} {len}", index.value())?),
+        Ok(TakenInto::Taken(index, len)) => Ok(format!(in alloc; "{} {len}", index.value())?),
         other => shown_text(alloc, other),
     }
 }
@@ -167,6 +177,16 @@ fn snapshot_text(alloc: Global, endpoint: &mut Endpoint) -> Result<String, Fail>
     Ok(lists_text(alloc, lists.as_slice())?)
 }
 
+/// How many messages are appended before one is refused, and why it is.
+fn append_all_text(alloc: Global, endpoint: &mut Endpoint) -> Result<String, Fail> {
+    for count in 0..100u64 {
+        if let Err(fault) = endpoint.append(0, b"a") {
+            return Ok(format!(in alloc; "{count} appended, {fault:?}")?);
+        }
+    }
+    Err(Fail::new("too many messages"))
+}
+
 impl Call {
     /// What this call of an endpoint returns.
     pub fn answer_text(self, alloc: Global, endpoint: &mut Endpoint) -> Result<String, Fail> {
@@ -174,6 +194,7 @@ impl Call {
             Call::Append(moment, text) => {
                 index_text(alloc, &endpoint.append(moment, text.as_bytes()))
             }
+            Call::AppendAll => append_all_text(alloc, endpoint),
             Call::Advance(moment) => {
                 number_text(alloc, "cycle ", &endpoint.advance(moment).map(u64::from))
             }
@@ -211,6 +232,11 @@ impl Call {
             Call::Cursor => Ok(format!(in alloc; "at {}", endpoint.cursor())?),
             Call::SeenEnd => Ok(format!(in alloc; "end {}", endpoint.seen_end())?),
             Call::Snapshot => snapshot_text(alloc, endpoint),
+            Call::Close => done_text(alloc, "closed", &endpoint.close()),
+            Call::IsClosed => {
+                let is_closed = endpoint.is_closed();
+                Ok(String::from_str(alloc, if is_closed { "closed" } else { "open" })?)
+            }
         }
     }
 }

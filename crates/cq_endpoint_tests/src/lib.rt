@@ -7,6 +7,10 @@ mod caller_tests;
 #[cfg(test)]
 mod calls;
 #[cfg(test)]
+mod closing_tests;
+#[cfg(test)]
+mod closing_thread_tests;
+#[cfg(test)]
 mod life_tests;
 #[cfg(test)]
 mod meeting_tests;

@@ -11,7 +11,7 @@ use std::test::Fail;
 
 /// Which endpoint calls.
 #[derive(Clone, Copy)]
-enum Who {
+pub enum Who {
     /// The first one of the queue.
     First,
     /// The one that was split off from it.
@@ -19,11 +19,11 @@ enum Who {
 }
 
 /// A new queue with four cycles of 64 cells, each of a day, and the name "reader".
-struct Life {
+pub struct Life {
     /// Calls of its endpoints in turn, each with what it returns.
-    calls: &'static [(Who, Call, &'static str)],
+    pub calls: &'static [(Who, Call, &'static str)],
     /// What it holds once the last endpoint stopped it.
-    end: &'static str,
+    pub end: &'static str,
 }
 
 /// Makes the calls of two endpoints in turn. Fails if one of them does not return what is wanted.
@@ -171,7 +171,7 @@ static LIVES: [Life; 5] = [
 ];
 
 /// Fails if a queue does not live as one of these.
-fn expect_lives(alloc: Global, lives: &[Life]) -> Result<(), Fail> {
+pub fn expect_lives(alloc: Global, lives: &[Life]) -> Result<(), Fail> {
     for (number, life) in lives.iter().enumerate() {
         let row = format!(in alloc; "life {number}")?;
         life.expect(alloc, row.as_str())?;

@@ -1,6 +1,6 @@
 //! Endpoints in threads: no closure asks for anything.
 use crate::new_queues::two_of;
-use cq_endpoint::{AppendFault, Endpoint, Found};
+use cq_endpoint::{AppendFault, Endpoint, Next};
 use cq_fixtures::{config_of, expect};
 use cq_layout::{Refusal, Shape};
 use std::alloc::Global;
@@ -32,9 +32,9 @@ fn read_one(alloc: Global, endpoint: &mut Endpoint) -> bool {
             return false;
         };
         match found {
-            Found::Message(_, _) => return true,
-            Found::NotYet => yield_now(),
-            Found::BeforeStart => return false,
+            Next::Message(_, _) => return true,
+            Next::NotYet => yield_now(),
+            Next::BeforeStart | Next::Finished => return false,
         }
     }
     false
