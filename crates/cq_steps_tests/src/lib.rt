@@ -40,6 +40,8 @@ mod queues;
 #[cfg(test)]
 mod reading;
 #[cfg(test)]
+mod sealing_tests;
+#[cfg(test)]
 mod steps;
 #[cfg(test)]
 mod writing;
