@@ -7,6 +7,23 @@ pub enum AppendFault {
     /// The endpoint has begun a message, which has to be completed or rolled back first.
     #[error("Writing")]
     Writing,
+    /// The queue is closed: nothing was appended.
+    #[error("Closed")]
+    Closed,
+    /// Its appender was refused.
+    #[error("{0}")]
+    Refused(Refusal),
+}
+
+/// Why a queue was not closed.
+#[derive(Clone, Copy, Debug, PartialEq, Eq, thiserror::Error)]
+pub enum CloseFault {
+    /// The endpoint has begun a message, which has to be completed or rolled back first.
+    #[error("Writing")]
+    Writing,
+    /// The queue was closed before.
+    #[error("Closed")]
+    Closed,
     /// Its appender was refused.
     #[error("{0}")]
     Refused(Refusal),

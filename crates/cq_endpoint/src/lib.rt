@@ -4,10 +4,11 @@
 //!
 //! | item | what it is for |
 //! |---|---|
-//! | `Endpoint` | `create` or `open` makes the first one, `split` another one; it appends, reads, takes and stops |
+//! | `Endpoint` | `create` or `open` makes the first one, `split` another one; it appends, reads, takes, closes and stops |
 //! | `AppendFault`, `PutFault`, `CompleteFault`, `NotWriting` | why nothing was appended, put, completed or rolled back |
-//! | `Found`, `At`, `FoundInto`, `AtInto`, `Direction` | what reads return, and which way they go (`cq_tail`) |
-//! | `Take`, `TakeInto`, `TakeFault`, `Sought`, `NoSuchName`, `SeekFault` | what takes and moves of a name return |
+//! | `CloseFault` | why the queue was not closed |
+//! | `Next`, `ReadAt`, `NextInto`, `ReadAtInto`, `Direction` | what reads return, and which way they go |
+//! | `Taken`, `TakenInto`, `TakeFault`, `Sought`, `NoSuchName`, `SeekFault` | what takes and moves of a name return |
 //! | `NotSeen` | why no cycle was dropped |
 //!
 //! No call waits for another endpoint. Calls have no preconditions, except that `meet` takes two endpoints of one queue.
@@ -19,19 +20,23 @@
 //! `specs/Stops.antt` what is left of a queue.
 #![tactic(auto)]
 
+mod again;
+mod answers;
 mod appending;
+mod closer;
+mod closing;
 mod endpoint;
 mod fault;
 mod meeting;
 mod naming;
 mod reading;
 mod rooms;
+mod sealed;
 mod sharing;
 mod stopping;
 mod work;
 
-pub use cq_tail::{
-    At, AtInto, Direction, Found, FoundInto, NoSuchName, Sought, Take, TakeFault, TakeInto,
-};
+pub use answers::{Next, NextInto, ReadAt, ReadAtInto, Taken, TakenInto};
+pub use cq_tail::{Direction, NoSuchName, Sought, TakeFault};
 pub use endpoint::Endpoint;
-pub use fault::{AppendFault, CompleteFault, NotSeen, NotWriting, PutFault, SeekFault};
+pub use fault::{AppendFault, CloseFault, CompleteFault, NotSeen, NotWriting, PutFault, SeekFault};

@@ -2,8 +2,11 @@
 ghost use Rattle.std.specs.Prelude.{◌≤◌, IfErr, IfOk, OnErr};
 ghost use Rattle.cq_endpoint.specs.Endpoints.{ChangesTailer};
 ghost use Rattle.cq_endpoint.specs.Faults.{SeekFails};
-ghost use Rattle.cq_tail.specs.Names.{NameFails, Seeks, TakeFails, Takes, TellsPosition};
+ghost use Rattle.cq_endpoint.specs.Reads.{TakeRefused, TakeSays};
+ghost use Rattle.cq_tail.specs.Names.{NameFails, Seeks, TellsPosition};
 
+use crate::again::take_again;
+use crate::answers::Taken;
 use crate::endpoint::Endpoint;
 use crate::fault::SeekFault;
 use cq_tail::{NoSuchName, Sought, Take, TakeFault};
@@ -54,17 +57,23 @@ impl Endpoint {
     ///
     /// - `Taken`: the message and its index. The name is after it.
     /// - `NotYet`: no message has come there. The name stays.
+    /// - `Finished`: no message has come there, and none comes any more: the queue is closed. The name stays. Where no
+    ///   message has come it looks by one load whether the queue is closed, and if so it takes once more.
     /// - `Moved`: another caller has moved the name since. Nothing was taken; this is the position at which it was found.
     ///
     /// Errors:
     /// - `NoSuchName`: the queue declares no such name. Nothing changed.
-    /// - `OutOfMemory`: out of memory, for the copy of the message. No event was added.
-    pub fn take(&mut self, alloc: Global, name: &str) -> Result<Take, TakeFault>
-        ensures ok { IfOk result (λ take. Takes self.old.queue self.old.tailer self.new.tailer name.now take) }
+    /// - `OutOfMemory`: out of memory, for the copy of the message. No event was added but those of a first take that
+    ///   found none.
+    pub fn take(&mut self, alloc: Global, name: &str) -> Result<Taken, TakeFault>
+        ensures ok { IfOk result (λ taken. TakeSays self.old.queue self.old.tailer self.new.tailer name.now taken) }
         ensures err { IfErr result (λ fault.
-            TakeFails self.old.queue self.old.tailer self.new.tailer name.now fault) }
+            TakeRefused self.old.queue self.old.tailer self.new.tailer name.now fault) }
         ensures rest { ChangesTailer self.old self.new }
     {
-        self.tailer.take(alloc, &self.queue, name)
+        match self.tailer.take(alloc, &self.queue, name)? {
+            Take::NotYet => take_again(&mut self.tailer, &self.queue, alloc, name),
+            found => Ok(Taken::of(found)),
+        }
     }
 }
