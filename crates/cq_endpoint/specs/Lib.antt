@@ -1,4 +1,5 @@
 pub mod Closes
+pub mod Endings
 pub mod Endpoints
 pub mod Faults
 pub mod Looks

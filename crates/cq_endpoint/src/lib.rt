@@ -27,6 +27,7 @@ mod closer;
 mod closing;
 mod endpoint;
 mod fault;
+pub mod laws;
 mod meeting;
 mod naming;
 mod reading;
