@@ -1,6 +1,5 @@
 //! A queue that is closed while threads append, read and take: every message that was appended is read by each reader and
 //! taken once, and all of them come to their end.
-use cq_cycle::Index;
 use cq_endpoint::{AppendFault, CloseFault, Endpoint, Next, Taken};
 use cq_fixtures::{config_of, expect_text};
 use cq_layout::{Refusal, Shape};
@@ -24,7 +23,7 @@ enum Role {
     CloseAfter(u32),
 }
 
-/// The roles of a round: four that append, two that read, two that take, and one that closes.
+/// The roles of a round: four that append, two that read, and two that take. One more closes the queue.
 const ROLES: [Role; 8] = [
     Role::Append,
     Role::Append,
@@ -43,13 +42,13 @@ struct Worker {
     endpoint: Endpoint,
 }
 
-/// How many messages are appended until the queue is closed.
-fn append_all(endpoint: &mut Endpoint) -> Option<u32> {
-    let mut count = 0u32;
+/// The indexes of the messages that are appended until the queue is closed.
+fn append_all(alloc: Global, endpoint: &mut Endpoint) -> Option<Vec<u64>> {
+    let mut indexes = Vec::new(alloc);
     for _ in 0..TURNS {
         match endpoint.append(0, b"hello") {
-            Ok(_index) => count = count.wrapping_add(1),
-            Err(AppendFault::Closed) => return Some(count),
+            Ok(index) => indexes.push(index.value()).ok()?,
+            Err(AppendFault::Closed) => return Some(indexes),
             Err(AppendFault::Refused(Refusal::Busy | Refusal::CycleFull)) => yield_now(),
             Err(_) => return None,
         }
@@ -57,33 +56,28 @@ fn append_all(endpoint: &mut Endpoint) -> Option<u32> {
     None
 }
 
-/// How many messages are read, in order, until there are no more.
-fn read_all(alloc: Global, endpoint: &mut Endpoint) -> Option<u32> {
-    let mut count = 0u32;
+/// The indexes of the messages that are read until there are no more.
+fn read_all(alloc: Global, endpoint: &mut Endpoint) -> Option<Vec<u64>> {
+    let mut indexes = Vec::new(alloc);
     for _ in 0..TURNS {
         match endpoint.next(alloc) {
-            Ok(Next::Message(index, _message)) => {
-                if index != Index::new(0, count) {
-                    return None;
-                }
-                count = count.wrapping_add(1);
-            }
+            Ok(Next::Message(index, _message)) => indexes.push(index.value()).ok()?,
             Ok(Next::NotYet) => yield_now(),
-            Ok(Next::Finished) => return Some(count),
+            Ok(Next::Finished) => return Some(indexes),
             Ok(Next::BeforeStart) | Err(_) => return None,
         }
     }
     None
 }
 
-/// How many messages are taken until there are no more.
-fn take_all(alloc: Global, endpoint: &mut Endpoint) -> Option<u32> {
-    let mut count = 0u32;
+/// The indexes of the messages that are taken until there are no more.
+fn take_all(alloc: Global, endpoint: &mut Endpoint) -> Option<Vec<u64>> {
+    let mut indexes = Vec::new(alloc);
     for _ in 0..TURNS {
         match endpoint.take(alloc, "reader") {
-            Ok(Taken::Taken(_index, _message)) => count = count.wrapping_add(1),
+            Ok(Taken::Taken(index, _message)) => indexes.push(index.value()).ok()?,
             Ok(Taken::NotYet | Taken::Moved(_)) => yield_now(),
-            Ok(Taken::Finished) => return Some(count),
+            Ok(Taken::Finished) => return Some(indexes),
             Err(_) => return None,
         }
     }
@@ -106,14 +100,14 @@ fn read_some(alloc: Global, endpoint: &mut Endpoint, count: u32) -> bool {
     false
 }
 
-/// Closes the queue as soon as nobody appends. Returns 0 once it did.
-fn close_after(alloc: Global, endpoint: &mut Endpoint, count: u32) -> Option<u32> {
+/// Closes the queue as soon as nobody appends. Returns no index once it did.
+fn close_after(alloc: Global, endpoint: &mut Endpoint, count: u32) -> Option<Vec<u64>> {
     if !read_some(alloc, endpoint, count) {
         return None;
     }
     for _ in 0..TURNS {
         match endpoint.close() {
-            Ok(()) => return Some(0),
+            Ok(()) => return Some(Vec::new(alloc)),
             Err(CloseFault::Refused(Refusal::Busy)) => yield_now(),
             Err(_) => return None,
         }
@@ -122,11 +116,11 @@ fn close_after(alloc: Global, endpoint: &mut Endpoint, count: u32) -> Option<u32
 }
 
 impl Worker {
-    /// How many messages this thread appended, read or took.
-    fn work(self, alloc: Global) -> Option<u32> {
+    /// The indexes of the messages that this thread appended, read or took.
+    fn work(self, alloc: Global) -> Option<Vec<u64>> {
         let Worker { role, mut endpoint } = self;
         match role {
-            Role::Append => append_all(&mut endpoint),
+            Role::Append => append_all(alloc, &mut endpoint),
             Role::Read => read_all(alloc, &mut endpoint),
             Role::Take => take_all(alloc, &mut endpoint),
             Role::CloseAfter(count) => close_after(alloc, &mut endpoint, count),
@@ -153,38 +147,64 @@ fn workers(alloc: Global, count: u32) -> Result<Vec<Worker>, Fail> {
 }
 
 /// What the threads of a round did.
-fn worked<R: Threads + Sync>(rt: &R, alloc: Global, count: u32) -> Result<Vec<Option<u32>>, Fail> {
+fn worked<R: Threads + Sync>(
+    rt: &R,
+    alloc: Global,
+    count: u32,
+) -> Result<Vec<Option<Vec<u64>>>, Fail> {
     let workers = workers(alloc, count)?;
     Ok(map_vec(
         rt,
         workers,
-        &|worker: Worker| -> Option<u32> { worker.work(alloc) },
+        &|worker: Worker| -> Option<Vec<u64>> { worker.work(alloc) },
     )?)
 }
 
-/// The sum of some counts, if all are there.
-fn sum_of(counts: &[Option<u32>]) -> Option<u32> {
-    let mut sum = 0u32;
-    for count in counts {
-        sum = sum.wrapping_add((*count)?);
+/// How many messages these are, if their indexes are all from 0 on, each once.
+fn count_of(alloc: Global, parts: &[Option<Vec<u64>>]) -> Result<Option<u64>, Fail> {
+    let mut all = Vec::new(alloc);
+    for part in parts {
+        let Some(indexes) = part else {
+            return Ok(None);
+        };
+        for &index in indexes.as_slice() {
+            all.push(index)?;
+        }
     }
-    Some(sum)
+    all.sort()?;
+    for (number, &index) in all.as_slice().iter().enumerate() {
+        if index != number as u64 {
+            return Ok(None);
+        }
+    }
+    Ok(Some(all.len() as u64))
 }
 
-/// Whether each reader of a round read what was appended, and the takers took it, and whether it was enough to close.
-fn round_text(alloc: Global, worked: &[Option<u32>], count: u32) -> Result<String, Fail> {
-    let (Some(appended), Some(read), Some(taken)) = (
+/// Whether these indexes rise.
+fn rise(indexes: &Option<Vec<u64>>) -> bool {
+    match indexes {
+        Some(indexes) => indexes.as_slice().is_sorted(),
+        None => false,
+    }
+}
+
+/// Whether enough was appended in a round to close the queue, whether each reader read all of it in order, and whether each
+/// message was taken once.
+fn round_text(alloc: Global, worked: &[Option<Vec<u64>>], count: u32) -> Result<String, Fail> {
+    let (Some(appended), Some(one), Some(two), Some(taken)) = (
         worked.get(0..4),
-        worked.get(4..6),
+        worked.get(4..5),
+        worked.get(5..6),
         worked.get(6..8),
     ) else {
         return Err(Fail::new("a thread is missing"));
     };
-    let all = sum_of(appended);
-    let is_enough = all.is_some_and(|all| all >= count);
-    let are_read = read.iter().all(|each| *each == all);
-    let are_taken = sum_of(taken) == all;
-    Ok(format!(in alloc; "{is_enough} {are_read} {are_taken}")?)
+    let all = count_of(alloc, appended)?;
+    let is_enough = all.is_some_and(|all| all >= u64::from(count));
+    let are_read = count_of(alloc, one)? == all && count_of(alloc, two)? == all;
+    let in_order = one.iter().all(rise) && two.iter().all(rise);
+    let are_taken = count_of(alloc, taken)? == all;
+    Ok(format!(in alloc; "{is_enough} {are_read} {in_order} {are_taken}")?)
 }
 
 #[test]
@@ -194,7 +214,7 @@ fn threads_come_to_the_end_of_a_closed_queue(rt: HostRuntime) -> Result<(), Fail
         let worked = worked(&rt, rt.alloc(), count)?;
         expect_text(
             round_text(rt.alloc(), worked.as_slice(), count)?,
-            "true true true",
+            "true true true true",
         )?;
     }
     Ok(())

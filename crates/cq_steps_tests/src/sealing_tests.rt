@@ -11,15 +11,15 @@ use std::test::Fail;
 
 const MEASURES: Measures = (64, 8, 1);
 
-/// After how many steps of the advance to cycle 5 its caller is lost, and what others are answered that append and advance to
-/// the cycles 0, 5 and 9 once the queue is sealed; then what is left of it.
+/// After how many steps of the advance to cycle 5 its caller is lost. Then the cycle of the next slot, what others are answered
+/// that append to the cycles 0, 5 and 9 and advance once the queue is sealed, and what is left of it.
 static ROWS: [(u32, &str); 3] = [
     // The tail was loaded.
-    (1, "sealed, Busy, Busy, Busy, Busy; 0[] at [0], 0"),
+    (1, "None, sealed, Busy, Busy, Busy, Busy; 0[] at [0], 0"),
     // The cycle of the next slot was loaded.
-    (2, "sealed, Busy, Busy, Busy, Busy; 0[] at [0], 0"),
+    (2, "None, sealed, Busy, Busy, Busy, Busy; 0[] at [0], 0"),
     // The cycle is reserved.
-    (3, "sealed, Busy, Busy, Busy, Busy; 0[] at [0], 0"),
+    (3, "Some(5), sealed, Busy, Busy, Busy, Busy; 0[] at [0], 0"),
 ];
 
 /// A caller begins cycle 5 in a queue without messages, and is lost after this many steps.
@@ -32,6 +32,17 @@ fn lose_advance(queue: &Queue, caller: &mut Caller, steps: u32)
         let call = Call::Advance(5 * DAY);
         let _outcome = lose(queue, caller, &Loss { call, steps, trail });
     }
+}
+
+/// The cycle of the second slot, if it has one.
+fn next_cycle(queue: &Queue, other: &mut Caller) -> Option<u32>
+    requires of { IsOf queue.now other.old }
+    ensures of { IsOf queue.now other.new }
+{
+    if queue.config().cycles() < 2 {
+        return None;
+    }
+    queue.load_cycle(other, 1)
 }
 
 /// Seals the queue by a new caller. Returns whether it did.
@@ -68,6 +79,7 @@ fn row_text(alloc: Global, steps: u32) -> Result<String, Fail> {
     let (queue, mut lost) = new_queue(alloc, MEASURES)?;
     let mut other = queue.split(&mut lost);
     lose_advance(&queue, &mut lost, steps);
+    let next = next_cycle(&queue, &mut other);
     let sealed = if seal(&queue, &mut other) {
         "sealed"
     } else {
@@ -75,7 +87,7 @@ fn row_text(alloc: Global, steps: u32) -> Result<String, Fail> {
     };
     let answers = answers_text(alloc, &queue, &mut other)?;
     let left = left_text(alloc, MEASURES, &queue.stop(other))?;
-    Ok(format!(in alloc; "{sealed}, {answers}; {left}")?)
+    Ok(format!(in alloc; "{next:?}, {sealed}, {answers}; {left}")?)
 }
 
 #[test]
