@@ -1,2 +1,4 @@
+mod Closings
 mod Endings
 mod Hearings
+mod Readings

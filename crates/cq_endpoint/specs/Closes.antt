@@ -108,10 +108,9 @@ pub data Seals (queue : QueueFacts) (v witness w : CallerFacts) : Type 0 where
       → SealsAt queue after moment witness w → Seals queue v witness w
   when_worn : (after : CallerFacts) → IsWorn queue v after → SealsWorn queue after w → Seals queue v witness w
 
--- the queue was closed: the appender knows of the seal, has begun nothing, and has seen all that the one before had seen
+-- the queue was closed: the appender knows of the seal, and has seen all that the one before had seen
 pub record HasClosed (queue : QueueFacts) (v witness w : CallerFacts) : Type 0 where
   pub knows : w.view.sealed ≡ true
-  pub idle : w.view.claim ≡ None
   pub seen : StartsWith w.view.seen v.view.seen
   pub seals : Seals queue v witness w
 
