@@ -14,11 +14,11 @@ impl Endpoint {
     /// stopped and opened again is not closed.
     ///
     /// It begins a message of one byte and leaves it, so that nobody else can begin one. This message is in no list. If
-    /// the current cycle has no place for it, it goes to the next one, which begins. If all cycles have begun and not one
-    /// byte fits into the last, no message can come, and the queue is closed without one.
+    /// the current cycle has no place for it, it goes to the next one, which begins. If all cycles have begun and not
+    /// one byte fits into the last, no message can come, and the queue is closed without one.
     ///
-    /// Errors; after each but `Writing` the endpoint may have seen more, and cycles that were reserved or begun on the way
-    /// stay so:
+    /// Errors. After each but `Writing` the endpoint may have seen more, and cycles that were reserved or begun on the
+    /// way stay so.
     /// - `Writing`: this endpoint has begun a message, which has to be completed or rolled back first. Nothing changed.
     /// - `Closed`: the queue was closed before.
     /// - `Busy`: another caller is writing at the tail. It may be tried again.
@@ -42,8 +42,8 @@ impl Endpoint {
         })
     }
 
-    /// Returns whether the queue is closed, as its tailer sees it by one load: no message comes any more. Once it is, it
-    /// stays so, and the lists of messages that the tailer sees later are those that it has seen now (ours).
+    /// Returns whether the queue is closed, as its tailer sees it by one load: no message comes any more. Once it is,
+    /// it stays so, and the lists of messages that the tailer sees later are those that it has seen now (ours).
     pub fn is_closed(&mut self) -> bool
         ensures goes { GoesOn self.old.queue self.old.tailer.caller self.new.tailer.caller [] }
         ensures stays { self.new.tailer ≡ record self.old.tailer { caller = self.new.tailer.caller } }

@@ -4,7 +4,7 @@
 //!
 //! | item | what it is for |
 //! |---|---|
-//! | `Endpoint` | `create` or `open` makes the first one, `split` another one; it appends, reads, takes, closes and stops |
+//! | `Endpoint` | `create` or `open` makes the first one, `split` another; it appends, reads, takes, closes and stops |
 //! | `AppendFault`, `PutFault`, `CompleteFault`, `NotWriting` | why nothing was appended, put, completed or rolled back |
 //! | `CloseFault` | why the queue was not closed |
 //! | `Next`, `ReadAt`, `NextInto`, `ReadAtInto`, `Direction` | what reads return, and which way they go |
@@ -16,8 +16,9 @@
 //! Those crates also name the atomic steps.
 //!
 //! Contracts: `specs/Endpoints.antt` says what an endpoint is, `specs/Works.antt` what the calls that append return,
-//! `specs/Faults.antt` which calls are refused, `specs/Meetings.antt` what endpoints have seen that met, and
-//! `specs/Stops.antt` what is left of a queue.
+//! `specs/Reads.antt` what reads and takes return, `specs/Closes.antt` how a queue is closed, `specs/Looks.antt` what a
+//! look at the seal says, `specs/Faults.antt` which calls are refused, `specs/Meetings.antt` what endpoints have seen
+//! that met, and `specs/Stops.antt` what is left of a queue.
 #![tactic(auto)]
 
 mod again;
