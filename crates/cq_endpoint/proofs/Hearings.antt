@@ -9,6 +9,7 @@ use Rattle.cq_shown.specs.Plans.{StartsWith}
 use Rattle.cq_tail.specs.Tailers.{TailerFacts}
 use Rattle.cq_words.specs.Values.{CallerFacts, Met}
 use Rattle.cq_words.proofs.Moves.{starts_so}
+use Rattle.cq_words.proofs.Seals.{keeps_seal}
 
 -- what a caller is told that meets a note
 pub told_of : (n m v w : CallerFacts) → Met v n w m → Told n m v w
@@ -22,6 +23,7 @@ told_of n m v w met =
         mine = met.first.mine;
         claim = met.first.claim;
         side = met.first.side;
+        seal = met.first.seal;
       };
       seen = met.first.seen;
       told = met.other;
@@ -54,6 +56,7 @@ none_on u v w a b = record {
     filled = λ x has. b.side.filled x (a.side.filled x has);
     reached = λ r has. b.side.reached r (a.side.reached r has);
   };
+  seal = keeps_seal u.view v.view w.view a.seal b.seal;
 }
 
 -- a caller that meets a note before it has come round, and once it has

@@ -6,15 +6,17 @@ use Rattle.cq_endpoint.specs.declared.work.Work.TheVariants as work
 use Rattle.cq_model.specs.declared.history.Entry.{Entry}
 use Rattle.cq_shown.specs.Plans.{StartsWith}
 use Rattle.cq_words.specs.Entries.{KeepsSide}
+use Rattle.cq_words.specs.Seals.{KeepsSeal}
 use Rattle.cq_words.specs.Values.{CallerFacts, Met}
 
--- a caller made no call, keeps its claim and knows what it knew of entries and of write positions
+-- a caller made no call, keeps its claim and knows what it knew of entries, of write positions and of the seal
 pub record MakesNone (v w : CallerFacts) : Type 0 where
   pub name : w.view.name ≡ v.view.name
   pub children : w.view.children ≡ v.view.children
   pub mine : w.view.mine ≡ v.view.mine
   pub claim : w.view.claim ≡ v.view.claim
   pub side : KeepsSide v.view w.view
+  pub seal : KeepsSeal v.view w.view
 
 -- a caller met a note that had seen what n had, and has seen what m has
 pub record Told (n m v w : CallerFacts) : Type 0 where

@@ -106,11 +106,11 @@ read_at_outcome read_at.Finished = finished
 read_at_outcome read_at.Never = answered at.Never
 read_at_outcome read_at.Gone = answered at.Gone
 
-abbrev pub take_outcome : Taken → Outcome Take
-take_outcome (taken.Taken i m) = answered (take.Taken i m)
-take_outcome taken.NotYet = not_yet
-take_outcome taken.Finished = finished
-take_outcome (taken.Moved p) = answered (take.Moved p)
+abbrev pub taken_outcome : Taken → Outcome Take
+taken_outcome (taken.Taken i m) = answered (take.Taken i m)
+taken_outcome taken.NotYet = not_yet
+taken_outcome taken.Finished = finished
+taken_outcome (taken.Moved p) = answered (take.Moved p)
 
 abbrev pub next_into_outcome : NextInto → Outcome FoundInto
 next_into_outcome (next_into.Message i len) = answered (found_into.Message i len)
@@ -127,12 +127,12 @@ read_at_into_outcome read_at_into.Finished = finished
 read_at_into_outcome read_at_into.Never = answered at_into.Never
 read_at_into_outcome read_at_into.Gone = answered at_into.Gone
 
-abbrev pub take_into_outcome : TakenInto → Outcome TakeInto
-take_into_outcome (taken_into.Taken i len) = answered (take_into.Taken i len)
-take_into_outcome (taken_into.NoRoom len) = answered (take_into.NoRoom len)
-take_into_outcome taken_into.NotYet = not_yet
-take_into_outcome taken_into.Finished = finished
-take_into_outcome (taken_into.Moved p) = answered (take_into.Moved p)
+abbrev pub taken_into_outcome : TakenInto → Outcome TakeInto
+taken_into_outcome (taken_into.Taken i len) = answered (take_into.Taken i len)
+taken_into_outcome (taken_into.NoRoom len) = answered (take_into.NoRoom len)
+taken_into_outcome taken_into.NotYet = not_yet
+taken_into_outcome taken_into.Finished = finished
+taken_into_outcome (taken_into.Moved p) = answered (take_into.Moved p)
 
 -- a read of a tailer, without a room or into one
 abbrev pub OfNext : QueueFacts → Reader → Reader → Found → Type 0
@@ -161,7 +161,7 @@ abbrev pub ReadAtSays : QueueFacts → TailerFacts → TailerFacts → ℕ → R
 ReadAtSays queue old new i r = Reads queue (OfAt queue i) at.NotYet (reader old []) (reader new []) (read_at_outcome r)
 
 abbrev pub TakeSays : QueueFacts → TailerFacts → TailerFacts → List ℕ → Taken → Type 0
-TakeSays queue old new name t = Reads queue (OfTake queue name) take.NotYet (reader old []) (reader new []) (take_outcome t)
+TakeSays queue old new name t = Reads queue (OfTake queue name) take.NotYet (reader old []) (reader new []) (taken_outcome t)
 
 abbrev pub NextIntoSays : QueueFacts → TailerFacts → TailerFacts → List ℕ → List ℕ → NextInto → Type 0
 NextIntoSays queue old new room full n =
@@ -173,7 +173,7 @@ ReadAtIntoSays queue old new i room full r =
 
 abbrev pub TakeIntoSays : QueueFacts → TailerFacts → TailerFacts → List ℕ → List ℕ → List ℕ → TakenInto → Type 0
 TakeIntoSays queue old new name room full t =
-    Reads queue (OfTakeInto queue name) take_into.NotYet (reader old room) (reader new full) (take_into_outcome t)
+    Reads queue (OfTakeInto queue name) take_into.NotYet (reader old room) (reader new full) (taken_into_outcome t)
 
 -- memory was refused to a read
 abbrev pub OfMemory : QueueFacts → Reader → Reader → Type 0

@@ -1,7 +1,7 @@
 //! A tailer that found no message yet looks whether its queue is closed. If so it reads once more, since a message may
 //! have come before the queue was closed.
 ghost use Rattle.std.specs.Prelude.{◌≡◌, [], IfErr, IfOk, IsOk, OnErr};
-ghost use Rattle.cq_endpoint.specs.Reads.{LooksAfter, OfAt, OfAtInto, OfMemory, OfNext, OfNextInto, OfTake, OfTakeInto, ReadsLast, TakeRefusedAgain, next_into_outcome, next_outcome, read_at_into_outcome, read_at_outcome, reader, take_into_outcome, take_outcome};
+ghost use Rattle.cq_endpoint.specs.Reads.{LooksAfter, OfAt, OfAtInto, OfMemory, OfNext, OfNextInto, OfTake, OfTakeInto, ReadsLast, TakeRefusedAgain, next_into_outcome, next_outcome, read_at_into_outcome, read_at_outcome, reader, taken_into_outcome, taken_outcome};
 ghost use Rattle.cq_tail.specs.Names.{IsDeclared};
 ghost use Rattle.cq_words.specs.Values.{IsOf};
 
@@ -61,7 +61,7 @@ pub(crate) fn take_again(
     requires of { IsOf queue.now tailer.old.caller }
     requires named { IsDeclared queue.now name.now }
     ensures ok { IfOk result (λ taken. LooksAfter queue.now (OfTake queue.now name.now) Take.NotYet
-        (reader tailer.old []) (reader tailer.new []) (take_outcome taken)) }
+        (reader tailer.old []) (reader tailer.new []) (taken_outcome taken)) }
     ensures err { IfErr result (λ fault. TakeRefusedAgain queue.now tailer.old tailer.new fault) }
 {
     if !tailer.is_sealed(queue) {
@@ -112,7 +112,7 @@ pub(crate) fn take_into_again(
     requires of { IsOf queue.now tailer.old.caller }
     requires named { IsDeclared queue.now name.now }
     ensures ok { IfOk result (λ taken. LooksAfter queue.now (OfTakeInto queue.now name.now) TakeInto.NotYet
-        (reader tailer.old room.old) (reader tailer.new room.new) (take_into_outcome taken)) }
+        (reader tailer.old room.old) (reader tailer.new room.new) (taken_into_outcome taken)) }
     ensures err { IsOk result }
 {
     if !tailer.is_sealed(queue) {

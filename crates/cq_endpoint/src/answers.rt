@@ -1,5 +1,5 @@
 //! What reads and takes of an endpoint return: what those of a tailer do, and `Finished` besides.
-ghost use Rattle.cq_endpoint.specs.Reads.{IsTold, next_into_outcome, next_outcome, read_at_into_outcome, read_at_outcome, take_into_outcome, take_outcome};
+ghost use Rattle.cq_endpoint.specs.Reads.{IsTold, next_into_outcome, next_outcome, read_at_into_outcome, read_at_outcome, taken_into_outcome, taken_outcome};
 
 use cq_cycle::Index;
 use cq_model::Message;
@@ -76,7 +76,7 @@ pub enum Taken {
 impl Taken {
     /// Returns what this answer of a tailer is. `NotYet` is final: the queue is closed.
     pub(crate) fn of(found: Take) -> Taken
-        ensures { IsTold Take.NotYet found (take_outcome result) }
+        ensures { IsTold Take.NotYet found (taken_outcome result) }
     {
         match found {
             Take::Taken(index, message) => Taken::Taken(index, message),
@@ -166,7 +166,7 @@ pub enum TakenInto {
 impl TakenInto {
     /// Returns what this answer of a tailer is. `NotYet` is final: the queue is closed.
     pub(crate) fn of(found: TakeInto) -> TakenInto
-        ensures { IsTold TakeInto.NotYet found (take_into_outcome result) }
+        ensures { IsTold TakeInto.NotYet found (taken_into_outcome result) }
     {
         match found {
             TakeInto::Taken(index, len) => TakenInto::Taken(index, len),

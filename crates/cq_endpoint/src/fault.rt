@@ -7,7 +7,7 @@ pub enum AppendFault {
     /// The endpoint has begun a message, which has to be completed or rolled back first.
     #[error("Writing")]
     Writing,
-    /// The queue is closed: nothing was appended.
+    /// The queue is closed: nothing was appended or begun.
     #[error("Closed")]
     Closed,
     /// Its appender was refused.

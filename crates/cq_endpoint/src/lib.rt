@@ -10,15 +10,16 @@
 //! | `Next`, `ReadAt`, `NextInto`, `ReadAtInto`, `Direction` | what reads return, and which way they go |
 //! | `Taken`, `TakenInto`, `TakeFault`, `Sought`, `NoSuchName`, `SeekFault` | what takes and moves of a name return |
 //! | `NotSeen` | why no cycle was dropped |
+//! | `laws` | what follows of a closed queue |
 //!
 //! No call waits for another endpoint. Calls have no preconditions, except that `meet` takes two endpoints of one queue.
-//! What a call says is said by the definitions of `cq_append` and `cq_tail`, and nothing else of the endpoint changes.
-//! Those crates also name the atomic steps.
+//! What a call says is said by the definitions of `cq_append` and `cq_tail`, with a look at the seal where nothing was
+//! appended or found, and nothing else of the endpoint changes. Those crates also name the atomic steps.
 //!
 //! Contracts: `specs/Endpoints.antt` says what an endpoint is, `specs/Works.antt` what the calls that append return,
 //! `specs/Reads.antt` what reads and takes return, `specs/Closes.antt` how a queue is closed, `specs/Looks.antt` what a
 //! look at the seal says, `specs/Faults.antt` which calls are refused, `specs/Meetings.antt` what endpoints have seen
-//! that met, and `specs/Stops.antt` what is left of a queue.
+//! that met, `specs/Endings.antt` what the end of a closed queue is, and `specs/Stops.antt` what is left of a queue.
 #![tactic(auto)]
 
 mod again;

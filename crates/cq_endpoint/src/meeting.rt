@@ -12,8 +12,8 @@ impl Endpoint {
     /// that each had seen. So one may drop cycles or move names up to the end that the other has seen.
     ///
     /// An appender that has begun a message takes no part: it stays as it was, and what it had seen is not shared. The
-    /// tailers stay where they are. No event is added, and it is never refused. What each knew of index entries and write
-    /// positions it still knows, so what it published stays published.
+    /// tailers stay where they are. No event is added, and it is never refused. What each knew of index entries, of write
+    /// positions and of the seal it still knows, so what it published stays published, and what is closed stays closed.
     ///
     /// Precondition: both are of one queue, as two endpoints are of which one was split off the other.
     pub fn meet(&mut self, other: &mut Endpoint)

@@ -58,7 +58,8 @@ impl Endpoint {
     /// - `Taken`: the message and its index. The name is after it.
     /// - `NotYet`: no message has come there. The name stays.
     /// - `Finished`: no message has come there, and none comes any more: the queue is closed. The name stays. Where no
-    ///   message has come it looks by one load whether the queue is closed, and if so it takes once more.
+    ///   message has come it looks by one load whether the queue is closed, and if so it takes once more. It is final
+    ///   unless the name is moved back.
     /// - `Moved`: another caller has moved the name since. Nothing was taken; this is the position at which it was found.
     ///
     /// Errors:
