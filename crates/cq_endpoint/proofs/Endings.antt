@@ -1,7 +1,7 @@
 -- Nothing is appended to a closed queue, and its end is final.
-use Rattle.std.proofs.Common.{true, false, Bool, cond, ◌≡◌, ℕ, suc, ◌+◌, ◌*◌, ◌^◌, ◌<◌, ◌≤◌, List, [], ◌∷◌, ◌++◌, length, Option, Some, None, refl, ap, sym, subst, ◌∙◌, arith, append_assoc, length-append}
+use Rattle.std.proofs.Common.{true, false, Bool, cond, ◌≡◌, ℕ, ◌+◌, ◌*◌, ◌^◌, List, [], ◌∷◌, ◌++◌, length, Option, Some, None, refl, ap, sym, subst, ◌∙◌, arith, append_assoc, length-append}
 use Rattle.std.specs.Str.{bytes_eq}
-use Rattle.cq_append.specs.Calls.{begun_at, cycle_at}
+use Rattle.cq_append.specs.Calls.{begun_at}
 use Rattle.cq_cycle.specs.Index.{cycle_in}
 use Rattle.cq_endpoint.specs.Endings.{HasFinished}
 use Rattle.cq_endpoint.specs.Reads.{NextSays}
@@ -9,17 +9,17 @@ use Rattle.cq_endpoint.specs.Works.{HasAppended}
 use Rattle.cq_endpoint.specs.declared.answers.Next.TheVariants.{Finished}
 use Rattle.cq_layout.specs.Layout.{IsLawfulLayout}
 use Rattle.cq_model.specs.Callers.{calls}
-use Rattle.cq_model.specs.Histories.{Allows, IsLegal, after, state_of}
+use Rattle.cq_model.specs.Histories.{IsLegal, after, state_of}
 use Rattle.cq_model.specs.Seals.{ListsStay}
 use Rattle.cq_model.specs.Settings.{Settings}
 use Rattle.cq_model.specs.States.{IsSound, NoneFrom, end, message_at}
 use Rattle.cq_model.specs.declared.history.Answer.TheVariants.{NotYet, Started, Written}
 use Rattle.cq_model.specs.declared.history.Entry.{Entry}
-use Rattle.cq_model.specs.declared.history.Event.TheVariants.{Begin, Complete, Forward}
+use Rattle.cq_model.specs.declared.history.Event.TheVariants.{Complete, Forward}
 use Rattle.cq_model.specs.declared.history.State.{State}
 use Rattle.cq_model.proofs.CallLemmas.{calls-append}
 use Rattle.cq_model.proofs.FloorLemmas.{readable_open}
-use Rattle.cq_model.proofs.Grows.{ends_grow, history_grows, history_rises}
+use Rattle.cq_model.proofs.Grows.{history_grows, history_rises}
 use Rattle.cq_model.proofs.Legal.{IsLegal-beginning, IsLegal-rest, state_of-append}
 use Rattle.cq_model.proofs.Sealing.{none_stays}
 use Rattle.cq_model.proofs.SeenLemmas.{none_from, stands_below_end}
@@ -28,7 +28,7 @@ use Rattle.cq_model.proofs.StayLemmas.{history_keeps}
 use Rattle.cq_model.proofs.TestLemmas.{three_ways}
 use Rattle.cq_shown.specs.Plans.{opening_of, settings_in}
 use Rattle.cq_shown.specs.declared.plan.Plan.{Plan}
-use Rattle.cq_tail.specs.Tailers.{Answered, ReadsNext, TailerFacts}
+use Rattle.cq_tail.specs.Tailers.{ReadsNext, TailerFacts}
 use Rattle.cq_tail.specs.declared.answers.Direction.{Direction}
 use Rattle.cq_tail.specs.declared.answers.Direction.TheVariants.{Backwards, Forwards}
 use Rattle.cq_tail.specs.declared.answers.Found.TheVariants as found
