@@ -54,6 +54,12 @@
  * inside its append, and cannot go on while others use its processor. So do not spin: yield (sched_yield) or sleep before the
  * next try. A reader that polls for messages does the same at NOT_YET. Nothing promises that a given try succeeds.
  *
+ * CLOSING. linnetshelf_close closes a queue for all its endpoints, and no call undoes that. From then on no message is appended
+ * or begun, and no cycle begins (CLOSED). What was appended before is read and taken as before. Where NOT_YET would come, reads
+ * and takes return FINISHED: there is no such message, and none will come. So a loop that reads goes on at NOT_YET and ends at
+ * FINISHED. Each message whose append or complete returned DONE comes before that, unless its cycle is dropped. What is saved
+ * of a queue does not say that it was closed: a queue that is opened takes messages again.
+ *
  * WHAT AN ENDPOINT HAS SEEN. linnetshelf_drop_before and linnetshelf_seek go up to the end that their endpoint has seen, and
  * return NOT_SEEN above it:
  * - Reads, takes, moves and positions show the end as far as their answers go. linnetshelf_to_end shows all of it.
@@ -109,6 +115,8 @@ typedef enum {
     LINNETSHELF_IN_USE = 32, /* other endpoints of the queue are alive */
     LINNETSHELF_WRONG_KIND = 33, /* the handle holds something else than this call is for */
     LINNETSHELF_OUT_OF_MEMORY = 34, /* out of memory */
+    LINNETSHELF_CLOSED = 35, /* the queue is closed: nothing was appended or begun, or it was closed before */
+    LINNETSHELF_FINISHED = 36, /* there is no such message, and none will come: the queue is closed */
 } linnetshelf_status;
 
 /* How long a cycle is. */
@@ -169,7 +177,7 @@ void linnetshelf_destroy(linnetshelf_handle handle);
 /* Appends a message of 1 to 2^30 - 1 bytes, and returns its index. It goes to the cycle of `moment`, or to the current cycle if
  * that is later. A later cycle than the current one begins first.
  * BUSY (another endpoint is writing: yield or sleep, then call again), WRITING, BAD_ROOM, BAD_MOMENT, CYCLE_FULL,
- * NO_CYCLE_LEFT. */
+ * NO_CYCLE_LEFT, CLOSED. */
 linnetshelf_answer linnetshelf_append(linnetshelf_handle *endpoint, uint64_t moment, const void *bytes, size_t length);
 
 /* Begins a message of at most `most` bytes, which is put in parts. Until it is completed or given up, others that want to write
@@ -186,18 +194,26 @@ linnetshelf_answer linnetshelf_complete(linnetshelf_handle *endpoint);
 uint32_t linnetshelf_roll_back(linnetshelf_handle *endpoint);
 
 /* Begins the cycle of `moment` if it is later than the current one, and returns the current cycle.
- * BUSY, WRITING, BAD_MOMENT, NO_CYCLE_LEFT. */
+ * BUSY, WRITING, BAD_MOMENT, NO_CYCLE_LEFT, CLOSED (only where a cycle would begin). */
 linnetshelf_answer linnetshelf_advance(linnetshelf_handle *endpoint, uint64_t moment);
+
+/* Closing. */
+
+/* Closes the queue for all its endpoints (see above). Each of them is still to be destroyed.
+ * CLOSED (it was closed before), WRITING (this endpoint has begun a message), BUSY (another endpoint is writing: yield or
+ * sleep, then call again), CYCLE_FULL (the current cycle is full, and no moment is in a later one; or others have filled the
+ * next one meanwhile: call again). The queue is not closed after the last three. */
+uint32_t linnetshelf_close(linnetshelf_handle *endpoint);
 
 /* Reading. */
 
 /* Reads the next message in the endpoint's direction into the buffer `room`, and returns its index and length. The endpoint
- * moves after it, or backwards before it. NOT_YET (forwards), BEFORE_START (backwards), NO_ROOM (see above): it stays where it
- * is then. */
+ * moves after it, or backwards before it. NOT_YET and FINISHED (forwards), BEFORE_START (backwards), NO_ROOM (see above): it
+ * stays where it is then. */
 linnetshelf_answer linnetshelf_next(linnetshelf_handle *endpoint, void *room, size_t size);
 
 /* Reads the message with this index into the buffer `room`, and returns its length. The endpoint stays where it is. NOT_YET,
- * NEVER, GONE, NO_ROOM (see above). */
+ * FINISHED, NEVER, GONE, NO_ROOM (see above). */
 linnetshelf_answer linnetshelf_read_at(linnetshelf_handle *endpoint, uint64_t index, void *room, size_t size);
 
 /* Sets the direction in which the endpoint reads: LINNETSHELF_FORWARDS or LINNETSHELF_BACKWARDS. BAD_DIRECTION. */
@@ -225,8 +241,8 @@ linnetshelf_answer linnetshelf_drop_before(linnetshelf_handle *endpoint, uint32_
 
 /* Takes the next message of a name into the buffer `room`, and returns its index and length. Of all that take by this name, one
  * alone gets it.
- * NO_SUCH_NAME, NOT_YET, NO_ROOM (nothing was taken, and the name stays), MOVED (another endpoint was faster: `index` is where
- * the name was found then). */
+ * NO_SUCH_NAME, NOT_YET, FINISHED, NO_ROOM (nothing was taken, and the name stays), MOVED (another endpoint was faster: `index`
+ * is where the name was found then). */
 linnetshelf_answer linnetshelf_take(linnetshelf_handle *endpoint, const void *name, size_t length, void *room, size_t size);
 
 /* Returns the position of a name: the message that is taken next has this index or a later one. NO_SUCH_NAME. */

@@ -324,6 +324,233 @@ static void a_queue_is_saved_and_opened(void) {
     linnetshelf_destroy(queue);
 }
 
+/* Nothing is appended or begun by this endpoint: the queue is closed. A current cycle that has begun is returned all the
+ * same, and what is refused for itself has its own status. */
+static void check_closed(linnetshelf_handle *end, uint64_t moment, uint64_t current) {
+    static const char large[20000];
+    CHECK(linnetshelf_append(end, moment, "x", 1).status == STATUS(CLOSED));
+    CHECK(linnetshelf_append(end, moment + DAY, "x", 1).status == STATUS(CLOSED));
+    CHECK(linnetshelf_append(end, moment + 90 * DAY, "x", 1).status == STATUS(CLOSED));
+    CHECK(linnetshelf_append(end, moment, large, sizeof large).status == STATUS(CLOSED));
+    CHECK(linnetshelf_append(end, moment, "", 0).status == STATUS(BAD_ROOM));
+    CHECK(linnetshelf_append(end, UINT64_MAX, "x", 1).status == STATUS(BAD_MOMENT));
+    CHECK(linnetshelf_begin(end, moment, 1) == STATUS(CLOSED));
+    CHECK(linnetshelf_put(end, "x", 1) == STATUS(NOT_WRITING));
+    CHECK(linnetshelf_complete(end).status == STATUS(NOT_WRITING));
+    CHECK(linnetshelf_roll_back(end) == STATUS(NOT_WRITING));
+    CHECK(linnetshelf_advance(end, moment).index == current);
+    CHECK(linnetshelf_advance(end, moment + 90 * DAY).status == STATUS(CLOSED));
+    CHECK(linnetshelf_close(end) == STATUS(CLOSED));
+}
+
+/* The messages `one`, `two` and `three`, of which the last is in a cycle of its own. */
+static linnetshelf_handle queue_of_three(void) {
+    linnetshelf_handle queue = queue_of("reader\nother", 5 * DAY);
+    CHECK(linnetshelf_append(&queue, 5 * DAY, "one", 3).index == 5ull << 32);
+    CHECK(linnetshelf_append(&queue, 5 * DAY, "two", 3).index == (5ull << 32) + 1);
+    CHECK(linnetshelf_append(&queue, 7 * DAY, "three", 5).index == 7ull << 32);
+    return queue;
+}
+
+static void a_queue_is_closed(void) {
+    linnetshelf_handle one = queue_of_three(), two = {0}, three = {0};
+    CHECK(linnetshelf_split(&one, &two) == STATUS(DONE));
+    CHECK(linnetshelf_close(&one) == STATUS(DONE));
+    check_closed(&one, 7 * DAY, 7);
+    check_closed(&two, 7 * DAY, 7);
+    CHECK(linnetshelf_split(&two, &three) == STATUS(DONE));
+    check_closed(&three, 0, 7);
+    CHECK(linnetshelf_meet(&three, &one) == STATUS(DONE));
+    check_closed(&one, 0, 7);
+    linnetshelf_destroy(one);
+    linnetshelf_destroy(two);
+    check_closed(&three, 7 * DAY, 7);
+    linnetshelf_destroy(three);
+
+    one = queue_of("", 0);
+    char room[8];
+    CHECK(linnetshelf_close(&one) == STATUS(DONE));
+    check_closed(&one, 0, 0);
+    CHECK(linnetshelf_next(&one, room, sizeof room).status == STATUS(FINISHED));
+    linnetshelf_destroy(one);
+}
+
+/* Reads and takes of a closed queue: first the messages, and then that none comes. */
+static void a_closed_queue_is_read_to_its_end(void) {
+    linnetshelf_handle queue = queue_of_three(), other = {0};
+    char room[8];
+    CHECK(linnetshelf_split(&queue, &other) == STATUS(DONE));
+    CHECK(is_message(linnetshelf_next(&other, room, sizeof room), 5ull << 32, room, "one"));
+    CHECK(linnetshelf_close(&queue) == STATUS(DONE));
+
+    for (int again = 0; again < 2; again++) {
+        CHECK(linnetshelf_to_start(&queue) == STATUS(DONE));
+        CHECK(is_message(linnetshelf_next(&queue, room, sizeof room), 5ull << 32, room, "one"));
+        CHECK(is_message(linnetshelf_next(&queue, room, sizeof room), (5ull << 32) + 1, room, "two"));
+        CHECK(linnetshelf_next(&queue, room, 4).status == STATUS(NO_ROOM));
+        CHECK(is_message(linnetshelf_next(&queue, room, sizeof room), 7ull << 32, room, "three"));
+        CHECK(linnetshelf_next(&queue, room, sizeof room).status == STATUS(FINISHED));
+        CHECK(linnetshelf_next(&queue, room, 0).status == STATUS(FINISHED));
+        CHECK(linnetshelf_cursor(&queue).index == (7ull << 32) + 1);
+    }
+    CHECK(is_message(linnetshelf_next(&other, room, sizeof room), (5ull << 32) + 1, room, "two"));
+    CHECK(is_message(linnetshelf_next(&other, room, sizeof room), 7ull << 32, room, "three"));
+    CHECK(linnetshelf_next(&other, room, sizeof room).status == STATUS(FINISHED));
+    CHECK(linnetshelf_direction(&other, LINNETSHELF_BACKWARDS) == STATUS(DONE));
+    CHECK(is_message(linnetshelf_next(&other, room, sizeof room), 7ull << 32, room, "three"));
+    CHECK(linnetshelf_to_start(&other) == STATUS(DONE));
+    CHECK(linnetshelf_next(&other, room, sizeof room).status == STATUS(BEFORE_START));
+
+    CHECK(linnetshelf_read_at(&queue, 7ull << 32, room, sizeof room).length == 5);
+    CHECK(linnetshelf_read_at(&queue, 7ull << 32, room, 1).status == STATUS(NO_ROOM));
+    CHECK(linnetshelf_read_at(&queue, (7ull << 32) + 1, room, sizeof room).status == STATUS(FINISHED));
+    CHECK(linnetshelf_read_at(&queue, UINT64_MAX, room, sizeof room).status == STATUS(FINISHED));
+    CHECK(linnetshelf_read_at(&queue, (5ull << 32) + 2, room, sizeof room).status == STATUS(NEVER));
+    CHECK(linnetshelf_move_to(&queue, (7ull << 32) + 1) == STATUS(NO_MESSAGE));
+
+    CHECK(linnetshelf_take(&queue, "nobody", 6, room, sizeof room).status == STATUS(NO_SUCH_NAME));
+    CHECK(linnetshelf_take(&queue, "reader", 6, room, 2).status == STATUS(NO_ROOM));
+    CHECK(is_message(linnetshelf_take(&queue, "reader", 6, room, sizeof room), 5ull << 32, room, "one"));
+    CHECK(is_message(linnetshelf_take(&other, "reader", 6, room, sizeof room), (5ull << 32) + 1, room, "two"));
+    CHECK(is_message(linnetshelf_take(&queue, "reader", 6, room, sizeof room), 7ull << 32, room, "three"));
+    CHECK(linnetshelf_take(&queue, "reader", 6, room, sizeof room).status == STATUS(FINISHED));
+    CHECK(linnetshelf_take(&other, "reader", 6, room, 0).status == STATUS(FINISHED));
+    CHECK(linnetshelf_to_end(&queue).index == (7ull << 32) + 1);
+    CHECK(linnetshelf_seek(&queue, "other", 5, 0, (7ull << 32) + 1).status == STATUS(DONE));
+    CHECK(linnetshelf_take(&queue, "other", 5, room, sizeof room).status == STATUS(FINISHED));
+    CHECK(linnetshelf_seek(&queue, "other", 5, (7ull << 32) + 1, 0).status == STATUS(DONE));
+
+    CHECK(linnetshelf_drop_before(&queue, 7).index == 7);
+    CHECK(linnetshelf_read_at(&queue, 5ull << 32, room, sizeof room).status == STATUS(GONE));
+    CHECK(is_message(linnetshelf_take(&queue, "other", 5, room, sizeof room), 7ull << 32, room, "three"));
+    CHECK(linnetshelf_take(&queue, "other", 5, room, sizeof room).status == STATUS(FINISHED));
+    linnetshelf_destroy(queue);
+    linnetshelf_destroy(other);
+}
+
+/* While a message is begun the queue is not closed, and the message is appended or given up. */
+static void a_message_that_is_begun_comes_before_the_close(void) {
+    linnetshelf_handle one = queue_of("reader", 0), other = {0};
+    char room[8];
+    CHECK(linnetshelf_split(&one, &other) == STATUS(DONE));
+    for (uint64_t index = 0; index < 2; index++) {
+        CHECK(linnetshelf_begin(&one, 0, 8) == STATUS(DONE));
+        CHECK(linnetshelf_close(&one) == STATUS(WRITING));
+        CHECK(linnetshelf_close(&other) == STATUS(BUSY));
+        CHECK(linnetshelf_append(&other, 0, "x", 1).status == STATUS(BUSY));
+        CHECK(linnetshelf_next(&other, room, sizeof room).status == STATUS(NOT_YET));
+        CHECK(linnetshelf_take(&other, "reader", 6, room, sizeof room).status == STATUS(NOT_YET));
+        CHECK(linnetshelf_read_at(&other, index, room, sizeof room).status == STATUS(NOT_YET));
+        CHECK(linnetshelf_put(&one, "begun", 5) == STATUS(DONE));
+        CHECK(linnetshelf_complete(&one).index == index);
+        CHECK(is_message(linnetshelf_next(&other, room, sizeof room), index, room, "begun"));
+        CHECK(is_message(linnetshelf_take(&other, "reader", 6, room, sizeof room), index, room, "begun"));
+    }
+    CHECK(linnetshelf_begin(&one, 0, 8) == STATUS(DONE));
+    CHECK(linnetshelf_close(&other) == STATUS(BUSY));
+    CHECK(linnetshelf_roll_back(&one) == STATUS(DONE));
+    CHECK(linnetshelf_close(&other) == STATUS(DONE));
+    check_closed(&one, 0, 0);
+    CHECK(linnetshelf_next(&other, room, sizeof room).status == STATUS(FINISHED));
+    linnetshelf_destroy(other);
+    CHECK(is_message(linnetshelf_next(&one, room, sizeof room), 0, room, "begun"));
+    CHECK(is_message(linnetshelf_next(&one, room, sizeof room), 1, room, "begun"));
+    CHECK(linnetshelf_next(&one, room, sizeof room).status == STATUS(FINISHED));
+    linnetshelf_destroy(one);
+}
+
+/* Queues of some cycles of which the first ones are full: not one byte fits any more. Of the last queue all are. */
+static void a_full_queue_is_closed(void) {
+    linnetshelf_settings tiny = SMALL;
+    tiny.cells = 64;
+    tiny.index_count = 8;
+    for (uint32_t cycles = 1; cycles <= 3; cycles++)
+        for (uint32_t full = 1; full <= cycles; full++) {
+            linnetshelf_handle queue = {0}, other = {0};
+            linnetshelf_answer answer;
+            char room[1];
+            uint32_t count = 0;
+            tiny.cycles = cycles;
+            CHECK(linnetshelf_create(&tiny, "reader", 6, 0, &queue) == STATUS(DONE));
+            CHECK(linnetshelf_split(&queue, &other) == STATUS(DONE));
+            for (uint32_t cycle = 0; cycle < full; cycle++) {
+                while ((answer = linnetshelf_append(&queue, cycle * DAY, "x", 1)).status == STATUS(DONE))
+                    count++;
+                CHECK(answer.status == STATUS(CYCLE_FULL));
+            }
+            if (full == cycles)
+                CHECK(linnetshelf_append(&other, cycles * DAY, "x", 1).status == STATUS(NO_CYCLE_LEFT));
+            CHECK(linnetshelf_close(&queue) == STATUS(DONE));
+            CHECK(linnetshelf_close(&queue) == STATUS(CLOSED));
+            CHECK(linnetshelf_close(&other) == STATUS(CLOSED));
+            for (uint32_t cycle = 0; cycle <= cycles; cycle++) {
+                CHECK(linnetshelf_append(&queue, cycle * DAY, "x", 1).status == STATUS(CLOSED));
+                CHECK(linnetshelf_begin(&other, cycle * DAY, 1) == STATUS(CLOSED));
+            }
+            for (uint32_t k = 0; k < count; k++) {
+                CHECK(linnetshelf_next(&other, room, sizeof room).status == STATUS(DONE));
+                CHECK(linnetshelf_take(&queue, "reader", 6, room, sizeof room).status == STATUS(DONE));
+            }
+            CHECK(linnetshelf_next(&other, room, sizeof room).status == STATUS(FINISHED));
+            CHECK(linnetshelf_take(&queue, "reader", 6, room, sizeof room).status == STATUS(FINISHED));
+            linnetshelf_destroy(queue);
+            linnetshelf_destroy(other);
+        }
+}
+
+/* A queue whose current cycle is full, and is the last one in time: it may have another cycle, which never begins. */
+static void a_full_queue_is_not_closed_at_the_end_of_time(void) {
+    static const uint64_t last_moment = 253402300799999;
+    linnetshelf_settings tiny = SMALL;
+    tiny.cells = 64;
+    tiny.index_count = 8;
+    linnetshelf_handle queue = {0};
+    linnetshelf_answer answer;
+    char room[4];
+    CHECK(linnetshelf_create(&tiny, "", 0, last_moment, &queue) == STATUS(DONE));
+    while ((answer = linnetshelf_append(&queue, last_moment, "1234", 4)).status == STATUS(DONE)) {
+    }
+    CHECK(answer.status == STATUS(CYCLE_FULL));
+    while (linnetshelf_append(&queue, last_moment, "x", 1).status == STATUS(DONE)) {
+    }
+    CHECK(linnetshelf_close(&queue) == STATUS(CYCLE_FULL));
+    CHECK(linnetshelf_append(&queue, last_moment, "x", 1).status == STATUS(CYCLE_FULL));
+    while ((answer = linnetshelf_next(&queue, room, sizeof room)).status == STATUS(DONE)) {
+    }
+    CHECK(answer.status == STATUS(NOT_YET));
+    linnetshelf_destroy(queue);
+}
+
+/* What is saved of a closed queue are its messages. The queue that is opened of it takes more. */
+static void a_closed_queue_is_saved_and_opened(void) {
+    linnetshelf_handle queue = queue_of_three(), again = {0};
+    char room[8];
+    CHECK(linnetshelf_take(&queue, "other", 5, room, sizeof room).status == STATUS(DONE));
+    CHECK(linnetshelf_close(&queue) == STATUS(DONE));
+    CHECK(linnetshelf_stop(&queue) == STATUS(DONE));
+    CHECK(linnetshelf_close(&queue) == STATUS(WRONG_KIND));
+    CHECK(linnetshelf_saved_count(&queue).index == 2);
+    CHECK(linnetshelf_saved_ended(&queue, 0).index == 1 && linnetshelf_saved_ended(&queue, 1).index == 0);
+    CHECK(linnetshelf_saved_position(&queue, 1).index == (5ull << 32) + 1);
+
+    linnetshelf_handle copy = copy_of(&queue, "reader\nother", 2);
+    CHECK(linnetshelf_open(&copy, &again) == STATUS(DONE));
+    CHECK(is_message(linnetshelf_next(&again, room, sizeof room), 5ull << 32, room, "one"));
+    CHECK(is_message(linnetshelf_next(&again, room, sizeof room), (5ull << 32) + 1, room, "two"));
+    CHECK(is_message(linnetshelf_next(&again, room, sizeof room), 7ull << 32, room, "three"));
+    CHECK(linnetshelf_next(&again, room, sizeof room).status == STATUS(NOT_YET));
+    CHECK(linnetshelf_append(&again, 7 * DAY, "four", 4).index == (7ull << 32) + 1);
+    CHECK(linnetshelf_append(&again, 8 * DAY, "five", 4).index == 8ull << 32);
+    CHECK(is_message(linnetshelf_next(&again, room, sizeof room), (7ull << 32) + 1, room, "four"));
+    CHECK(linnetshelf_close(&again) == STATUS(DONE));
+    check_closed(&again, 8 * DAY, 8);
+    CHECK(is_message(linnetshelf_next(&again, room, sizeof room), 8ull << 32, room, "five"));
+    CHECK(linnetshelf_next(&again, room, sizeof room).status == STATUS(FINISHED));
+    linnetshelf_destroy(again);
+    linnetshelf_destroy(copy);
+    linnetshelf_destroy(queue);
+}
+
 static void images_are_tested(void) {
     linnetshelf_handle queue = queue_of("", 0), saved = {0}, out = {0};
     static char image[16384];
@@ -350,7 +577,7 @@ static void images_are_tested(void) {
 
 static void statuses_have_texts(void) {
     char room[128], other[128];
-    for (uint32_t status = 0; status <= STATUS(OUT_OF_MEMORY); status++) {
+    for (uint32_t status = 0; status <= STATUS(FINISHED); status++) {
         size_t length = linnetshelf_text(status, room, sizeof room);
         CHECK(length > 0 && length < sizeof room && strlen(room) == length);
         for (uint32_t before = 0; before < status; before++) {
@@ -358,7 +585,7 @@ static void statuses_have_texts(void) {
             CHECK(strcmp(room, other) != 0);
         }
     }
-    CHECK(linnetshelf_text(STATUS(OUT_OF_MEMORY) + 1, room, sizeof room) == strlen("no status has this number"));
+    CHECK(linnetshelf_text(STATUS(FINISHED) + 1, room, sizeof room) == strlen("no status has this number"));
     room[0] = '!';
     CHECK(linnetshelf_text(STATUS(DONE), room, linnetshelf_text(STATUS(DONE), other, sizeof other)) > 0 && room[0] == '!');
 }
@@ -373,6 +600,12 @@ int main(void) {
     endpoints_end_in_each_order();
     endpoints_meet();
     a_queue_is_saved_and_opened();
+    a_queue_is_closed();
+    a_closed_queue_is_read_to_its_end();
+    a_message_that_is_begun_comes_before_the_close();
+    a_full_queue_is_closed();
+    a_full_queue_is_not_closed_at_the_end_of_time();
+    a_closed_queue_is_saved_and_opened();
     images_are_tested();
     statuses_have_texts();
     return failures != 0;

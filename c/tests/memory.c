@@ -46,6 +46,7 @@ static int use_queue(void) {
         CHECK(linnetshelf_take(&queue, "reader", 6, room, sizeof room).status == STATUS(DONE));
         linnetshelf_destroy(other);
     }
+    CHECK(linnetshelf_close(&queue) == STATUS(DONE));
     uint32_t stopped = linnetshelf_stop(&queue);
     if (stopped == STATUS(OUT_OF_MEMORY))
         stopped = linnetshelf_stop(&queue); /* it is read at the second try */

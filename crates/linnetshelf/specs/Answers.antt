@@ -1,7 +1,15 @@
 -- What the answers of calls are for C.
 use Rattle.std.specs.Prelude.{◌≡◌, ℕ, Bool, true, false, Option, Some, None, Result, Ok, Err}
+use Rattle.cq_endpoint.specs.declared.answers.NextInto.{NextInto}
+use Rattle.cq_endpoint.specs.declared.answers.NextInto.TheVariants as found
+use Rattle.cq_endpoint.specs.declared.answers.ReadAtInto.{ReadAtInto}
+use Rattle.cq_endpoint.specs.declared.answers.ReadAtInto.TheVariants as at
+use Rattle.cq_endpoint.specs.declared.answers.TakenInto.{TakenInto}
+use Rattle.cq_endpoint.specs.declared.answers.TakenInto.TheVariants as take
 use Rattle.cq_endpoint.specs.declared.fault.AppendFault.{AppendFault}
 use Rattle.cq_endpoint.specs.declared.fault.AppendFault.TheVariants as refused
+use Rattle.cq_endpoint.specs.declared.fault.CloseFault.{CloseFault}
+use Rattle.cq_endpoint.specs.declared.fault.CloseFault.TheVariants as unclosed
 use Rattle.cq_endpoint.specs.declared.fault.CompleteFault.{CompleteFault}
 use Rattle.cq_endpoint.specs.declared.fault.CompleteFault.TheVariants as incomplete
 use Rattle.cq_endpoint.specs.declared.fault.NotSeen.{NotSeen}
@@ -17,15 +25,9 @@ use Rattle.cq_layout.specs.declared.refusal.Refusal.TheVariants as refusal
 use Rattle.cq_saved.specs.declared.fault.AddFault.{AddFault}
 use Rattle.cq_saved.specs.declared.fault.AddFault.TheVariants as unadded
 use Rattle.cq_saved.specs.declared.fault.NoSuchPlace.{NoSuchPlace}
-use Rattle.cq_tail.specs.declared.answers.AtInto.{AtInto}
-use Rattle.cq_tail.specs.declared.answers.AtInto.TheVariants as at
 use Rattle.cq_tail.specs.declared.answers.Direction.{Direction}
-use Rattle.cq_tail.specs.declared.answers.FoundInto.{FoundInto}
-use Rattle.cq_tail.specs.declared.answers.FoundInto.TheVariants as found
 use Rattle.cq_tail.specs.declared.answers.Sought.{Sought}
 use Rattle.cq_tail.specs.declared.answers.Sought.TheVariants as sought
-use Rattle.cq_tail.specs.declared.answers.TakeInto.{TakeInto}
-use Rattle.cq_tail.specs.declared.answers.TakeInto.TheVariants as take
 use Rattle.cq_tail.specs.declared.error.NoSuchName.{NoSuchName}
 use Rattle.linnetshelf.specs.Statuses.{number}
 use Rattle.linnetshelf.specs.declared.answer.Answer.{Answer}
@@ -59,6 +61,7 @@ refusal_status refusal.CycleFull = status.CycleFull
 -- why nothing was appended or begun
 abbrev pub append_status : AppendFault → Status
 append_status refused.Writing = status.Writing
+append_status refused.Closed = status.Closed
 append_status (refused.Refused cause) = refusal_status cause
 
 -- what `append` and `advance` answer: an index or a cycle
@@ -70,6 +73,13 @@ append_answer (Err fault) = plain (append_status fault)
 abbrev pub begin_answer : Result Unit AppendFault → ℕ
 begin_answer (Ok u) = number status.Done
 begin_answer (Err fault) = number (append_status fault)
+
+-- what `close` answers
+abbrev pub close_answer : Result Unit CloseFault → ℕ
+close_answer (Ok u) = number status.Done
+close_answer (Err unclosed.Writing) = number status.Writing
+close_answer (Err unclosed.Closed) = number status.Closed
+close_answer (Err (unclosed.Refused cause)) = number (refusal_status cause)
 
 -- what `put` answers
 abbrev pub put_answer : Result Unit PutFault → ℕ
@@ -159,28 +169,31 @@ abbrev pub too_long : ℕ → Answer
 too_long len = record { index = 0; length = len; status = number status.NoRoom }
 
 -- what `next` answers
-abbrev pub found_answer : FoundInto → Answer
+abbrev pub found_answer : NextInto → Answer
 found_answer (found.Message index len) = read index len
 found_answer (found.NoRoom len) = too_long len
 found_answer found.NotYet = plain status.NotYet
+found_answer found.Finished = plain status.Finished
 found_answer found.BeforeStart = plain status.BeforeStart
 
 -- what `read_at` answers
-abbrev pub at_answer : AtInto → Answer
+abbrev pub at_answer : ReadAtInto → Answer
 at_answer (at.Message len) = read 0 len
 at_answer (at.NoRoom len) = too_long len
 at_answer at.NotYet = plain status.NotYet
+at_answer at.Finished = plain status.Finished
 at_answer at.Never = plain status.Never
 at_answer at.Gone = plain status.Gone
 
 -- what a take by a name that the queue declares answers
-abbrev pub took_answer : TakeInto → Answer
+abbrev pub took_answer : TakenInto → Answer
 took_answer (take.Taken index len) = read index len
 took_answer (take.NoRoom len) = too_long len
 took_answer take.NotYet = plain status.NotYet
+took_answer take.Finished = plain status.Finished
 took_answer (take.Moved position) = moved position
 
 -- what `take` answers
-abbrev pub take_answer : Result TakeInto NoSuchName → Answer
+abbrev pub take_answer : Result TakenInto NoSuchName → Answer
 take_answer (Ok took) = took_answer took
 take_answer (Err e) = plain status.NoSuchName

@@ -1,5 +1,6 @@
 pub mod Answers
 pub mod Asked
+pub mod Closes
 pub mod Handles
 pub mod Makes
 pub mod Meets

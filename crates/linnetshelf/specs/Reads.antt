@@ -4,18 +4,18 @@ use Rattle.std.specs.Str.{IsUtf8}
 use Rattle.cq_cycle.specs.Index.{cycle_in}
 use Rattle.cq_endpoint.specs.Endpoints.{EndpointFacts}
 use Rattle.cq_endpoint.specs.Faults.{SeekFails}
+use Rattle.cq_endpoint.specs.Reads.{TakeIntoSays}
+use Rattle.cq_endpoint.specs.declared.answers.TakenInto.{TakenInto}
 use Rattle.cq_endpoint.specs.declared.fault.NotSeen.{NotSeen}
 use Rattle.cq_endpoint.specs.declared.fault.SeekFault.{SeekFault}
 use Rattle.cq_endpoint.specs.declared.fault.SeekFault.TheVariants as unsought
 use Rattle.cq_model.specs.declared.history.Answer.TheVariants.{Floor}
 use Rattle.cq_model.specs.declared.history.Event.TheVariants.{DropBefore}
 use Rattle.cq_tail.specs.Names.{NameFails, Seeks, TellsPosition}
-use Rattle.cq_tail.specs.Rooms.{TakesInto}
 use Rattle.cq_tail.specs.Tailers.{Answered}
 use Rattle.cq_tail.specs.declared.answers.Direction.{Direction}
 use Rattle.cq_tail.specs.declared.answers.Direction.TheVariants as direction
 use Rattle.cq_tail.specs.declared.answers.Sought.{Sought}
-use Rattle.cq_tail.specs.declared.answers.TakeInto.{TakeInto}
 use Rattle.cq_tail.specs.declared.error.NoSuchName.{NoSuchName}
 
 -- the number that C has for a direction
@@ -54,7 +54,7 @@ SeeksName old new name from to (Err unsought.NoSuchName) =
     SeekFails old.queue old.tailer new.tailer name to unsought.NoSuchName ⊎ IsNoText old new name
 
 -- the endpoint took the next message of the name into a room, or was told why it did not
-abbrev pub TakesName : EndpointFacts → EndpointFacts → List ℕ → List ℕ → List ℕ → Result TakeInto NoSuchName → Type 0
-TakesName old new name room full (Ok took) = TakesInto old.queue old.tailer new.tailer name room full took
+abbrev pub TakesName : EndpointFacts → EndpointFacts → List ℕ → List ℕ → List ℕ → Result TakenInto NoSuchName → Type 0
+TakesName old new name room full (Ok took) = TakeIntoSays old.queue old.tailer new.tailer name room full took
 TakesName old new name room full (Err e) =
     (NameFails old.queue old.tailer new.tailer name ⊎ IsNoText old new name) × (full ≡ room)

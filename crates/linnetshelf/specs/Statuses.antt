@@ -40,3 +40,5 @@ number status.NoSuchPlace = 31
 number status.InUse = 32
 number status.WrongKind = 33
 number status.OutOfMemory = 34
+number status.Closed = 35
+number status.Finished = 36

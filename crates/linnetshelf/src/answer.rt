@@ -1,11 +1,12 @@
 //! What calls return to C.
 ghost use Rattle.std.specs.Prelude.{◌≡◌};
-ghost use Rattle.linnetshelf.specs.Answers.{append_answer, append_status, begin_answer, complete_answer, done, drop_answer, move_answer, moved, plain, position_answer, put_answer, roll_back_answer, seek_answer};
+ghost use Rattle.linnetshelf.specs.Answers.{append_answer, append_status, begin_answer, close_answer, complete_answer, done, drop_answer, move_answer, moved, plain, position_answer, put_answer, refusal_status, roll_back_answer, seek_answer};
 
 use crate::status::Status;
 use cq_cycle::Index;
 use cq_endpoint::{
-    AppendFault, CompleteFault, NoSuchName, NotSeen, NotWriting, PutFault, SeekFault, Sought,
+    AppendFault, CloseFault, CompleteFault, NoSuchName, NotSeen, NotWriting, PutFault, SeekFault,
+    Sought,
 };
 use cq_layout::Refusal;
 
@@ -81,12 +82,35 @@ fn append_status(fault: AppendFault) -> Status
 {
     match fault {
         AppendFault::Writing => Status::Writing,
-        AppendFault::Refused(Refusal::BadRoom) => Status::BadRoom,
-        AppendFault::Refused(Refusal::BadMoment) => Status::BadMoment,
-        AppendFault::Refused(Refusal::Busy) => Status::Busy,
-        AppendFault::Refused(Refusal::NoCycleLeft) => Status::NoCycleLeft,
-        AppendFault::Refused(Refusal::CycleFull) => Status::CycleFull,
+        AppendFault::Closed => Status::Closed,
+        AppendFault::Refused(refusal) => refusal_status(refusal),
     }
+}
+
+/// Says why an appender was refused.
+fn refusal_status(refusal: Refusal) -> Status
+    ensures { result ≡ refusal_status refusal }
+{
+    match refusal {
+        Refusal::BadRoom => Status::BadRoom,
+        Refusal::BadMoment => Status::BadMoment,
+        Refusal::Busy => Status::Busy,
+        Refusal::NoCycleLeft => Status::NoCycleLeft,
+        Refusal::CycleFull => Status::CycleFull,
+    }
+}
+
+/// Makes the answer of `close`.
+pub(crate) fn close_answer(said: Result<(), CloseFault>) -> u32
+    ensures { result ≡ close_answer said }
+{
+    let status = match said {
+        Ok(()) => Status::Done,
+        Err(CloseFault::Writing) => Status::Writing,
+        Err(CloseFault::Closed) => Status::Closed,
+        Err(CloseFault::Refused(refusal)) => refusal_status(refusal),
+    };
+    status.number()
 }
 
 /// Makes the answer of `put`.

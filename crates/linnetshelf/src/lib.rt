@@ -11,6 +11,7 @@
 //! | `linnetshelf_create`, `_split`, `_meet`, `_destroy` | make a queue, and endpoints of it |
 //! | `linnetshelf_append`, `_begin`, `_put`, `_complete`, `_roll_back` | append messages, whole or in parts |
 //! | `linnetshelf_advance` | begins a cycle |
+//! | `linnetshelf_close` | closes a queue |
 //! | `linnetshelf_next`, `_read_at`, `_take` | read and take messages, into a buffer of the caller |
 //! | `linnetshelf_cursor`, `_direction`, `_to_start`, `_to_end`, `_move_to` | move an endpoint |
 //! | `linnetshelf_position`, `_seek`, `_drop_before` | read and set the position of a name, and drop old cycles |
@@ -20,6 +21,7 @@
 
 mod answer;
 mod appending;
+mod closing;
 mod layout;
 mod making;
 mod meeting;

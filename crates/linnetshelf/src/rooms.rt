@@ -1,7 +1,7 @@
 //! Reading and taking messages into buffers, which are bytes of the caller. It allocates nothing.
 ghost use Rattle.std.specs.Prelude.{◌≡◌};
 ghost use Rattle.cq_endpoint.specs.Endpoints.{ChangesTailer};
-ghost use Rattle.cq_tail.specs.Rooms.{ReadsAtInto, ReadsInto};
+ghost use Rattle.cq_endpoint.specs.Reads.{NextIntoSays, ReadAtIntoSays};
 ghost use Rattle.linnetshelf.specs.Answers.{Tells, at_answer, found_answer, plain, read, take_answer, too_long, took_answer};
 ghost use Rattle.linnetshelf.specs.Handles.{OnEndpoint};
 ghost use Rattle.linnetshelf.specs.Reads.{TakesName};
@@ -10,18 +10,18 @@ ghost use Rattle.linnetshelf.specs.declared.status.Status.TheVariants.{WrongKind
 use crate::answer::{Answer, moved, plain};
 use crate::status::Status;
 use cq_cycle::Index;
-use cq_endpoint::{AtInto, Endpoint, FoundInto, NoSuchName, TakeInto};
+use cq_endpoint::{Endpoint, NextInto, NoSuchName, ReadAtInto, TakenInto};
 use cq_handle::{Handle, Held};
 
 /// Reads the next message in the endpoint's direction into a buffer. Returns its index and its length, and moves
 /// after it, or backwards before it.
 ///
-/// - `NotYet`, `BeforeStart`: there is no such message.
+/// - `NotYet`, `Finished`, `BeforeStart`: there is no such message.
 /// - `NoRoom`: the buffer has fewer bytes. The answer has the length, and nothing is read.
 #[unsafe(no_mangle)]
 pub extern "C" fn linnetshelf_next(handle: &mut Handle, room: &mut [u8]) -> Answer
     ensures { OnEndpoint handle.old.held handle.new.held ((result ≡ plain WrongKind) × (room.new ≡ room.old)) (λ old new.
-        Tells (ReadsInto old.queue old.tailer new.tailer room.old room.new) found_answer result × ChangesTailer old new) }
+        Tells (NextIntoSays old.queue old.tailer new.tailer room.old room.new) found_answer result × ChangesTailer old new) }
 {
     match handle.held_mut() {
         Held::Endpoint(endpoint) => found_answer(endpoint.next_into(room)),
@@ -31,12 +31,12 @@ pub extern "C" fn linnetshelf_next(handle: &mut Handle, room: &mut [u8]) -> Answ
 
 /// Reads the message with this index into a buffer. Returns its length, and the endpoint stays where it is.
 ///
-/// - `NotYet`, `Never`, `Gone`: no message is there that reads return.
+/// - `NotYet`, `Finished`, `Never`, `Gone`: no message is there that reads return.
 /// - `NoRoom`: the buffer has fewer bytes. The answer has the length, and nothing is read.
 #[unsafe(no_mangle)]
 pub extern "C" fn linnetshelf_read_at(handle: &mut Handle, index: u64, room: &mut [u8]) -> Answer
     ensures { OnEndpoint handle.old.held handle.new.held ((result ≡ plain WrongKind) × (room.new ≡ room.old)) (λ old new.
-        Tells (ReadsAtInto old.queue old.tailer new.tailer index room.old room.new) at_answer result
+        Tells (ReadAtIntoSays old.queue old.tailer new.tailer index room.old room.new) at_answer result
         × ChangesTailer old new) }
 {
     match handle.held_mut() {
@@ -50,6 +50,7 @@ pub extern "C" fn linnetshelf_read_at(handle: &mut Handle, index: u64, room: &mu
 /// Takes the next message of a name into a buffer. Returns its index and its length.
 ///
 /// - `NotYet`: no message has come for it.
+/// - `Finished`: no message comes for it any more.
 /// - `NoSuchName`: the queue declares no such name.
 /// - `NoRoom`: the buffer has fewer bytes. The answer has the length, and nothing is taken.
 /// - `Moved`: another endpoint has moved the name meanwhile. The answer has the position that was found, and nothing
@@ -65,7 +66,7 @@ pub extern "C" fn linnetshelf_take(handle: &mut Handle, name: &[u8], room: &mut 
     }
 }
 
-fn take(endpoint: &mut Endpoint, name: &[u8], room: &mut [u8]) -> Result<TakeInto, NoSuchName>
+fn take(endpoint: &mut Endpoint, name: &[u8], room: &mut [u8]) -> Result<TakenInto, NoSuchName>
     ensures says { TakesName endpoint.old endpoint.new name.now room.old room.new result }
     ensures rest { ChangesTailer endpoint.old endpoint.new }
 {
@@ -98,32 +99,34 @@ fn too_long(length: u32) -> Answer
 }
 
 /// Makes the answer of `next`.
-fn found_answer(said: FoundInto) -> Answer
+fn found_answer(said: NextInto) -> Answer
     ensures { result ≡ found_answer said }
 {
     match said {
-        FoundInto::Message(index, length) => read(index.value(), length),
-        FoundInto::NoRoom(length) => too_long(length),
-        FoundInto::NotYet => plain(Status::NotYet),
-        FoundInto::BeforeStart => plain(Status::BeforeStart),
+        NextInto::Message(index, length) => read(index.value(), length),
+        NextInto::NoRoom(length) => too_long(length),
+        NextInto::NotYet => plain(Status::NotYet),
+        NextInto::Finished => plain(Status::Finished),
+        NextInto::BeforeStart => plain(Status::BeforeStart),
     }
 }
 
 /// Makes the answer of `read_at`.
-fn at_answer(said: AtInto) -> Answer
+fn at_answer(said: ReadAtInto) -> Answer
     ensures { result ≡ at_answer said }
 {
     match said {
-        AtInto::Message(length) => read(0, length),
-        AtInto::NoRoom(length) => too_long(length),
-        AtInto::NotYet => plain(Status::NotYet),
-        AtInto::Never => plain(Status::Never),
-        AtInto::Gone => plain(Status::Gone),
+        ReadAtInto::Message(length) => read(0, length),
+        ReadAtInto::NoRoom(length) => too_long(length),
+        ReadAtInto::NotYet => plain(Status::NotYet),
+        ReadAtInto::Finished => plain(Status::Finished),
+        ReadAtInto::Never => plain(Status::Never),
+        ReadAtInto::Gone => plain(Status::Gone),
     }
 }
 
 /// Makes the answer of `take`.
-fn take_answer(said: Result<TakeInto, NoSuchName>) -> Answer
+fn take_answer(said: Result<TakenInto, NoSuchName>) -> Answer
     ensures { result ≡ take_answer said }
 {
     match said {
@@ -133,13 +136,14 @@ fn take_answer(said: Result<TakeInto, NoSuchName>) -> Answer
 }
 
 /// Makes the answer of a take by a name that the queue declares.
-fn took_answer(took: TakeInto) -> Answer
+fn took_answer(took: TakenInto) -> Answer
     ensures { result ≡ took_answer took }
 {
     match took {
-        TakeInto::Taken(index, length) => read(index.value(), length),
-        TakeInto::NoRoom(length) => too_long(length),
-        TakeInto::NotYet => plain(Status::NotYet),
-        TakeInto::Moved(position) => moved(position),
+        TakenInto::Taken(index, length) => read(index.value(), length),
+        TakenInto::NoRoom(length) => too_long(length),
+        TakenInto::NotYet => plain(Status::NotYet),
+        TakenInto::Finished => plain(Status::Finished),
+        TakenInto::Moved(position) => moved(position),
     }
 }

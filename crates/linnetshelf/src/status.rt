@@ -74,10 +74,14 @@ pub enum Status {
     WrongKind,
     /// Out of memory.
     OutOfMemory,
+    /// The queue is closed: nothing is appended or begun any more.
+    Closed,
+    /// There is no such message, and none will come: the queue is closed.
+    Finished,
 }
 
 /// Each status with its text in English, in the order of their numbers.
-static STATUSES: [(Status, &str); 35] = [
+static STATUSES: [(Status, &str); 37] = [
     (Status::Done, "it is done"),
     (Status::NotYet, "there is no such message yet"),
     (Status::BeforeStart, "there is no earlier message"),
@@ -182,6 +186,11 @@ static STATUSES: [(Status, &str); 35] = [
         "the handle holds something else than this call is for",
     ),
     (Status::OutOfMemory, "there was no memory"),
+    (Status::Closed, "the queue is closed"),
+    (
+        Status::Finished,
+        "there is no such message, and none will come: the queue is closed",
+    ),
 ];
 
 impl Status {

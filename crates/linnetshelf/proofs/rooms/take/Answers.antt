@@ -2,16 +2,16 @@ use Rattle.std.proofs.Common.{◌≡◌, List, ℕ, Ok, Err, inl, subst}
 use Rattle.std.specs.Prelude.{Result}
 use Rattle.std.specs.Result.{IfOk, OnErr}
 use Rattle.cq_endpoint.specs.Endpoints.{EndpointFacts}
+use Rattle.cq_endpoint.specs.Reads.{TakeIntoSays}
+use Rattle.cq_endpoint.specs.declared.answers.TakenInto.{TakenInto}
 use Rattle.cq_tail.specs.Names.{NameFails}
-use Rattle.cq_tail.specs.Rooms.{TakesInto}
-use Rattle.cq_tail.specs.declared.answers.TakeInto.{TakeInto}
 use Rattle.cq_tail.specs.declared.error.NoSuchName.{NoSuchName}
 use Rattle.linnetshelf.specs.Reads.{TakesName}
 use Rattle.linnetshelf.proofs.rooms.take.Goals as goal
 
 -- a take by a name that is text
-takes_name : (old new : EndpointFacts) (name room full : List ℕ) (r : Result TakeInto NoSuchName)
-    → IfOk r (λ t. TakesInto old.queue old.tailer new.tailer name room full t)
+takes_name : (old new : EndpointFacts) (name room full : List ℕ) (r : Result TakenInto NoSuchName)
+    → IfOk r (λ t. TakeIntoSays old.queue old.tailer new.tailer name room full t)
     → OnErr r (NameFails old.queue old.tailer new.tailer name × (full ≡ room)) → TakesName old new name room full r
 takes_name old new name room full (Ok t) ok err = ok
 takes_name old new name room full (Err e) ok err = (inl err.0, err.1)
