@@ -12,7 +12,7 @@ from enum import IntEnum
 from typing import TYPE_CHECKING, NamedTuple, Optional, TypeVar, Union
 
 from ._library import NO_ENDPOINT, Answer, Handle, RawSettings, check, error_of, library, number
-from .errors import BufferTooSmall, Misused, Moved, NoMessage, Status
+from .errors import BufferTooSmall, Finished, Misused, Moved, NoMessage, Status
 
 if TYPE_CHECKING:
     from ._saved import Saved
@@ -194,7 +194,7 @@ class Endpoint(Owner):
     """An endpoint of a queue: it appends messages and reads them. Each thread has one of its own, by `split`.
 
     Reads go forwards from the start. They return None, and iterations end, where no message has come yet; `wait` and
-    `follow` wait for the next one.
+    `follow` wait for the next one. At the end of a queue that is closed, reads raise Finished, and iterations end.
     """
 
     def __init__(self, handle: Handle, queue: QueueFacts) -> None:
@@ -239,6 +239,7 @@ class Endpoint(Owner):
 
         It goes to the cycle of `moment`, in milliseconds of Unix time, or of the clock's time; or to the current cycle if
         that is later. While another endpoint writes it tries again, at most `timeout` seconds. Then it raises Busy.
+        Closed: the queue is closed.
         """
         index = until(lambda: self.try_append(data, moment), timeout)
         if index is None:
@@ -279,6 +280,29 @@ class Endpoint(Owner):
         check(answer.status)
         return answer.index
 
+    # Closing
+
+    def close_queue(self, timeout: float | None = None) -> bool:
+        """Closes the queue for all its endpoints, which live on; returns False if it was closed before.
+
+        From then on appends raise Closed. What was appended before is read and taken as before; then reads and takes raise
+        Finished. While another endpoint writes it tries again, at most `timeout` seconds. Then it raises Busy.
+        """
+
+        def attempt() -> bool | None:
+            status = library.close(self._live())
+            if status == Status.BUSY:
+                return None
+            if status == Status.CLOSED:
+                return False
+            check(status)
+            return True
+
+        is_closed_now = until(attempt, timeout)
+        if is_closed_now is None:
+            raise error_of(Status.BUSY)
+        return is_closed_now
+
     # Reading
 
     def _grow(self, size: int) -> None:
@@ -296,7 +320,7 @@ class Endpoint(Owner):
             self._grow(max(answer.length, 2 * size))
 
     def next(self) -> Message | None:
-        """Reads the next message in the direction of reading; returns None if there is none."""
+        """Reads the next message in the direction of reading; returns None if there is none yet. Finished: none will come."""
         answer, data = self._read(library.next)
         if answer.status in (Status.NOT_YET, Status.BEFORE_START):
             return None
@@ -305,13 +329,14 @@ class Endpoint(Owner):
 
     def __iter__(self) -> Iterator[Message]:
         """Reads message after message, up to the last one that has come."""
-        return iter(self.next, None)
+        with contextlib.suppress(Finished):
+            yield from iter(self.next, None)
 
     def views(self) -> Iterator[tuple[Index, memoryview]]:
         """Reads message after message without copying it. A view is valid until the next message is read."""
         while True:
             answer, data = self._read(library.next)
-            if answer.status in (Status.NOT_YET, Status.BEFORE_START):
+            if answer.status in (Status.NOT_YET, Status.FINISHED, Status.BEFORE_START):
                 return
             check(answer.status)
             yield Index(answer.index), data.toreadonly()
@@ -319,7 +344,7 @@ class Endpoint(Owner):
     def next_into(self, buffer: bytearray | memoryview) -> tuple[Index, int] | None:
         """Reads the next message into a buffer of the caller; returns its index and length, or None.
 
-        BufferTooSmall: the message is longer. The next call finds it again.
+        BufferTooSmall: the message is longer. The next call finds it again. Finished: there is none, and none will come.
         """
         view = memoryview(buffer)
         if view.readonly or not view.c_contiguous:
@@ -336,21 +361,27 @@ class Endpoint(Owner):
         return Index(answer.index), answer.length
 
     def peek(self) -> int | None:
-        """Returns the length of the next message, or None if there is none. It is not read."""
+        """Returns the length of the next message, or None if there is none yet. It is not read. Finished: none will come."""
         _, address, _ = self._buffer
         answer = library.next(self._live(), address, 0)
+        if answer.status == Status.FINISHED:
+            raise error_of(answer.status)
         return answer.length if answer.status == Status.NO_ROOM else None
 
     def wait(self, timeout: float | None = None) -> bool:
-        """Waits until there is a next message; returns False if none came within `timeout` seconds."""
-        return until(self.peek, timeout) is not None
+        """Waits until there is a next message; returns False if none came within `timeout` seconds, or none will come."""
+        try:
+            return until(self.peek, timeout) is not None
+        except Finished:
+            return False
 
     def follow(self, timeout: float | None = None) -> Iterator[Message]:
-        """Reads message after message as they come. It ends if none came for `timeout` seconds."""
-        while self.wait(timeout):
-            message = self.next()
-            if message is not None:
-                yield message
+        """Reads message after message as they come. It ends if none came for `timeout` seconds, or none will come."""
+        with contextlib.suppress(Finished):
+            while self.wait(timeout):
+                message = self.next()
+                if message is not None:
+                    yield message
 
     def __getitem__(self, index: int) -> bytes:
         """Returns the message with this index. NoMessage: none has it. The endpoint stays where it is."""
@@ -419,7 +450,10 @@ class Endpoint(Owner):
     # Names
 
     def take(self, name: str) -> Message | None:
-        """Takes the next message of a name; returns None if none has come. Of all that take by a name, one alone gets it."""
+        """Takes the next message of a name; returns None if none has come. Of all that take by a name, one alone gets it.
+
+        Finished: none will come.
+        """
         word = name.encode()
         answer, data = self._read(library.take, word, len(word))
         while answer.status == Status.MOVED:
@@ -430,9 +464,10 @@ class Endpoint(Owner):
         return Message(Index(answer.index), bytes(data))
 
     def takes(self, name: str, timeout: float | None = 0) -> Iterator[Message]:
-        """Takes message after message. It ends if none came for `timeout` seconds."""
-        while (message := until(lambda: self.take(name), timeout)) is not None:
-            yield message
+        """Takes message after message. It ends if none came for `timeout` seconds, or none will come."""
+        with contextlib.suppress(Finished):
+            while (message := until(lambda: self.take(name), timeout)) is not None:
+                yield message
 
     def position(self, name: str) -> Index:
         """Returns the position of a name: the message that is taken next has this index or a later one."""

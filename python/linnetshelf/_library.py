@@ -50,6 +50,7 @@ CALLS = {
     "complete": (Answer, _HANDLE),
     "roll_back": (_WORD, _HANDLE),
     "advance": (Answer, _HANDLE, _LONG),
+    "close": (_WORD, _HANDLE),
     "next": (Answer, _HANDLE, _BYTES, _SIZE),
     "read_at": (Answer, _HANDLE, _LONG, _BYTES, _SIZE),
     "direction": (_WORD, _HANDLE, _WORD),

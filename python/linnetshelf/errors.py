@@ -42,6 +42,8 @@ class Status(enum.IntEnum):
     IN_USE = 32
     WRONG_KIND = 33
     OUT_OF_MEMORY = 34
+    CLOSED = 35
+    FINISHED = 36
 
 
 class LinnetshelfError(Exception):
@@ -60,6 +62,10 @@ class Full(LinnetshelfError):
     """The message does not fit into its cycle (CYCLE_FULL), or no cycle is left for its moment (NO_CYCLE_LEFT)."""
 
 
+class Closed(LinnetshelfError):
+    """The queue is closed: nothing is appended or begun any more."""
+
+
 class BadValue(LinnetshelfError, ValueError):
     """A setting, a moment, a length or what is to be opened is outside its limits."""
 
@@ -70,6 +76,10 @@ class NoSuchName(LinnetshelfError, LookupError):
 
 class NoMessage(LinnetshelfError, LookupError):
     """No message has this index: there is none yet (NOT_YET), never will be (NEVER), or its cycle was dropped (GONE)."""
+
+
+class Finished(NoMessage):
+    """There is no such message, and none will come: the queue is closed (FINISHED)."""
 
 
 class BufferTooSmall(LinnetshelfError):
@@ -136,4 +146,6 @@ ERRORS: dict[Status, type[LinnetshelfError]] = {
     Status.NO_SUCH_PLACE: BadValue,
     Status.IN_USE: Misused,
     Status.OUT_OF_MEMORY: OutOfMemory,
+    Status.CLOSED: Closed,
+    Status.FINISHED: Finished,
 }

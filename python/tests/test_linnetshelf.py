@@ -209,6 +209,68 @@ class Calls(unittest.TestCase):
             self.queue.append(b"c", 7 * DAY)
         self.assertEqual(full.exception.status, linnetshelf.Status.NO_CYCLE_LEFT)
 
+    def test_a_closed_queue_takes_no_messages(self):
+        other = self.queue.split()
+        self.queue.append(b"a", 0)
+        self.assertEqual((self.queue.close_queue(), self.queue.close_queue(), other.close_queue()), (True, False, False))
+        self.assertFalse(self.queue.closed)
+        calls = (
+            lambda it: it.append(b"x", 0),
+            lambda it: it.try_append(b"x", 0),
+            lambda it: it.append(b"x" * 20000, 0),
+            lambda it: it.begin(1, 0).__enter__(),
+            lambda it: it.advance(DAY),
+        )
+        for endpoint in (self.queue, other, other.split()):
+            for call in calls:
+                with self.assertRaises(linnetshelf.Closed) as closed:
+                    call(endpoint)
+                self.assertEqual(closed.exception.status, linnetshelf.Status.CLOSED)
+        self.assertEqual(self.queue.advance(0), 0)
+
+    def test_a_closed_queue_is_read_to_its_end(self):
+        for k in range(4):
+            self.queue.append(b"m%d" % k, 0)
+        self.assertEqual(self.queue.take("reader").data, b"m0")
+        self.queue.close_queue()
+        self.assertEqual(data_of(self.queue), [b"m0", b"m1", b"m2", b"m3"])
+        self.assertEqual(data_of(self.queue.takes("reader", timeout=None)), [b"m1", b"m2", b"m3"])
+        calls = (
+            self.queue.next,
+            self.queue.peek,
+            lambda: self.queue.next_into(bytearray(8)),
+            lambda: self.queue.take("reader"),
+            lambda: self.queue[4],
+        )
+        for call in calls:
+            with self.assertRaises(linnetshelf.Finished) as finished:
+                call()
+            self.assertEqual(finished.exception.status, linnetshelf.Status.FINISHED)
+        self.assertTrue(issubclass(linnetshelf.Finished, linnetshelf.NoMessage))
+        self.assertEqual((self.queue.get(4), self.queue.wait(None), self.queue.wait(0)), (None, False, False))
+        for rest in (self.queue, self.queue.views(), self.queue.follow(), self.queue.takes("reader")):
+            self.assertEqual(list(rest), [])
+        self.assertEqual(data_of(self.queue.backwards()), [b"m3", b"m2", b"m1", b"m0"])
+        self.assertEqual(data_of(self.queue.follow()), [b"m0", b"m1", b"m2", b"m3"])
+        self.queue.to_start()
+        self.assertEqual([bytes(view) for _, view in self.queue.views()], [b"m0", b"m1", b"m2", b"m3"])
+        with self.queue.stop() as saved, saved.open() as again:
+            self.assertEqual(again.append(b"m4", 0), 4)
+            self.assertEqual(len(data_of(again)), 5)
+            self.assertIsNone(again.next())
+
+    def test_a_queue_is_closed_after_the_message_that_is_begun(self):
+        other = self.queue.split()
+        with self.queue.begin(8, 0) as message:
+            with self.assertRaises(linnetshelf.Misused):
+                self.queue.close_queue()
+            with self.assertRaises(linnetshelf.Busy):
+                other.close_queue(timeout=0.01)
+            self.assertIsNone(other.next())
+            message.put(b"begun")
+        self.assertTrue(other.close_queue(timeout=0))
+        self.assertEqual(data_of(other), [b"begun"])
+
     def test_meet(self):
         other = self.queue.split()
         self.queue.meet(other)
@@ -294,6 +356,39 @@ class Calls(unittest.TestCase):
                 self.assertEqual([it for it in seen if it.startswith(b"%d " % who)], [b"%d %d" % (who, k) for k in range(count)])
             self.assertEqual(sorted(taken[0] + taken[1]), sorted(seen))
 
+
+    def test_threads_end_when_the_queue_is_closed(self):
+        counts, seen, taken = [0, 0], [[], []], [[], []]
+
+        def write(endpoint, who):
+            with contextlib.suppress(linnetshelf.Closed):
+                while True:
+                    endpoint.append(b"%d %d" % (who, counts[who]), 0)
+                    counts[who] += 1
+
+        def read(endpoint, which):
+            seen[which].extend(data_of(endpoint.follow()))
+
+        def take(endpoint, which):
+            taken[which].extend(data_of(endpoint.takes("worker", timeout=None)))
+
+        with linnetshelf.create(linnetshelf.Settings(cells=524_288, cycles=4), ["worker"], 0) as queue:
+            works = [(work, which) for work in (write, read, take) for which in range(2)]
+            threads = [threading.Thread(target=work, args=(queue.split(), which)) for work, which in works]
+            for thread in threads:
+                thread.start()
+            while min(counts) < 200 and all(thread.is_alive() for thread in threads):
+                time.sleep(0.001)
+            self.assertTrue(queue.close_queue())
+            for thread in threads:
+                thread.join()
+            for found in seen:
+                for who in range(2):
+                    own = [it for it in found if it.startswith(b"%d " % who)]
+                    self.assertEqual(own, [b"%d %d" % (who, k) for k in range(counts[who])])
+                self.assertEqual(len(found), sum(counts))
+            self.assertEqual(sorted(taken[0] + taken[1]), sorted(seen[0]))
+            self.assertEqual(data_of(queue), seen[0])
 
     def test_threads_go_on_while_their_endpoints_are_closed(self):
         """A call that comes too late is refused, wherever its thread was."""
