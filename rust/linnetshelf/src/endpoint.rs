@@ -31,8 +31,9 @@ pub struct Received<'b> {
 
 /// An endpoint of a queue: it appends messages and reads them. Each thread has one of its own, by [`Endpoint::split`].
 ///
-/// Reads go forwards from the start. They return `None` where no message has come yet. At the end of an endpoint a message
-/// that it has begun is given up, and the last endpoint of a queue frees it.
+/// Reads go forwards from the start. They return `None` where no message has come yet, and [`Error::Finished`] at the end of a
+/// queue that is closed. At the end of an endpoint a message that it has begun is given up, and the last endpoint of a queue
+/// frees it.
 ///
 /// An endpoint may go to another thread:
 ///
@@ -115,7 +116,8 @@ impl Endpoint {
     /// # Errors
     ///
     /// [`Error::Busy`]: another endpoint is writing. Yield or sleep, then call again, or use `append_waiting`.
-    /// [`Error::Writing`], [`Error::BadRoom`], [`Error::BadMoment`], [`Error::CycleFull`], [`Error::NoCycleLeft`].
+    /// [`Error::Writing`], [`Error::BadRoom`], [`Error::BadMoment`], [`Error::CycleFull`], [`Error::NoCycleLeft`],
+    /// [`Error::Closed`].
     #[inline]
     pub fn append(&mut self, moment: u64, data: &[u8]) -> Result<Index, Error> {
         Error::done(self.handle.append(moment, data)).map(|answer| Index(answer.index))
@@ -149,18 +151,37 @@ impl Endpoint {
     ///
     /// # Errors
     ///
-    /// [`Error::Busy`], [`Error::Writing`], [`Error::BadMoment`], [`Error::NoCycleLeft`].
+    /// [`Error::Busy`], [`Error::Writing`], [`Error::BadMoment`], [`Error::NoCycleLeft`]. [`Error::Closed`]: a cycle would
+    /// begin, and the queue is closed.
     pub fn advance(&mut self, moment: u64) -> Result<u32, Error> {
         Error::done(self.handle.advance(moment)).map(|answer| answer.index as u32)
     }
 
-    // Reading
+    // Closing
 
-    /// Reads the next message in the direction of reading into a buffer; returns `None` if there is none.
+    /// Closes the queue for all its endpoints, which live on.
+    ///
+    /// From then on appends return [`Error::Closed`]. What was appended before is read and taken as before; then reads and takes
+    /// return [`Error::Finished`].
     ///
     /// # Errors
     ///
-    /// [`Error::NoRoom`]: the message is longer than the buffer. The next call finds it again.
+    /// [`Error::Closed`]: it was closed before. [`Error::Busy`]: another endpoint is writing. Yield or sleep, then call again, or
+    /// use `close_queue_waiting`. [`Error::Writing`]: this endpoint has begun a message, which was forgotten.
+    /// [`Error::CycleFull`]: the current cycle is full, and no moment is in a later one; or others have filled the next one
+    /// meanwhile.
+    pub fn close_queue(&mut self) -> Result<(), Error> {
+        Error::check(self.handle.close())
+    }
+
+    // Reading
+
+    /// Reads the next message in the direction of reading into a buffer; returns `None` if there is none yet.
+    ///
+    /// # Errors
+    ///
+    /// [`Error::NoRoom`]: the message is longer than the buffer. The next call finds it again. [`Error::Finished`]: there is
+    /// none, and none will come.
     #[inline]
     pub fn next<'b>(&mut self, buffer: &'b mut [u8]) -> Result<Option<Received<'b>>, Error> {
         self.try_next(buffer).map(|answer| received(answer, buffer)).transpose()
@@ -173,11 +194,11 @@ impl Endpoint {
         (!matches!(answer.status, NOT_YET | BEFORE_START)).then_some(answer)
     }
 
-    /// Returns the length of the next message, or `None` if there is none. It is not read.
+    /// Returns the length of the next message, or `None` if there is none yet. It is not read.
     ///
     /// # Errors
     ///
-    /// [`Error::WrongKind`].
+    /// [`Error::Finished`]: there is none, and none will come. [`Error::WrongKind`].
     pub fn peek(&mut self) -> Result<Option<usize>, Error> {
         match self.next(&mut []) {
             Err(Error::NoRoom { needed }) => Ok(Some(needed)),
@@ -189,8 +210,8 @@ impl Endpoint {
     ///
     /// # Errors
     ///
-    /// [`Error::NotYet`], [`Error::Never`], [`Error::Gone`]: no message has this index. [`Error::NoRoom`]: it is longer than
-    /// the buffer.
+    /// [`Error::NotYet`], [`Error::Finished`], [`Error::Never`], [`Error::Gone`]: no message has this index.
+    /// [`Error::NoRoom`]: it is longer than the buffer.
     #[inline]
     pub fn read_at<'b>(&mut self, index: Index, buffer: &'b mut [u8]) -> Result<&'b [u8], Error> {
         let answer = self.handle.read_at(index.0, buffer);
@@ -275,6 +296,7 @@ impl Endpoint {
     /// # Errors
     ///
     /// [`Error::NoSuchName`]. [`Error::NoRoom`]: the message is longer than the buffer, and was not taken.
+    /// [`Error::Finished`]: there is none, and none will come.
     pub fn take<'b>(&mut self, name: &str, buffer: &'b mut [u8]) -> Result<Option<Received<'b>>, Error> {
         loop {
             let answer = self.handle.take(name, buffer);

@@ -53,6 +53,7 @@ unsafe extern "C" {
     fn linnetshelf_complete(endpoint: *mut Handle) -> Answer;
     fn linnetshelf_roll_back(endpoint: *mut Handle) -> u32;
     fn linnetshelf_advance(endpoint: *mut Handle, moment: u64) -> Answer;
+    fn linnetshelf_close(endpoint: *mut Handle) -> u32;
     fn linnetshelf_next(endpoint: *mut Handle, room: *mut u8, size: usize) -> Answer;
     fn linnetshelf_read_at(endpoint: *mut Handle, index: u64, room: *mut u8, size: usize) -> Answer;
     fn linnetshelf_direction(endpoint: *mut Handle, direction: u32) -> u32;
@@ -193,6 +194,11 @@ impl Owned {
     pub(crate) fn advance(&mut self, moment: u64) -> Answer {
         // SAFETY: HANDLES, THREADS.
         unsafe { linnetshelf_advance(&mut self.handle, moment) }
+    }
+
+    pub(crate) fn close(&mut self) -> u32 {
+        // SAFETY: HANDLES, THREADS.
+        unsafe { linnetshelf_close(&mut self.handle) }
     }
 
     #[inline]

@@ -72,7 +72,7 @@ pub(crate) fn growing<T>(
     }
 }
 
-/// Ends a row of results after the first error.
+/// Ends a row of results after the first error. The end of a closed queue ends it without an error.
 #[derive(Debug, Default)]
 struct UntilError {
     is_over: bool,
@@ -85,7 +85,7 @@ impl UntilError {
         }
         let found = read();
         self.is_over = matches!(found, Some(Err(_)));
-        found
+        found.filter(|found| !matches!(found, Err(Error::Finished)))
     }
 }
 
@@ -120,16 +120,29 @@ impl Endpoint {
         Ok(Begun::of(self))
     }
 
-    /// Waits until there is a next message; returns false if none came in time.
+    /// Closes the queue as [`Endpoint::close_queue`] does. While another endpoint writes, it tries again, at most that long.
+    ///
+    /// # Errors
+    ///
+    /// [`Error::Busy`]: another endpoint was writing until the time was over. Others as for [`Endpoint::close_queue`].
+    pub fn close_queue_waiting(&mut self, timeout: Option<Duration>) -> Result<(), Error> {
+        while_busy(timeout, || self.close_queue())
+    }
+
+    /// Waits until there is a next message; returns false if none came in time, or none will come.
     ///
     /// # Errors
     ///
     /// [`Error::WrongKind`].
     pub fn wait(&mut self, timeout: Option<Duration>) -> Result<bool, Error> {
-        until(timeout, || self.peek().map(|length| length.map(|_| true)).transpose()).unwrap_or(Ok(false))
+        match until(timeout, || self.peek().transpose()) {
+            None | Some(Err(Error::Finished)) => Ok(false),
+            Some(found) => found.map(|_| true),
+        }
     }
 
-    /// Waits for the next message, and reads it as [`Endpoint::next`] does; returns `None` if none came in time.
+    /// Waits for the next message, and reads it as [`Endpoint::next`] does; returns `None` if none came in time. Where none
+    /// will come it does not wait.
     ///
     /// # Errors
     ///
@@ -146,7 +159,7 @@ impl Endpoint {
     ///
     /// # Errors
     ///
-    /// [`Error::NotYet`], [`Error::Never`], [`Error::Gone`]: no message has this index.
+    /// [`Error::NotYet`], [`Error::Finished`], [`Error::Never`], [`Error::Gone`]: no message has this index.
     pub fn get(&mut self, index: Index) -> Result<Vec<u8>, Error> {
         let mut buffer = Vec::new();
         let length = growing(&mut buffer, |buffer| self.read_at(index, buffer).map(<[u8]>::len))?;
@@ -159,13 +172,13 @@ impl Endpoint {
         Messages { endpoint: self, buffer: Vec::new(), until_error: UntilError::default() }
     }
 
-    /// Reads message after message as they come. It ends if none came for that long, and after an error.
+    /// Reads message after message as they come. It ends if none came for that long, if none will come, and after an error.
     pub fn follow(&mut self, timeout: Option<Duration>) -> impl Iterator<Item = Result<Message, Error>> {
         let (mut buffer, mut until_error) = (Vec::new(), UntilError::default());
         std::iter::from_fn(move || until_error.next(|| until(timeout, || self.next_owned(&mut buffer))))
     }
 
-    /// Takes message after message of a name. It ends if none came for that long, and after an error.
+    /// Takes message after message of a name. It ends if none came for that long, if none will come, and after an error.
     pub fn takes(&mut self, name: &str, timeout: Option<Duration>) -> impl Iterator<Item = Result<Message, Error>> {
         let (mut buffer, mut until_error) = (Vec::new(), UntilError::default());
         std::iter::from_fn(move || {
@@ -241,5 +254,13 @@ mod tests {
         let mut until_error = UntilError::default();
         let found: Vec<_> = (0..6).map(|_| until_error.next(|| rows.next().flatten())).collect();
         assert_eq!(found, [Some(Ok(1)), None, Some(Ok(2)), Some(Err(Error::Busy)), None, None]);
+    }
+
+    #[test]
+    fn a_row_ends_where_no_message_comes_any_more() {
+        let mut rows = [Some(Ok(1)), Some(Err(Error::Finished)), Some(Ok(2))].into_iter();
+        let mut until_error = UntilError::default();
+        let found: Vec<_> = (0..3).map(|_| until_error.next(|| rows.next().flatten())).collect();
+        assert_eq!(found, [Some(Ok(1)), None, None]);
     }
 }

@@ -227,6 +227,65 @@ fn cycles_begin_and_are_dropped() {
 }
 
 #[test]
+fn a_closed_queue_takes_no_messages() {
+    let mut queue = queue_of(1);
+    let mut other = queue.split().unwrap();
+    assert_eq!(queue.close_queue(), Ok(()));
+    let mut third = other.split().unwrap();
+    for endpoint in [&mut queue, &mut other, &mut third] {
+        assert_eq!(endpoint.close_queue(), Err(Error::Closed));
+        assert_eq!(endpoint.close_queue_waiting(None), Err(Error::Closed));
+        assert_eq!(endpoint.append(0, b"x"), Err(Error::Closed));
+        assert_eq!(endpoint.append(0, &[0; 20_000]), Err(Error::Closed));
+        assert_eq!(endpoint.append_waiting(0, b"x", None), Err(Error::Closed));
+        assert_eq!(endpoint.begin(0, 1).map(drop), Err(Error::Closed));
+        assert_eq!(endpoint.begin_waiting(0, 1, None).map(drop), Err(Error::Closed));
+        assert_eq!((endpoint.advance(0), endpoint.advance(DAY)), (Ok(0), Err(Error::Closed)));
+        assert_eq!(endpoint.append(0, b""), Err(Error::BadRoom));
+    }
+}
+
+#[test]
+fn a_closed_queue_is_read_to_its_end() {
+    let mut queue = queue_of(3);
+    let mut buffer = [0; 4];
+    assert_eq!(text(queue.take("reader", &mut buffer).unwrap()), Some((0, "0")));
+    queue.close_queue().unwrap();
+    assert_eq!(texts(queue.messages()), ["0", "1", "2"]);
+    assert_eq!(texts(queue.takes("reader", None)), ["1", "2"]);
+    for _ in 0..2 {
+        assert_eq!(queue.next(&mut buffer), Err(Error::Finished));
+        assert_eq!(queue.next_waiting(&mut buffer, None), Err(Error::Finished));
+        assert_eq!(queue.take("reader", &mut buffer), Err(Error::Finished));
+        assert_eq!((queue.peek(), queue.wait(None)), (Err(Error::Finished), Ok(false)));
+        assert_eq!((queue.get(Index(3)), queue.get(Index(1))), (Err(Error::Finished), Ok(b"1".to_vec())));
+        assert_eq!(queue.messages().count() + queue.follow(None).count() + queue.takes("reader", None).count(), 0);
+    }
+    assert_eq!(texts(queue.backwards().unwrap()), ["2", "1", "0"]);
+    assert_eq!(texts(queue.follow(None)), ["0", "1", "2"]);
+    let mut again = queue.stop().unwrap().open().unwrap();
+    assert_eq!(again.append(0, b"3"), Ok(Index(3)));
+    assert_eq!(texts(again.messages()), ["0", "1", "2", "3"]);
+    assert_eq!(again.next(&mut buffer), Ok(None));
+}
+
+#[test]
+fn a_queue_is_closed_after_the_message_that_is_begun() {
+    let mut queue = queue();
+    let mut other = queue.split().unwrap();
+    std::mem::forget(queue.begin(0, 8).unwrap());
+    assert_eq!(queue.close_queue(), Err(Error::Writing));
+    queue.roll_back().unwrap();
+    let mut message = queue.begin(0, 8).unwrap();
+    message.put(b"begun").unwrap();
+    assert_eq!(other.close_queue(), Err(Error::Busy));
+    assert_eq!(other.close_queue_waiting(SHORT), Err(Error::Busy));
+    assert_eq!(message.complete(), Ok(Index(0)));
+    assert_eq!(other.close_queue_waiting(SHORT), Ok(()));
+    assert_eq!(texts(other.follow(None)), ["begun"]);
+}
+
+#[test]
 fn endpoints_of_one_queue_meet() {
     let mut queue = queue_of(1);
     let mut other = queue.split().unwrap();

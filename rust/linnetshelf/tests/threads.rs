@@ -5,7 +5,7 @@ use std::sync::mpsc;
 use std::thread;
 use std::time::Duration;
 
-use linnetshelf::{Endpoint, Index, Settings};
+use linnetshelf::{Endpoint, Error, Index, Message, Settings};
 
 const COUNT: usize = 5_000;
 const WRITERS: usize = 4;
@@ -87,6 +87,61 @@ fn each_message_is_read_in_order_and_taken_once() {
     };
     assert_eq!(sorted(taken), sorted(seen));
     assert_eq!(queue.stop().unwrap().len(), 1);
+}
+
+#[test]
+fn threads_end_when_the_queue_is_closed() {
+    let settings = Settings { cells: 524_288, index_count: 256, cycles: 1, ..Settings::default() };
+    let mut queue = Endpoint::create(&settings, &["worker"], 0).unwrap();
+    let appended = &AtomicUsize::new(0);
+    let text_of = |message: Result<Message, Error>| String::from_utf8(message.unwrap().data).unwrap();
+    let (counts, seen, taken) = thread::scope(|scope| {
+        let writers: Vec<_> = (0..WRITERS)
+            .map(|writer| (writer, queue.split().unwrap()))
+            .map(|(writer, mut endpoint)| {
+                scope.spawn(move || {
+                    for k in 0.. {
+                        match endpoint.append_waiting(0, format!("{writer} {k}").as_bytes(), LONG) {
+                            Ok(_) => appended.fetch_add(1, Ordering::Relaxed),
+                            Err(error) => return (k, error),
+                        };
+                    }
+                    unreachable!()
+                })
+            })
+            .collect();
+        let readers: Vec<_> = (0..2)
+            .map(|_| queue.split().unwrap())
+            .map(|mut endpoint| scope.spawn(move || endpoint.follow(LONG).map(text_of).collect::<Vec<_>>()))
+            .collect();
+        let takers: Vec<_> = (0..2)
+            .map(|_| queue.split().unwrap())
+            .map(|mut endpoint| scope.spawn(move || endpoint.takes("worker", LONG).map(text_of).collect::<Vec<_>>()))
+            .collect();
+        while appended.load(Ordering::Relaxed) < COUNT && !writers.iter().any(|writer| writer.is_finished()) {
+            thread::yield_now();
+        }
+        queue.close_queue_waiting(LONG).unwrap();
+        let counts: Vec<(usize, Error)> = writers.into_iter().map(|writer| writer.join().unwrap()).collect();
+        let seen: Vec<Vec<String>> = readers.into_iter().map(|reader| reader.join().unwrap()).collect();
+        let taken: Vec<String> = takers.into_iter().flat_map(|taker| taker.join().unwrap()).collect();
+        (counts, seen, taken)
+    });
+    for read in &seen {
+        for (writer, (count, error)) in counts.iter().enumerate() {
+            let prefix = format!("{writer} ");
+            let own: Vec<&String> = read.iter().filter(|text| text.starts_with(&prefix)).collect();
+            let wanted: Vec<String> = (0..*count).map(|k| format!("{writer} {k}")).collect();
+            assert_eq!((own, *error), (wanted.iter().collect(), Error::Closed));
+        }
+    }
+    assert_eq!(seen[0].len(), appended.load(Ordering::Relaxed));
+    assert_eq!(seen[1], seen[0]);
+    let sorted = |mut texts: Vec<String>| {
+        texts.sort();
+        texts
+    };
+    assert_eq!(sorted(taken), sorted(seen[0].clone()));
 }
 
 #[test]
