@@ -1,6 +1,6 @@
 //! A tailer that found no message yet looks whether its queue is closed. If so it reads once more, since a message may
 //! have come before the queue was closed.
-ghost use Rattle.std.specs.Prelude.{◌≡◌, [], IfErr, IfOk, IsOk, OnErr};
+ghost use Rattle.std.specs.Prelude.{[], IfErr, IfOk, IsOk, OnErr};
 ghost use Rattle.cq_endpoint.specs.Reads.{LooksAfter, OfAt, OfAtInto, OfMemory, OfNext, OfNextInto, OfTake, OfTakeInto, ReadsLast, TakeRefusedAgain, next_into_outcome, next_outcome, read_at_into_outcome, read_at_outcome, reader, taken_into_outcome, taken_outcome};
 ghost use Rattle.cq_tail.specs.Names.{IsDeclared};
 ghost use Rattle.cq_words.specs.Values.{IsOf};
