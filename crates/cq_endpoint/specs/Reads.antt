@@ -1,5 +1,5 @@
 -- What reads and takes of an endpoint return: what those of its tailer do, and that the queue is closed.
-use Rattle.std.specs.Prelude.{Bool, true, false, ◌≡◌, ◌≢◌, ◌⊎◌, ℕ, List, []}
+use Rattle.std.specs.Prelude.{Bool, true, false, ⊤, ◌≡◌, ◌≢◌, ◌⊎◌, ◌≤◌, ℕ, List, [], length}
 use Rattle.cq_endpoint.specs.Looks.{Looks}
 use Rattle.cq_endpoint.specs.declared.answers.Next.{Next}
 use Rattle.cq_endpoint.specs.declared.answers.Next.TheVariants as next
@@ -133,6 +133,29 @@ taken_into_outcome (taken_into.NoRoom len) = answered (take_into.NoRoom len)
 taken_into_outcome taken_into.NotYet = not_yet
 taken_into_outcome taken_into.Finished = finished
 taken_into_outcome (taken_into.Moved p) = answered (take_into.Moved p)
+
+-- a message that was read into a room is no longer than the room
+abbrev pub NextFits : List ℕ → NextInto → Type 0
+NextFits room (next_into.Message i len) = len ≤ length room
+NextFits room (next_into.NoRoom len) = ⊤
+NextFits room next_into.NotYet = ⊤
+NextFits room next_into.Finished = ⊤
+NextFits room next_into.BeforeStart = ⊤
+
+abbrev pub ReadFits : List ℕ → ReadAtInto → Type 0
+ReadFits room (read_at_into.Message len) = len ≤ length room
+ReadFits room (read_at_into.NoRoom len) = ⊤
+ReadFits room read_at_into.NotYet = ⊤
+ReadFits room read_at_into.Finished = ⊤
+ReadFits room read_at_into.Never = ⊤
+ReadFits room read_at_into.Gone = ⊤
+
+abbrev pub TakeFits : List ℕ → TakenInto → Type 0
+TakeFits room (taken_into.Taken i len) = len ≤ length room
+TakeFits room (taken_into.NoRoom len) = ⊤
+TakeFits room taken_into.NotYet = ⊤
+TakeFits room taken_into.Finished = ⊤
+TakeFits room (taken_into.Moved p) = ⊤
 
 -- a read of a tailer, without a room or into one
 abbrev pub OfNext : QueueFacts → Reader → Reader → Found → Type 0

@@ -1,7 +1,7 @@
 //! A tailer that found no message yet looks whether its queue is closed. If so it reads once more, since a message may
 //! have come before the queue was closed.
 ghost use Rattle.std.specs.Prelude.{[], IfErr, IfOk, IsOk, OnErr};
-ghost use Rattle.cq_endpoint.specs.Reads.{LooksAfter, OfAt, OfAtInto, OfMemory, OfNext, OfNextInto, OfTake, OfTakeInto, ReadsLast, TakeRefusedAgain, next_into_outcome, next_outcome, read_at_into_outcome, read_at_outcome, reader, taken_into_outcome, taken_outcome};
+ghost use Rattle.cq_endpoint.specs.Reads.{LooksAfter, NextFits, OfAt, OfAtInto, OfMemory, OfNext, OfNextInto, OfTake, OfTakeInto, ReadFits, ReadsLast, TakeFits, TakeRefusedAgain, next_into_outcome, next_outcome, read_at_into_outcome, read_at_outcome, reader, taken_into_outcome, taken_outcome};
 ghost use Rattle.cq_tail.specs.Names.{IsDeclared};
 ghost use Rattle.cq_words.specs.Values.{IsOf};
 
@@ -74,8 +74,9 @@ pub(crate) fn take_again(
 #[cold]
 pub(crate) fn next_into_again(tailer: &mut Tailer, queue: &Queue, room: &mut [u8]) -> NextInto
     requires { IsOf queue.now tailer.old.caller }
-    ensures { LooksAfter queue.now (OfNextInto queue.now) FoundInto.NotYet (reader tailer.old room.old)
+    ensures says { LooksAfter queue.now (OfNextInto queue.now) FoundInto.NotYet (reader tailer.old room.old)
         (reader tailer.new room.new) (next_into_outcome result) }
+    ensures fits { NextFits room.new result }
 {
     if !tailer.is_sealed(queue) {
         return NextInto::NotYet;
@@ -92,8 +93,9 @@ pub(crate) fn read_at_into_again(
     room: &mut [u8],
 ) -> ReadAtInto
     requires { IsOf queue.now tailer.old.caller }
-    ensures { LooksAfter queue.now (OfAtInto queue.now index) AtInto.NotYet (reader tailer.old room.old)
+    ensures says { LooksAfter queue.now (OfAtInto queue.now index) AtInto.NotYet (reader tailer.old room.old)
         (reader tailer.new room.new) (read_at_into_outcome result) }
+    ensures fits { ReadFits room.new result }
 {
     if !tailer.is_sealed(queue) {
         return ReadAtInto::NotYet;
@@ -113,6 +115,7 @@ pub(crate) fn take_into_again(
     requires named { IsDeclared queue.now name.now }
     ensures ok { IfOk result (λ taken. LooksAfter queue.now (OfTakeInto queue.now name.now) TakeInto.NotYet
         (reader tailer.old room.old) (reader tailer.new room.new) (taken_into_outcome taken)) }
+    ensures fits { IfOk result (λ taken. TakeFits room.new taken) }
     ensures err { IsOk result }
 {
     if !tailer.is_sealed(queue) {
