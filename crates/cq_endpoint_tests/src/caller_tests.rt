@@ -6,8 +6,8 @@ ghost use Rattle.cq_words.specs.Values.{IsOf};
 use crate::new_queues::{new_endpoint, two_endpoints};
 use cq_append::Appender;
 use cq_callers::{
-    append_beside, append_then_read, append_written, copied, count_to_end, drop_old, next_message,
-    read_in, reopened, sent, start, take_next, work_in_threads,
+    append_beside, append_then_read, append_written, copied, count_to_end, drop_old,
+    first_of_shelf, next_message, read_in, reopened, sent, start, take_next, work_in_threads,
 };
 use cq_cycle::Index;
 use cq_endpoint::Endpoint;
@@ -106,6 +106,16 @@ fn counted_of_two(alloc: Global) -> Result<u64, Fail> {
 #[test]
 fn messages_are_counted_to_the_end(rt: HostRuntime) -> Result<(), Fail> {
     expect_row(counted_of_two(rt.alloc())? == 2, 0)
+}
+
+#[test]
+fn a_message_of_a_shelf_is_read(rt: HostRuntime) -> Result<(), Fail> {
+    let alloc = rt.alloc();
+    let read = match first_of_shelf(alloc, small_config(alloc, 1)?, 0)? {
+        Some((position, message)) => Some((position.index, message)),
+        None => None,
+    };
+    expect_text(message_or_none(alloc, &read)?, "0 hello")
 }
 
 /// Whether two threads append and read, with an endpoint of a new queue each.
