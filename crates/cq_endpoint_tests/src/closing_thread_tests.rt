@@ -60,11 +60,11 @@ fn append_all(alloc: Global, endpoint: &mut Endpoint) -> Option<Vec<u64>> {
 fn read_all(alloc: Global, endpoint: &mut Endpoint) -> Option<Vec<u64>> {
     let mut indexes = Vec::new(alloc);
     for _ in 0..TURNS {
-        match endpoint.next(alloc) {
-            Ok(Next::Message(index, _message)) => indexes.push(index.value()).ok()?,
-            Ok(Next::NotYet) => yield_now(),
-            Ok(Next::Finished) => return Some(indexes),
-            Ok(Next::BeforeStart) | Err(_) => return None,
+        match endpoint.next(alloc).ok()? {
+            Next::Message(index, _message) => indexes.push(index.value()).ok()?,
+            Next::NotYet => yield_now(),
+            Next::Finished => return Some(indexes),
+            Next::BeforeStart => return None,
         }
     }
     None
@@ -74,11 +74,10 @@ fn read_all(alloc: Global, endpoint: &mut Endpoint) -> Option<Vec<u64>> {
 fn take_all(alloc: Global, endpoint: &mut Endpoint) -> Option<Vec<u64>> {
     let mut indexes = Vec::new(alloc);
     for _ in 0..TURNS {
-        match endpoint.take(alloc, "reader") {
-            Ok(Taken::Taken(index, _message)) => indexes.push(index.value()).ok()?,
-            Ok(Taken::NotYet | Taken::Moved(_)) => yield_now(),
-            Ok(Taken::Finished) => return Some(indexes),
-            Err(_) => return None,
+        match endpoint.take(alloc, "reader").ok()? {
+            Taken::Taken(index, _message) => indexes.push(index.value()).ok()?,
+            Taken::NotYet | Taken::Moved(_) => yield_now(),
+            Taken::Finished => return Some(indexes),
         }
     }
     None
