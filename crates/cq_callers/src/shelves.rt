@@ -1,6 +1,6 @@
 //! A shelf, for more messages than one queue holds.
 use cq_model::{Config, Message};
-use cq_shelf::{Position, ShelfFault, ShelfNext, ShelfWriter};
+use cq_shelf::{AtLimit, Position, ShelfFault, ShelfNext, ShelfWriter};
 use std::alloc::Global;
 
 /// Makes a shelf of which at most three queues live at once, appends a message, and reads it.
@@ -9,11 +9,11 @@ pub fn first_of_shelf(
     config: Config,
     moment: u64,
 ) -> Result<Option<(Position, Message)>, ShelfFault> {
-    let mut writer = ShelfWriter::create(alloc, config, 3, moment)?;
+    let mut writer = ShelfWriter::create(alloc, config, 3, AtLimit::Refuse, moment)?;
     let mut reader = writer.reader()?;
     writer.append(alloc, moment, b"hello")?;
     match reader.next(alloc)? {
         ShelfNext::Message(position, message) => Ok(Some((position, message))),
-        ShelfNext::NotYet => Ok(None),
+        _ => Ok(None),
     }
 }

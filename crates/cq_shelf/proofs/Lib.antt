@@ -1,1 +1,6 @@
-mod Shelves
+mod Follows
+mod Names
+mod Seeks
+mod Waits
+mod Ways
+mod Writes

@@ -1,11 +1,14 @@
 //! Why calls of a shelf are refused.
-use cq_endpoint::TakeFault;
+use cq_endpoint::{NoSuchName, TakeFault};
 use cq_shown::CreateError;
 use std::alloc::{AllocError, AllocFailed};
 
-/// Why nothing was appended or read.
+/// Why a call of a shelf was refused.
 #[derive(Clone, Copy, Debug, PartialEq, Eq, thiserror::Error)]
 pub enum ShelfFault {
+    /// The writer has begun a message, which has to be completed or rolled back first.
+    #[error("Writing")]
+    Writing,
     /// No message has this many bytes, or an empty queue of this shelf has no place for it.
     #[error("BadRoom")]
     BadRoom,
@@ -15,31 +18,26 @@ pub enum ShelfFault {
     /// Another endpoint is writing, or goes from one queue to the next at the same moment. Try again.
     #[error("Busy")]
     Busy,
-    /// As many queues live as may. The slowest writer, reader or taker has to go on first, or to be dropped.
+    /// As many queues live as may. The slowest writer, reader, taker or name has to go on first, or to be dropped.
     #[error("Full")]
     Full,
+    /// The shelf is closed: no message is appended any more.
+    #[error("Closed")]
+    Closed,
     /// A shelf has at least two queues.
     #[error("BadShelf")]
     BadShelf,
+    /// The queues of this shelf declare no such name.
+    #[error("NoSuchName")]
+    NoSuchName,
     /// Memory was refused.
     #[error("OutOfMemory")]
     OutOfMemory,
 }
 
-/// Why nothing was taken.
-#[derive(Clone, Copy, Debug, PartialEq, Eq, thiserror::Error)]
-pub enum ShelfTakeFault {
-    /// The queues of this shelf declare no such name.
-    #[error("NoSuchName")]
-    NoSuchName,
-    /// The shelf refused the call.
-    #[error("{0}")]
-    Shelf(ShelfFault),
-}
-
 impl From<AllocError> for ShelfFault {
     ghost use Rattle.std.specs.Prelude.{◌≡◌};
-    ghost use Rattle.cq_shelf.specs.declared.fault.ShelfFault.TheVariants.{OutOfMemory};
+    ghost use Rattle.cq_row.specs.declared.fault.ShelfFault.TheVariants.{OutOfMemory};
 
     ghost from_gives = { λ _ e. e ≡ OutOfMemory };
 
@@ -50,7 +48,7 @@ impl From<AllocError> for ShelfFault {
 
 impl<T: Drop> From<AllocFailed<T>> for ShelfFault {
     ghost use Rattle.std.specs.Prelude.{◌≡◌};
-    ghost use Rattle.cq_shelf.specs.declared.fault.ShelfFault.TheVariants.{OutOfMemory};
+    ghost use Rattle.cq_row.specs.declared.fault.ShelfFault.TheVariants.{OutOfMemory};
 
     ghost from_gives = { λ _ e. e ≡ OutOfMemory };
 
@@ -72,25 +70,27 @@ impl From<CreateError> for ShelfFault {
     }
 }
 
-impl From<TakeFault> for ShelfTakeFault {
-    ghost use Rattle.std.specs.Prelude.{⊤};
+impl From<TakeFault> for ShelfFault {
+    ghost use Rattle.std.specs.Prelude.{◌≡◌};
+    ghost use Rattle.cq_row.specs.Faults.{fault_of};
 
-    ghost from_gives = { λ _ e. ⊤ };
+    ghost from_gives = { λ fault e. e ≡ fault_of fault };
 
-    fn from(fault: TakeFault) -> ShelfTakeFault {
+    fn from(fault: TakeFault) -> ShelfFault {
         match fault {
-            TakeFault::NoSuchName => ShelfTakeFault::NoSuchName,
-            TakeFault::OutOfMemory => ShelfTakeFault::Shelf(ShelfFault::OutOfMemory),
+            TakeFault::NoSuchName => ShelfFault::NoSuchName,
+            TakeFault::OutOfMemory => ShelfFault::OutOfMemory,
         }
     }
 }
 
-impl From<ShelfFault> for ShelfTakeFault {
-    ghost use Rattle.std.specs.Prelude.{⊤};
+impl From<NoSuchName> for ShelfFault {
+    ghost use Rattle.std.specs.Prelude.{◌≡◌};
+    ghost use Rattle.cq_row.specs.declared.fault.ShelfFault.TheVariants.{NoSuchName as no_such_name};
 
-    ghost from_gives = { λ _ e. ⊤ };
+    ghost from_gives = { λ _ e. e ≡ no_such_name };
 
-    fn from(fault: ShelfFault) -> ShelfTakeFault {
-        ShelfTakeFault::Shelf(fault)
+    fn from(_error: NoSuchName) -> ShelfFault {
+        ShelfFault::NoSuchName
     }
 }

@@ -1,0 +1,42 @@
+-- How an endpoint goes from one queue of a shelf to another.
+use Rattle.std.specs.Prelude.{Bool, true, false, ◌≡◌, ℕ, ◌+◌, suc}
+use Rattle.cq_endpoint.specs.Endpoints.{EndpointFacts, endpoint_of}
+use Rattle.cq_row.specs.declared.place.Place.{Place}
+use Rattle.cq_row.specs.declared.place.Step.{Step}
+use Rattle.cq_row.specs.declared.place.Step.TheVariants as step
+use Rattle.cq_model.specs.declared.history.Answer.TheVariants.{Ends}
+use Rattle.cq_model.specs.declared.history.Event.TheVariants.{End}
+use Rattle.cq_tail.specs.Tailers.{Answered, TailerFacts}
+use Rattle.cq_tail.specs.declared.answers.Direction.TheVariants.{Backwards}
+use Rattle.cq_words.specs.Values.{CallerFacts}
+
+-- an endpoint that has made no call yet: it has begun no message, and reads forwards from the start
+pub record IsFresh (e : EndpointFacts) : Type 0 where
+  pub caller : CallerFacts
+  pub is : e ≡ endpoint_of e.queue caller
+
+-- a place is at the queue with this number, from its start
+pub record Enters (n : ℕ) (p : Place) : Type 0 where
+  pub number : p.number ≡ n
+  pub fresh : IsFresh p.endpoint
+
+-- where a step to the next queue led
+abbrev pub GoesOn : Place → Step → Place → Type 0
+GoesOn old step.Next new = Enters (suc old.number) new
+GoesOn old (step.Skipped n) new = Enters (suc old.number + n) new
+GoesOn old step.NotBegun new = new ≡ old
+GoesOn old step.Ended new = new ≡ old
+
+-- a place is at the queue with this number, at its end, and reads backwards from there
+pub record EntersEnd (n : ℕ) (p : Place) : Type 0 where
+  pub number : p.number ≡ n
+  pub begun : EndpointFacts
+  pub fresh : IsFresh begun
+  pub tailer : TailerFacts
+  pub says : Answered begun.queue begun.tailer tailer End (Ends tailer.cursor) tailer.cursor
+  pub is : p.endpoint ≡ record begun { tailer = record tailer { direction = Backwards } }
+
+-- where a step to the queue before led, if it led there
+abbrev pub GoesBack : Place → Bool → Place → Type 0
+GoesBack old false new = new ≡ old
+GoesBack old true new = (number : ℕ) × (old.number ≡ suc number) × EntersEnd number new

@@ -1,0 +1,79 @@
+-- How a writer leaves a queue.
+use Rattle.std.proofs.Common.{◌≡◌, ◌⊎◌, Err, MatchResult, Ok, Result, ℕ, inl, inr, refl, subst, sym}
+use Rattle.cq_endpoint.specs.Endpoints.{EndpointFacts}
+use Rattle.cq_endpoint.specs.declared.fault.AppendFault.{AppendFault}
+use Rattle.cq_endpoint.specs.declared.fault.AppendFault.TheVariants as unappended
+use Rattle.cq_layout.specs.declared.refusal.Refusal.{Refusal}
+use Rattle.cq_row.specs.Ways.{GoesOn}
+use Rattle.cq_row.specs.declared.fault.ShelfFault.{ShelfFault}
+use Rattle.cq_row.specs.declared.fault.ShelfFault.TheVariants.{Busy}
+use Rattle.cq_row.specs.declared.place.Place.{Place}
+use Rattle.cq_row.specs.declared.place.Step.{Step}
+use Rattle.cq_row.specs.declared.place.Step.TheVariants as step
+use Rattle.cq_shelf.specs.Ways.{Does, Passes, on}
+use Rattle.cq_shelf.specs.Writes.{Append, Leaves, LeavesEnd, LooksForEnd, Shuts, Stays, WriterMoves, Writes, WritesNot, not_on}
+
+module _ (old : Place) (e : EndpointFacts) (looks : LooksForEnd old.endpoint e) where
+  abbrev left : Place
+  left = record old { endpoint = e }
+
+  -- it looked for the end, and went on
+  pub leaves_on : (s : Step) (new : Place) → (s ≡ step.Next) ⊎ ((n : ℕ) × (s ≡ step.Skipped n)) → GoesOn left s new
+      → LeavesEnd old new
+  leaves_on s new (inl is) goes = record {
+    left = left;
+    looked = (refl, looks);
+    onto = record { over = 0; goes = inl (subst (λ (x : Step). GoesOn left x new) is goes) };
+  }
+  leaves_on s new (inr (n, is)) goes = record {
+    left = left;
+    looked = (refl, looks);
+    onto = record { over = n; goes = inr (subst (λ (x : Step). GoesOn left x new) is goes) };
+  }
+
+-- what going on from a closed queue says, after an append that found it closed
+pub after_closed : (old new : Place) (r : Result Unit ShelfFault)
+    → MatchResult r (λ _. LeavesEnd old new) (λ _. Does LooksForEnd old new)
+    → MatchResult r (λ _. Leaves unappended.Closed old new) (Stays unappended.Closed old new)
+after_closed old new (Ok u) says = record { left = says.left; leaves = says.looked; onto = says.onto }
+after_closed old new (Err e) says = not_on says
+
+-- and from one that was closed after a refusal
+pub after_refused : (refusal : Refusal) (old shut new : Place) (r : Result Unit ShelfFault) → Shuts old shut
+    → MatchResult r (λ _. LeavesEnd shut new) (λ _. Does LooksForEnd shut new)
+    → MatchResult r (λ _. Leaves (unappended.Refused refusal) old new) (Stays (unappended.Refused refusal) old new)
+after_refused refusal old shut new (Ok u) shuts says =
+    record { left = says.left; leaves = (shut, shuts, says.looked); onto = says.onto }
+after_refused refusal old shut new (Err e) shuts says = not_on (shut, shuts, says)
+
+module _ {A : Type 0} (append : Append A) (old p : Place) (e : EndpointFacts) (passed : Passes (WriterMoves append) old p) where
+  -- the endpoint appended
+  pub writes : (a : A) → append (Ok a) p.endpoint e → Writes append old (record p { endpoint = e }) a
+  writes a says = record { last = p; passed = passed; appended = (refl, says) }
+
+  module _ (f : AppendFault) (says : append (Err f) p.endpoint e) (new : Place) where
+    -- it was refused, and the writer went on
+    pub moves : Leaves f (record p { endpoint = e }) new → Passes (WriterMoves append) old new
+    moves goes = on p new passed (record {
+      refused = f;
+      after = record p { endpoint = e };
+      was_refused = (refl, says);
+      leaves = goes;
+    })
+
+    -- or stayed there
+    pub writes_not : (one two : ShelfFault) → one ≡ two → Stays f (record p { endpoint = e }) new two → WritesNot append old new one
+    writes_not one two is stayed = record {
+      last = p;
+      passed = passed;
+      fails = inl (record {
+        refused = f;
+        after = record p { endpoint = e };
+        was_refused = (refl, says);
+        stays_there = subst (Stays f (record p { endpoint = e }) new) (sym is) stayed;
+      });
+    }
+
+-- it went over as many queues as one call does
+pub tires : {A : Type 0} (append : Append A) (old p : Place) → Passes (WriterMoves append) old p → WritesNot append old p Busy
+tires append old p passed = record { last = p; passed = passed; fails = inr (refl, refl) }

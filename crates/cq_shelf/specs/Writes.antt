@@ -1,0 +1,181 @@
+-- What appends of a shelf return: a writer leaves each queue that has no place for its message, once that is closed.
+use Rattle.std.specs.Prelude.{◌≡◌, ◌≢◌, ◌⊎◌, ⊤, ℕ, List, Result, Ok, Err}
+use Rattle.cq_endpoint.specs.Closes.{Closes}
+use Rattle.cq_endpoint.specs.Endpoints.{ChangesTailer, ChangesWork, EndpointFacts, child, split_once}
+use Rattle.cq_endpoint.specs.Works.{Advances, Appends, BeginsMessage, CompletesMessage, GivesUp, PutsBytes}
+use Rattle.cq_endpoint.specs.declared.fault.AppendFault.{AppendFault}
+use Rattle.cq_endpoint.specs.declared.fault.AppendFault.TheVariants as unappended
+use Rattle.cq_endpoint.specs.declared.fault.CloseFault.{CloseFault}
+use Rattle.cq_endpoint.specs.declared.fault.CloseFault.TheVariants as unclosed
+use Rattle.cq_endpoint.specs.declared.fault.CompleteFault.{CompleteFault}
+use Rattle.cq_endpoint.specs.declared.fault.NotWriting.{NotWriting}
+use Rattle.cq_endpoint.specs.declared.fault.PutFault.{PutFault}
+use Rattle.cq_layout.specs.declared.refusal.Refusal.TheVariants as refusal
+use Rattle.cq_model.specs.declared.history.Answer.TheVariants.{Ends}
+use Rattle.cq_model.specs.declared.history.Event.TheVariants.{End}
+use Rattle.cq_row.specs.Ways.{GoesOn}
+use Rattle.cq_row.specs.declared.fault.ShelfFault.{ShelfFault}
+use Rattle.cq_row.specs.declared.fault.ShelfFault.TheVariants as fault
+use Rattle.cq_row.specs.declared.place.Place.{Place}
+use Rattle.cq_row.specs.declared.place.Position.{Position}
+use Rattle.cq_row.specs.declared.place.Step.TheVariants as step
+use Rattle.cq_shelf.specs.Seeks.{Goes}
+use Rattle.cq_shelf.specs.Ways.{Does, Passes}
+use Rattle.cq_tail.specs.Tailers.{Answered}
+
+-- what one call of an endpoint that appends does where it returns this
+abbrev pub Append : Type 0 → Type 1
+Append A = Result A AppendFault → EndpointFacts → EndpointFacts → Type 0
+
+-- an append of a message, the begin of one, and the begin of a cycle
+abbrev pub appends : ℕ → List ℕ → Append ℕ
+appends moment m said e f = Appends e.queue e.work moment m f.work said × ChangesWork e f
+
+abbrev pub begins : ℕ → ℕ → Append Unit
+begins moment room said e f = BeginsMessage e.queue e.work moment room f.work said × ChangesWork e f
+
+abbrev pub advances : ℕ → Append ℕ
+advances moment said e f = Advances e.queue e.work moment f.work said × ChangesWork e f
+
+-- a close of the queue
+abbrev pub closes : Result Unit CloseFault → EndpointFacts → EndpointFacts → Type 0
+closes said e f = Closes e.queue e.work (child e.parent) f.work said
+    × (said ≡ Err unclosed.Writing → f ≡ e)
+    × (said ≢ Err unclosed.Writing → f ≡ record e { work = f.work; parent = split_once e.parent })
+
+-- by which the queue is known to be closed
+abbrev pub IsClosed : Result Unit CloseFault → Type 0
+IsClosed (Ok u) = ⊤
+IsClosed (Err unclosed.Closed) = ⊤
+IsClosed (Err unclosed.Writing) = ⊥
+IsClosed (Err (unclosed.Refused r)) = ⊥
+
+-- the queue was closed, or found closed
+pub record Shuts (old new : Place) : Type 0 where
+  pub said : Result Unit CloseFault
+  pub closes_it : Does (closes said) old new
+  pub is_closed : IsClosed said
+
+-- it could not be closed
+pub record ShutsNot (old new : Place) : Type 0 where
+  pub said : Result Unit CloseFault
+  pub tries : Does (closes said) old new
+
+-- the endpoint looked for the end of its queue
+pub record LooksForEnd (e f : EndpointFacts) : Type 0 where
+  pub end : ℕ
+  pub says : Answered e.queue e.tailer f.tailer End (Ends end) end
+  pub rest : ChangesTailer e f
+
+-- it went to the next queue, or to a later one where queues were dropped
+pub record Onto (left new : Place) : Type 0 where
+  pub over : ℕ
+  pub goes : GoesOn left step.Next new ⊎ GoesOn left (step.Skipped over) new
+
+-- the end of the queue was looked for, and then the writer went on
+pub record LeavesEnd (old new : Place) : Type 0 where
+  pub left : Place
+  pub looked : Does LooksForEnd old left
+  pub onto : Onto left new
+
+-- after this refusal the queue was closed, or known to be, and its end was looked for
+abbrev pub IsLeft : AppendFault → Place → Place → Type 0
+IsLeft unappended.Writing old left = ⊥
+IsLeft unappended.Closed old left = Does LooksForEnd old left
+IsLeft (unappended.Refused r) old left = (shut : Place) × Shuts old shut × Does LooksForEnd shut left
+
+-- and then the writer went on
+pub record Leaves (refused : AppendFault) (old new : Place) : Type 0 where
+  pub left : Place
+  pub leaves : IsLeft refused old left
+  pub onto : Onto left new
+
+-- which fault it is where nothing more was done: an empty queue has no place for the message after the last two refusals
+abbrev pub IsFault : AppendFault → ShelfFault → Type 0
+IsFault unappended.Writing e = e ≡ fault.Writing
+IsFault unappended.Closed e = e ≡ fault.BadRoom
+IsFault (unappended.Refused refusal.BadRoom) e = e ≡ fault.BadRoom
+IsFault (unappended.Refused refusal.BadMoment) e = e ≡ fault.BadMoment
+IsFault (unappended.Refused refusal.Busy) e = e ≡ fault.Busy
+IsFault (unappended.Refused refusal.NoCycleLeft) e = e ≡ fault.BadRoom
+IsFault (unappended.Refused refusal.CycleFull) e = e ≡ fault.BadRoom
+
+-- why the writer stayed after this refusal
+pub data Stays (refused : AppendFault) (old new : Place) (e : ShelfFault) : Type 0 where
+  at_once : new ≡ old → IsFault refused e → Stays refused old new e
+  not_shut : ShutsNot old new → Stays refused old new e
+  not_on : IsLeft refused old new → Stays refused old new e
+
+-- a writer was refused in a queue, left it and went on
+pub record WriterMoves {A : Type 0} (append : Append A) (old new : Place) : Type 0 where
+  pub refused : AppendFault
+  pub after : Place
+  pub was_refused : Does (append (Err refused)) old after
+  pub leaves : Leaves refused after new
+
+-- it was refused in a queue, and stayed there
+pub record WriterStays {A : Type 0} (append : Append A) (old new : Place) (e : ShelfFault) : Type 0 where
+  pub refused : AppendFault
+  pub after : Place
+  pub was_refused : Does (append (Err refused)) old after
+  pub stays_there : Stays refused after new e
+
+-- what a call says that appends: it left queue by queue, and in the last one it did this
+pub record Writes {A : Type 0} (append : Append A) (old new : Place) (a : A) : Type 0 where
+  pub last : Place
+  pub passed : Passes (WriterMoves append) old last
+  pub appended : Does (append (Ok a)) last new
+
+-- and what it says where it failed: nothing was appended, in no queue
+pub record WritesNot {A : Type 0} (append : Append A) (old new : Place) (e : ShelfFault) : Type 0 where
+  pub last : Place
+  pub passed : Passes (WriterMoves append) old last
+  pub fails : WriterStays append last new e ⊎ ((new ≡ last) × (e ≡ fault.Busy))
+
+-- what `append` says
+abbrev pub AppendsOn : ℕ → List ℕ → Place → Place → Result Position ShelfFault → Type 0
+AppendsOn moment m old new (Ok at) = (at.queue ≡ new.number) × Writes (appends moment m) old new at.index
+AppendsOn moment m old new (Err e) = WritesNot (appends moment m) old new e
+
+-- what `begin` says
+abbrev pub BeginsOn : ℕ → ℕ → Place → Place → Result Unit ShelfFault → Type 0
+BeginsOn moment room old new (Ok u) = Writes (begins moment room) old new u
+BeginsOn moment room old new (Err e) = WritesNot (begins moment room) old new e
+
+-- what `put` says, `complete` and `roll_back`: what the endpoint does there
+abbrev pub PutsOn : List ℕ → Place → Place → Result Unit PutFault → Type 0
+PutsOn bytes old new said = Does (λ e f. PutsBytes e.queue e.work bytes f.work said × ChangesWork e f) old new
+
+abbrev pub Completes : Result ℕ CompleteFault → EndpointFacts → EndpointFacts → Type 0
+Completes said e f = CompletesMessage e.queue e.work f.work said × ChangesWork e f
+
+abbrev pub CompletesOn : Place → Place → Result Position CompleteFault → Type 0
+CompletesOn old new (Ok at) = (at.queue ≡ new.number) × Does (Completes (Ok at.index)) old new
+CompletesOn old new (Err e) = Does (Completes (Err e)) old new
+
+abbrev pub GivesUpOn : Place → Place → Result Unit NotWriting → Type 0
+GivesUpOn old new said = Does (λ e f. GivesUp e.queue e.work f.work said × ChangesWork e f) old new
+
+-- a writer closed its queue, or found it closed, and went on, or stayed
+pub record Follows (old new : Place) : Type 0 where
+  pub shut : Place
+  pub shuts : Shuts old shut
+  pub goes : Goes shut new
+
+-- it came so far, and then could not close its queue, or could not go on
+pub record FollowsNot (old new : Place) : Type 0 where
+  pub last : Place
+  pub passed : Passes Follows old last
+  pub stays_there : (new ≡ last) ⊎ ShutsNot last new ⊎ Shuts last new
+
+-- it came to the last queue, and closed it, or found it closed
+pub record ClosesLast (old new : Place) : Type 0 where
+  pub last : Place
+  pub passed : Passes Follows old last
+  pub shuts : Shuts last new
+
+-- what `advance` says: first it follows the others to the last queue
+abbrev pub AdvancesOn : ℕ → Place → Place → Result ℕ ShelfFault → Type 0
+AdvancesOn moment old new (Ok cycle) = (last : Place) × Passes Follows old last × Writes (advances moment) last new cycle
+AdvancesOn moment old new (Err e) =
+    FollowsNot old new ⊎ ((last : Place) × Passes Follows old last × WritesNot (advances moment) last new e)
