@@ -8,6 +8,7 @@ use crate::random::print_random_reads;
 use crate::reading::Reading;
 use crate::saving::{print_reopen, print_save};
 use crate::settings::Settings;
+use crate::shelves::{Measured, print_shelves};
 use std::rt::Clock;
 use std::thread::Threads;
 
@@ -36,10 +37,14 @@ pub enum Case {
     Save,
     /// A queue is opened again from an image, and read.
     Reopen,
+    /// Messages are appended over many queues, with a shelf and without.
+    ShelfAppend,
+    /// They are read.
+    ShelfRead,
 }
 
 /// The name of each case, and what it measures.
-pub static CASES: [(&str, Case, &str); 11] = [
+pub static CASES: [(&str, Case, &str); 13] = [
     ("append", Case::Append, "1, 2 and 4 appenders fill a cycle"),
     (
         "append_by_call",
@@ -55,6 +60,12 @@ pub static CASES: [(&str, Case, &str); 11] = [
     ("cold_append", Case::ColdAppend, "the same by new appenders"),
     ("save", Case::Save, "append all, stop, recover, image"),
     ("reopen", Case::Reopen, "image read, reopen, read all"),
+    (
+        "shelf_append",
+        Case::ShelfAppend,
+        "appends over many queues",
+    ),
+    ("shelf_read", Case::ShelfRead, "reads of these"),
 ];
 
 const LENGTHS: [u32; 5] = [8, 64, 256, 1024, 4096];
@@ -140,5 +151,7 @@ pub fn print_case<R: AllocGlobal + Clock + Print + Threads + Sync>(
         Case::ColdAppend => print_growth(rt, settings, Growth::Cold),
         Case::Save => print_save(rt, settings),
         Case::Reopen => print_reopen(rt, settings),
+        Case::ShelfAppend => print_shelves(rt, settings, Measured::Appends),
+        Case::ShelfRead => print_shelves(rt, settings, Measured::Reads),
     }
 }

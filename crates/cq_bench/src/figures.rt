@@ -48,6 +48,23 @@ impl fmt::Display for Figure {
     }
 }
 
+/// The best of several figures, and the middle one.
+#[derive(Clone, Copy)]
+pub struct Spread {
+    pub best: Figure,
+    pub middle: Figure,
+}
+
+impl Spread {
+    /// Returns how many times the best and the middle of others these are.
+    pub fn times(self, other: Spread) -> Spread {
+        Spread {
+            best: self.best.times(other.best),
+            middle: self.middle.times(other.middle),
+        }
+    }
+}
+
 /// What is measured: its case, the bytes of a message, and the threads.
 #[derive(Clone, Copy)]
 pub struct Label<'a> {
@@ -56,10 +73,12 @@ pub struct Label<'a> {
     pub threads: &'a str,
 }
 
-/// A figure as a field of a line. In a trial, which only tries whether the case runs, it is nothing.
+/// A figure as a field of a line, and the middle one of several as another field. In a trial, which only tries whether the
+/// case runs, it is nothing.
 #[derive(Clone, Copy)]
 struct Value {
     figure: Figure,
+    middle: Option<Figure>,
     is_trial: bool,
 }
 
@@ -68,7 +87,11 @@ impl fmt::Display for Value {
         if self.is_trial {
             return Ok(());
         }
-        write!(f, "\"value\":{},", self.figure)
+        write!(f, "\"value\":{},", self.figure)?;
+        match self.middle {
+            Some(middle) => write!(f, "\"middle\":{middle},"),
+            None => Ok(()),
+        }
     }
 }
 
@@ -80,15 +103,36 @@ pub fn print_line<R: Print>(
     figure: Figure,
     unit: &str,
 ) -> Result<(), BenchFault> {
+    let value = Value {
+        figure,
+        middle: None,
+        is_trial: settings.is_trial,
+    };
+    print_value(rt, label, value, unit)
+}
+
+/// Prints the line of the best of several figures and the middle one.
+pub fn print_spread<R: Print>(
+    rt: &R,
+    settings: &Settings,
+    label: Label,
+    spread: Spread,
+    unit: &str,
+) -> Result<(), BenchFault> {
+    let value = Value {
+        figure: spread.best,
+        middle: Some(spread.middle),
+        is_trial: settings.is_trial,
+    };
+    print_value(rt, label, value, unit)
+}
+
+fn print_value<R: Print>(rt: &R, label: Label, value: Value, unit: &str) -> Result<(), BenchFault> {
     let Label {
         case,
         payload,
         threads,
     } = label;
-    let value = Value {
-        figure,
-        is_trial: settings.is_trial,
-    };
     match println!(rt;
         "{{\"impl\":\"cq\",\"case\":\"{case}\",\"payload\":{payload},\"threads\":\"{threads}\",{value}\"unit\":\"{unit}\"}}"
     ) {

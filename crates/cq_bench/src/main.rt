@@ -1,6 +1,6 @@
 //! Measures a queue: prints a line of JSON for each figure on standard output.
 //!
-//! The arguments say which cases to measure, or `all`. Without an argument it prints the list of cases. The exit
+//! Each argument is a case, `all`, `soak` or `trial`. Without an argument it prints the list of these. The exit
 //! status is:
 //!
 //! - 0: all was measured.
@@ -23,10 +23,15 @@ mod reading;
 mod running;
 mod saving;
 mod settings;
+mod shelves;
+mod soak;
+mod tally;
+mod workers;
 
 use crate::cases::{CASES, case_of, print_all, print_case};
 use crate::fault::BenchFault;
 use crate::settings::Settings;
+use crate::soak::print_soak;
 use std::process::ExitCode;
 use std::rt::{Clock, Env};
 use std::thread::Threads;
@@ -43,6 +48,9 @@ const NOT_UNDERSTOOD: u8 = 2;
 
 /// The argument for all cases.
 const ALL: &str = "all";
+
+/// The argument for a soak of a shelf.
+const SOAK: &str = "soak";
 
 /// The argument for a short run of all cases over small queues, without figures.
 const TRIAL: &str = "trial";
@@ -93,7 +101,7 @@ fn words<R: AllocGlobal + Env>(rt: &R) -> io::Result<Vec<String>> {
 
 /// Whether an argument is understood.
 fn is_known(word: &str) -> bool {
-    word == ALL || word == TRIAL || case_of(word).is_some()
+    word == ALL || word == SOAK || word == TRIAL || case_of(word).is_some()
 }
 
 /// Measures what each argument says. If there is none, prints the list of cases.
@@ -118,10 +126,22 @@ where
     if word == ALL {
         return print_all(rt, settings);
     }
+    if word == SOAK {
+        return print_soak(rt, settings);
+    }
     match case_of(word) {
         Some(case) => print_case(rt, settings, case),
-        None => print_all(rt, &Settings::of_trial()?),
+        None => print_trial(rt, &Settings::of_trial()?),
     }
+}
+
+/// Tries all cases and a soak.
+fn print_trial<R>(rt: &R, settings: &Settings) -> Result<(), BenchFault>
+where
+    R: AllocGlobal + Clock + Print + Threads + Sync,
+{
+    print_all(rt, settings)?;
+    print_soak(rt, settings)
 }
 
 /// Prints the arguments that there are.
@@ -130,6 +150,7 @@ fn print_help<R: Print>(rt: &R) -> Result<(), BenchFault> {
         print_meaning(rt, word, what)?;
     }
     print_meaning(rt, ALL, "all of these")?;
+    print_meaning(rt, SOAK, "a shelf at full speed, for CQ_SECONDS")?;
     print_meaning(rt, TRIAL, "all of these over small queues, without figures")
 }
 

@@ -17,6 +17,18 @@ use cq_words::{Caller, Queue};
 use std::alloc::{AllocError, Global};
 use std::sync::Arc;
 
+/// How many times the cells of a queue of a shelf a large queue has.
+const TIMES_AS_LARGE: u32 = 16;
+
+/// Returns the shape of the queues of a shelf that is compared with a large queue of this shape.
+pub fn shelf_shape(large: Shape) -> Result<Shape, BenchFault> {
+    let cells = large.cells() / TIMES_AS_LARGE;
+    match Shape::new(cells, large.index_count(), large.index_spacing()) {
+        Ok(shape) => Ok(shape),
+        Err(_) => Err(BenchFault::NoQueue),
+    }
+}
+
 /// Makes the settings of a queue with one cycle of this shape, which lasts a day.
 pub fn config_of(alloc: Global, shape: Shape) -> Result<Config, BenchFault> {
     match Config::new(shape, 1, Roll::Daily, 0, Vec::new(alloc)) {

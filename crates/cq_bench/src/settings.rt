@@ -17,6 +17,8 @@ pub struct Settings {
     pub repetitions: u32,
     /// How long random reads last at least.
     pub reading_time: Duration,
+    /// How long a soak lasts.
+    pub soak_time: Duration,
     /// Whether it is only tried that each case runs: no figure is printed.
     pub is_trial: bool,
 }
@@ -30,11 +32,14 @@ pub enum SettingFault {
     /// The repetitions are no number from 1 to 1,000.
     #[error("REPS is no number from 1 to 1000")]
     BadRepetitions,
+    /// The seconds are no number from 1 to 1,000,000.
+    #[error("CQ_SECONDS is no number from 1 to 1000000")]
+    BadSeconds,
 }
 
 impl Settings {
     /// Reads the settings from the environment. `CQ_SHAPE` has the cells of a cycle, the entries of a table and the
-    /// spacing; `REPS` says how often each case is measured.
+    /// spacing; `REPS` says how often each case is measured, and `CQ_SECONDS` how long a soak lasts.
     pub fn of_environment<R: AllocGlobal + Env>(rt: &R) -> Result<Settings, SettingFault> {
         let Some(shape) = variable(rt, "CQ_SHAPE", SHAPE).and_then(|text| shape_of(text.as_str()))
         else {
@@ -45,10 +50,16 @@ impl Settings {
         )) else {
             return Err(SettingFault::BadRepetitions);
         };
+        let Some(seconds) = variable(rt, "CQ_SECONDS", "600").and_then(|text| seconds_of(
+            text.as_str(),
+        )) else {
+            return Err(SettingFault::BadSeconds);
+        };
         Ok(Settings {
             shape,
             repetitions,
             reading_time: Duration::from_millis(300),
+            soak_time: Duration::from_secs(u64::from(seconds)),
             is_trial: false,
         })
     }
@@ -62,6 +73,7 @@ impl Settings {
             shape,
             repetitions: 1,
             reading_time: Duration::ZERO,
+            soak_time: Duration::ZERO,
             is_trial: true,
         })
     }
@@ -100,4 +112,8 @@ fn number_of(text: Option<&str>) -> Option<u32> {
 
 fn repetitions_of(text: &str) -> Option<u32> {
     number_of(Some(text)).filter(|count| 1 <= *count && *count <= 1000)
+}
+
+fn seconds_of(text: &str) -> Option<u32> {
+    number_of(Some(text)).filter(|count| 1 <= *count && *count <= 1_000_000)
 }

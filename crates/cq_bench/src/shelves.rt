@@ -1,0 +1,386 @@
+//! Messages over many queues: on a shelf, over queues one after the other, and over large queues.
+//!
+//! One thread appends as many messages as a queue of the shelf certainly holds, reads them into a buffer, and goes on so.
+//! Appends and reads are timed apart. So in each way what is read was appended just before, by the same thread.
+use crate::appending::MOMENT;
+use crate::fault::BenchFault;
+use crate::figures::{Figure, Label, Spread, print_spread};
+use crate::queues::{config_of, message_count, shelf_shape};
+use crate::running::now;
+use crate::settings::Settings;
+use cq_endpoint::{Endpoint, NextInto};
+use cq_layout::Shape;
+use cq_shelf::{AtLimit, ShelfNextInto, ShelfReader, ShelfWriter};
+use std::alloc::{AllocError, Global};
+use std::rt::Clock;
+use std::time::{Duration, Instant};
+
+/// How many large queues are filled.
+const LARGE_QUEUES: u32 = 4;
+
+/// How many queues of the shelf may live at once.
+const PLACES: u32 = 3;
+
+/// The bytes of messages that are measured.
+const LENGTHS: [u32; 3] = [8, 64, 256];
+
+/// What is measured.
+#[derive(Clone, Copy)]
+pub enum Measured {
+    /// Appends, and the making of queues with them.
+    Appends,
+    /// Reads, and the freeing of queues with them.
+    Reads,
+}
+
+impl Measured {
+    /// The names in the lines: of the shelf, of queues one after the other, of large queues, of large queues that were
+    /// made before and are freed after, and of the shelf's shares of the speeds of the last two.
+    fn names(self) -> [&'static str; 6] {
+        match self {
+            Measured::Appends => [
+                "shelf_append",
+                "shelf_append_queues",
+                "shelf_append_large",
+                "shelf_append_made",
+                "shelf_append_of_large",
+                "shelf_append_of_made",
+            ],
+            Measured::Reads => [
+                "shelf_read",
+                "shelf_read_queues",
+                "shelf_read_large",
+                "shelf_read_made",
+                "shelf_read_of_large",
+                "shelf_read_of_made",
+            ],
+        }
+    }
+}
+
+/// How long each part took so far.
+#[derive(Clone, Copy)]
+struct Times {
+    making: Duration,
+    appends: Duration,
+    reads: Duration,
+    freeing: Duration,
+}
+
+impl Times {
+    /// Nothing was done yet.
+    const ZERO: Times = Times {
+        making: Duration::ZERO,
+        appends: Duration::ZERO,
+        reads: Duration::ZERO,
+        freeing: Duration::ZERO,
+    };
+
+    /// Adds the making of a queue between these moments.
+    fn add_making(&mut self, start: Instant, end: Instant) {
+        self.making = self.making.saturating_add(end.duration_since(start));
+    }
+
+    /// Adds appends between the first two of these moments, and reads between the last two.
+    fn add_calls(&mut self, start: Instant, middle: Instant, end: Instant) {
+        self.appends = self.appends.saturating_add(middle.duration_since(start));
+        self.reads = self.reads.saturating_add(end.duration_since(middle));
+    }
+
+    /// Adds the freeing of a queue between these moments.
+    fn add_freeing(&mut self, start: Instant, end: Instant) {
+        self.freeing = self.freeing.saturating_add(end.duration_since(start));
+    }
+
+    /// The time of all that is measured.
+    fn whole(self, measured: Measured) -> Duration {
+        match measured {
+            Measured::Appends => self.making.saturating_add(self.appends),
+            Measured::Reads => self.reads.saturating_add(self.freeing),
+        }
+    }
+
+    /// The time of the calls alone.
+    fn calls(self, measured: Measured) -> Duration {
+        match measured {
+            Measured::Appends => self.appends,
+            Measured::Reads => self.reads,
+        }
+    }
+}
+
+/// What is appended and read before the clock is read again.
+#[derive(Drop)]
+struct Load {
+    count: u32,
+    /// A message.
+    bytes: Vec<u8>,
+}
+
+/// Queues without a shelf, one after the other.
+#[derive(Clone, Copy)]
+struct Queues {
+    shape: Shape,
+    count: u32,
+    /// How many loads each of them takes.
+    loads: u32,
+}
+
+/// What is compared.
+#[derive(Drop)]
+struct Plan {
+    load: Load,
+    /// Queues that take one load each. Those of the shelf have the same shape.
+    small: Queues,
+    large: Queues,
+}
+
+impl Plan {
+    /// The plan for messages of this length, in bytes, over large queues of this shape.
+    fn new(alloc: Global, large: Shape, length: u32) -> Result<Plan, BenchFault> {
+        let small = shelf_shape(large)?;
+        let count = message_count(small, length);
+        if count == 0 {
+            return Err(BenchFault::NoRoom);
+        }
+        let loads = message_count(large, length) / count;
+        Ok(Plan {
+            load: Load {
+                count,
+                bytes: Vec::from_elem(alloc, b'x', length as usize)?,
+            },
+            small: Queues {
+                shape: small,
+                count: loads.saturating_mul(LARGE_QUEUES),
+                loads: 1,
+            },
+            large: Queues {
+                shape: large,
+                count: LARGE_QUEUES,
+                loads,
+            },
+        })
+    }
+
+    /// How many messages are appended in all.
+    fn all(&self) -> u64 {
+        u64::from(self.load.count) * u64::from(self.small.count)
+    }
+}
+
+/// Appends a load to a queue.
+fn append_to_queue(writer: &mut Endpoint, load: &Load) -> Result<(), BenchFault> {
+    let bytes = load.bytes.as_slice();
+    for _ in 0..load.count {
+        writer.append(MOMENT, bytes)?;
+    }
+    Ok(())
+}
+
+/// Reads this many messages of a queue.
+fn read_from_queue(reader: &mut Endpoint, room: &mut [u8], count: u32) -> Result<(), BenchFault> {
+    for _ in 0..count {
+        match reader.next_into(room) {
+            NextInto::Message(_index, _len) => {}
+            _ => return Err(BenchFault::Missing),
+        }
+    }
+    Ok(())
+}
+
+/// Appends a load to a shelf.
+fn append_to_shelf(alloc: Global, writer: &mut ShelfWriter, load: &Load) -> Result<(), BenchFault> {
+    let bytes = load.bytes.as_slice();
+    for _ in 0..load.count {
+        writer.append(alloc, MOMENT, bytes)?;
+    }
+    Ok(())
+}
+
+/// Reads this many messages of a shelf.
+fn read_from_shelf(
+    reader: &mut ShelfReader,
+    room: &mut [u8],
+    count: u32,
+) -> Result<(), BenchFault> {
+    for _ in 0..count {
+        match reader.next_into(room)? {
+            ShelfNextInto::Message(_at, _len) => {}
+            _ => return Err(BenchFault::Missing),
+        }
+    }
+    Ok(())
+}
+
+/// Measures a shelf. Its later queues are made by appends, and freed by reads.
+fn shelf_times<R: AllocGlobal + Clock>(
+    rt: &R,
+    plan: &Plan,
+    room: &mut [u8],
+) -> Result<Times, BenchFault> {
+    let mut times = Times::ZERO;
+    let start = now(rt)?;
+    let config = config_of(rt.alloc(), plan.small.shape)?;
+    let mut writer = ShelfWriter::create(rt.alloc(), config, PLACES, AtLimit::Refuse, MOMENT)?;
+    let mut reader = writer.reader()?;
+    times.add_making(start, now(rt)?);
+    for _ in 0..plan.small.count {
+        let start = now(rt)?;
+        append_to_shelf(rt.alloc(), &mut writer, &plan.load)?;
+        let middle = now(rt)?;
+        read_from_shelf(&mut reader, room, plan.load.count)?;
+        times.add_calls(start, middle, now(rt)?);
+    }
+    let start = now(rt)?;
+    drop(writer);
+    drop(reader);
+    times.add_freeing(start, now(rt)?);
+    Ok(times)
+}
+
+/// Measures queues without a shelf. Each is made once the one before it was freed.
+fn queues_times<R: AllocGlobal + Clock>(
+    rt: &R,
+    queues: Queues,
+    load: &Load,
+    room: &mut [u8],
+) -> Result<Times, BenchFault> {
+    let mut times = Times::ZERO;
+    for _ in 0..queues.count {
+        let start = now(rt)?;
+        let config = config_of(rt.alloc(), queues.shape)?;
+        let mut writer = Endpoint::create(rt.alloc(), config, MOMENT)?;
+        let mut reader = writer.split()?;
+        times.add_making(start, now(rt)?);
+        for _ in 0..queues.loads {
+            let start = now(rt)?;
+            append_to_queue(&mut writer, load)?;
+            let middle = now(rt)?;
+            read_from_queue(&mut reader, room, load.count)?;
+            times.add_calls(start, middle, now(rt)?);
+        }
+        let start = now(rt)?;
+        drop(writer);
+        drop(reader);
+        times.add_freeing(start, now(rt)?);
+    }
+    Ok(times)
+}
+
+/// The times of one way, in all repetitions.
+#[derive(Drop)]
+struct Turns {
+    times: Vec<Duration>,
+}
+
+impl Turns {
+    /// No time was measured yet.
+    fn new(alloc: Global) -> Turns {
+        Turns {
+            times: Vec::new(alloc),
+        }
+    }
+
+    fn push(&mut self, time: Duration) -> Result<(), AllocError> {
+        Ok(self.times.push(time)?)
+    }
+
+    /// The best rate and the middle one, if this many messages took each of the times.
+    fn spread(mut self, count: u64) -> Result<Spread, BenchFault> {
+        self.times.sort_unstable();
+        let times = self.times.as_slice();
+        match (times.first(), times.get(times.len() / 2)) {
+            (Some(best), Some(middle)) => Ok(Spread {
+                best: Figure::rate(count, *best),
+                middle: Figure::rate(count, *middle),
+            }),
+            (_, _) => Err(BenchFault::Missing),
+        }
+    }
+}
+
+/// The best and the middle rate of each way.
+#[derive(Clone, Copy)]
+struct Rates {
+    shelf: Spread,
+    queues: Spread,
+    large: Spread,
+    /// Those of large queues that were made before, and are freed after.
+    made: Spread,
+}
+
+/// Measures each way in turn.
+fn rates_of<R: AllocGlobal + Clock>(
+    rt: &R,
+    repetitions: u32,
+    measured: Measured,
+    plan: &Plan,
+) -> Result<Rates, BenchFault> {
+    let mut room = Vec::from_elem(rt.alloc(), 0u8, plan.load.bytes.len())?;
+    let mut shelf = Turns::new(rt.alloc());
+    let mut queues = Turns::new(rt.alloc());
+    let mut large = Turns::new(rt.alloc());
+    let mut made = Turns::new(rt.alloc());
+    for _ in 0..repetitions {
+        let room = room.as_mut_slice();
+        shelf.push(shelf_times(rt, plan, room)?.whole(measured))?;
+        queues.push(queues_times(rt, plan.small, &plan.load, room)?.whole(measured))?;
+        let times = queues_times(rt, plan.large, &plan.load, room)?;
+        large.push(times.whole(measured))?;
+        made.push(times.calls(measured))?;
+    }
+    let all = plan.all();
+    Ok(Rates {
+        shelf: shelf.spread(all)?,
+        queues: queues.spread(all)?,
+        large: large.spread(all)?,
+        made: made.spread(all)?,
+    })
+}
+
+/// Prints the lines of messages of this length.
+fn print_rates<R: Print>(
+    rt: &R,
+    settings: &Settings,
+    measured: Measured,
+    length: u32,
+    rates: Rates,
+) -> Result<(), BenchFault> {
+    let Rates {
+        shelf,
+        queues,
+        large,
+        made,
+    } = rates;
+    let spreads = [
+        (shelf, "msg/s"),
+        (queues, "msg/s"),
+        (large, "msg/s"),
+        (made, "msg/s"),
+        (shelf.times(large), "ratio"),
+        (shelf.times(made), "ratio"),
+    ];
+    for (case, (spread, unit)) in measured.names().iter().zip(spreads.iter()) {
+        let label = Label {
+            case: *case,
+            payload: length,
+            threads: "1",
+        };
+        print_spread(rt, settings, label, *spread, *unit)?;
+    }
+    Ok(())
+}
+
+/// Measures appends or reads of messages of each length.
+pub fn print_shelves<R: AllocGlobal + Clock + Print>(
+    rt: &R,
+    settings: &Settings,
+    measured: Measured,
+) -> Result<(), BenchFault> {
+    for length in &LENGTHS {
+        let plan = Plan::new(rt.alloc(), settings.shape, *length)?;
+        let rates = rates_of(rt, settings.repetitions, measured, &plan)?;
+        print_rates(rt, settings, measured, *length, rates)?;
+    }
+    Ok(())
+}
