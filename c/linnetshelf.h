@@ -1,8 +1,8 @@
 /* Linnetshelf: a message queue without a broker, as a library for C and for any language that calls C.
  *
  * One append-only journal in memory, cut into cycles of time, is shared by as many endpoints as its callers want. An endpoint
- * appends and reads, and belongs to one thread at a time. No call waits for another endpoint. The library has no locks. A call
- * that allocates calls malloc, which may have one.
+ * appends and reads, and belongs to one thread at a time. For more messages than one queue holds, a shelf puts queues in a row.
+ * No call waits for another endpoint. The library has no locks. A call that allocates calls malloc, which may have one.
  *
  *     #include "linnetshelf.h"
  *     #include <stdio.h>
@@ -25,14 +25,16 @@
  * ANSWERS. The words in capitals below are statuses, without the LINNETSHELF_ in front. Each call that returns a status can
  * return DONE. Each call on a handle, other than as `out`, can also return WRONG_KIND. linnetshelf_destroy returns nothing.
  *
- * HANDLES. A handle is the address of an endpoint, or of what was saved of a queue. The library writes it through the argument
- * `out`, which points to a handle that is zero or was destroyed. It does not look at what was there. A call on a handle that
- * holds the other thing returns WRONG_KIND and does nothing. Copies of a handle are the same endpoint: after
- * linnetshelf_destroy none of them may be used. A zero handle holds nothing, and no call takes one except as `out`.
+ * HANDLES. A handle is the address of an endpoint, or of what was saved of a queue. For a shelf it is that of a writer, a reader
+ * or a taker. The library writes it through the argument `out`, which points to a handle that is zero or was destroyed. It does
+ * not look at what was there. A call on a handle that holds something else returns WRONG_KIND and does nothing. Copies of a
+ * handle are the same endpoint: after linnetshelf_destroy none of them may be used. A zero handle holds nothing, and no call
+ * takes one except as `out`.
  *
- * THREADS. An endpoint is in one call at a time. Two calls at once on one handle are an error that is not detected. For another
- * thread, split off an endpoint of its own. A handle goes to another thread by what orders memory: the start or the end of a
- * thread, a lock, or an atomic store and load. Make no call from a signal handler, nor in a child after fork().
+ * THREADS. What a handle holds is in one call at a time. Two calls at once on one handle are an error that is not detected. For
+ * another thread, split off an endpoint of its own, or a writer, a reader or a taker. A handle goes to another thread by what
+ * orders memory: the start or the end of a thread, a lock, or an atomic store and load. Make no call from a signal handler, nor
+ * in a child after fork().
  *
  * BYTES. `bytes`, `names` and `name` point to bytes to read, and a pointer `room` to a buffer of yours to write. The length in
  * bytes is the next argument. The library keeps none of these addresses. They are never NULL, even if the length is 0, and
@@ -48,7 +50,7 @@
  *
  * MEMORY. It comes from malloc and goes back by free. The memory of a queue goes back when its last endpoint is destroyed or
  * linnetshelf_stop returns DONE, that of an endpoint or of what was saved when its handle is destroyed. A call that got none
- * returns OUT_OF_MEMORY. Appends and reads allocate nothing.
+ * returns OUT_OF_MEMORY. Appends and reads allocate nothing, except an append that begins the next queue of a shelf.
  *
  * BUSY. Another endpoint has begun a message, and has neither completed it nor given it up. Its thread may have been suspended
  * inside its append, and cannot go on while others use its processor. So do not spin: yield (sched_yield) or sleep before the
@@ -67,6 +69,23 @@
  * - What an endpoint appended counts once it has read that, or has met another endpoint.
  * - A new endpoint of linnetshelf_split has seen the end at which the queue was created or opened. What its parent appended,
  *   read or learned by linnetshelf_meet does not count for it.
+ *
+ * SHELVES. A shelf is a row of queues of the same settings, numbered from 0. A queue that has no place for a message is closed,
+ * and the next one begins. Readers and takers go on from a closed queue to the next. Messages are in the order of their queues,
+ * and in each queue in that of their indices. linnetshelf_shelf_create hands out the first writer of a shelf. All others come
+ * from that one. Only the calls linnetshelf_shelf_.. and linnetshelf_destroy take them.
+ *
+ * At most `most` queues of a shelf live at once. What happens where a new one would be one more, `at_limit` says:
+ * - LINNETSHELF_REFUSE: an append is FULL, and no message is lost. A queue is kept by each writer, reader and taker that is at it,
+ *   by each name that takes there, and by the queue before it while that is kept. What nobody keeps is freed. So the slowest of
+ *   them has to go on or be destroyed. A name goes on only by its takers: one that nobody takes by keeps every queue from the
+ *   first on. A writer that appends nothing goes on by linnetshelf_shelf_follow.
+ * - LINNETSHELF_DROP_OLDEST: the oldest queue is dropped. Who is at it still reads or takes the rest of it. If queues between it
+ *   and the oldest that lives were dropped, the next call is MISSED, with their number, and the one after goes on from there.
+ *
+ * linnetshelf_shelf_close closes a shelf for all its writers. What was appended is read and taken as before; then reads and takes
+ * are FINISHED. A message that a writer has begun is given up when that writer is destroyed. BUSY also comes where others go from
+ * one queue to the next at the same moment. Nothing is lost then: call again.
  */
 #ifndef LINNETSHELF_H
 #define LINNETSHELF_H
@@ -115,8 +134,11 @@ typedef enum {
     LINNETSHELF_IN_USE = 32, /* other endpoints of the queue are alive */
     LINNETSHELF_WRONG_KIND = 33, /* the handle holds something else than this call is for */
     LINNETSHELF_OUT_OF_MEMORY = 34, /* out of memory */
-    LINNETSHELF_CLOSED = 35, /* the queue is closed: nothing was appended or begun, or it was closed before */
-    LINNETSHELF_FINISHED = 36, /* there is no such message, and none will come: the queue is closed */
+    LINNETSHELF_CLOSED = 35, /* the queue or the shelf is closed: nothing was appended or begun, or it was closed before */
+    LINNETSHELF_FINISHED = 36, /* there is no such message, and none will come: the queue or the shelf is closed */
+    LINNETSHELF_FULL = 37, /* as many queues of the shelf live as may, and the oldest is still used */
+    LINNETSHELF_MISSED = 38, /* queues of the shelf were dropped before they were read; the answer has how many */
+    LINNETSHELF_BAD_SHELF = 39, /* a shelf has at least two queues */
 } linnetshelf_status;
 
 /* How long a cycle is. */
@@ -124,6 +146,9 @@ enum { LINNETSHELF_DAILY = 0, LINNETSHELF_HOURLY = 1, LINNETSHELF_MINUTELY = 2 }
 
 /* Which way an endpoint reads. */
 enum { LINNETSHELF_FORWARDS = 0, LINNETSHELF_BACKWARDS = 1 };
+
+/* What happens where a new queue of a shelf would be one more than may live. */
+enum { LINNETSHELF_REFUSE = 0, LINNETSHELF_DROP_OLDEST = 1 };
 
 /* What the library holds for the caller. */
 typedef struct {
@@ -147,6 +172,21 @@ typedef struct {
     uint32_t length; /* in bytes: of a message or an image; at NO_ROOM the length that the buffer has to have */
     uint32_t status; /* a linnetshelf_status */
 } linnetshelf_answer;
+
+/* How a shelf is made. */
+typedef struct {
+    linnetshelf_settings queue; /* how each of its queues is made */
+    uint32_t most;              /* how many of them may live at once: at least 2 */
+    uint32_t at_limit;          /* where a new one would be one more: LINNETSHELF_REFUSE or _DROP_OLDEST */
+} linnetshelf_shelf_settings;
+
+/* What a call on a shelf returns that reports where a message is. Fields that it does not report are 0. */
+typedef struct {
+    uint64_t queue;  /* the number of its queue, from 0 */
+    uint64_t index;  /* its index in that queue, as in linnetshelf_answer; at MISSED how many queues were dropped */
+    uint32_t length; /* in bytes; at NO_ROOM the length that the buffer has to have */
+    uint32_t status; /* a linnetshelf_status */
+} linnetshelf_shelf_answer;
 
 /* Queues and endpoints. */
 
@@ -298,14 +338,111 @@ uint32_t linnetshelf_saved_set_floor(linnetshelf_handle *saved, uint32_t floor);
  * is a cycle that these settings cannot have; a position is above the end; the floor is above the last cycle. OUT_OF_MEMORY. */
 uint32_t linnetshelf_open(linnetshelf_handle *saved, linnetshelf_handle *out);
 
+/* Shelves. */
+
+/* Makes a shelf whose first queue begins with the cycle of `moment`, and hands out its first writer. `names` is a text as for
+ * linnetshelf_create. Allocates up to 4 KiB for each of the `most` queues, and the first queue.
+ * BAD_SETTINGS, BAD_SHELF (`most` is below 2), BAD_MOMENT, OUT_OF_MEMORY. */
+uint32_t linnetshelf_shelf_create(const linnetshelf_shelf_settings *settings, const void *names, size_t length, uint64_t moment,
+                                  linnetshelf_handle *out);
+
+/* Hands out another one of the kind that the handle holds, which may go to another thread. A writer or a reader begins at the
+ * same queue, the reader from its start and forwards; a taker has the same name.
+ * BUSY (of a taker), OUT_OF_MEMORY. */
+uint32_t linnetshelf_shelf_split(linnetshelf_handle *user, linnetshelf_handle *out);
+
+/* Hands out a reader, which reads forwards from the start of the queue to which the writer appends. OUT_OF_MEMORY. */
+uint32_t linnetshelf_shelf_reader(linnetshelf_handle *writer, linnetshelf_handle *out);
+
+/* Hands out a taker by a name, from where that is. NO_SUCH_NAME, BUSY, OUT_OF_MEMORY. */
+uint32_t linnetshelf_shelf_taker(linnetshelf_handle *writer, const void *name, size_t length, linnetshelf_handle *out);
+
+/* Appends a message of 1 to 2^30 - 1 bytes, and returns where it is. If its queue has no place for it, the queue is closed. From
+ * a closed queue the writer goes on to the next one, and appends there. That queue begins with the cycle of `moment`, or with
+ * the last cycle of the queue before it, if that is later.
+ * BUSY (yield or sleep, then call again; it also stays so in the last cycle of time, of the year 9999), FULL (see above),
+ * WRITING, BAD_ROOM (also where an empty queue has no place for the message), BAD_MOMENT, CLOSED (the shelf is), OUT_OF_MEMORY
+ * (to the next queue: call again). Nothing was appended then, but the queue may have been closed, and the next one begun. */
+linnetshelf_shelf_answer linnetshelf_shelf_append(linnetshelf_handle *writer, uint64_t moment, const void *bytes, size_t length);
+
+/* Begins a message of at most `most` bytes, which is put in parts. It goes on to the next queue as linnetshelf_shelf_append does,
+ * and is refused as that is. Until the message is completed or given up, other writers are BUSY. */
+uint32_t linnetshelf_shelf_begin(linnetshelf_handle *writer, uint64_t moment, uint32_t most);
+
+/* Puts bytes after those that were put. NOT_WRITING, PAST_ROOM: nothing is put then. */
+uint32_t linnetshelf_shelf_put(linnetshelf_handle *writer, const void *bytes, size_t length);
+
+/* Appends the message that is begun, and returns where it is. NOT_WRITING, EMPTY_MESSAGE: it is still begun then. */
+linnetshelf_shelf_answer linnetshelf_shelf_complete(linnetshelf_handle *writer);
+
+/* Gives up the message that is begun. NOT_WRITING. */
+uint32_t linnetshelf_shelf_roll_back(linnetshelf_handle *writer);
+
+/* Begins the cycle of `moment` if it is later than the current one, in the last queue or in a new one. Returns the current cycle,
+ * as `index`. Later queues begin with that cycle or a later one. Refused as linnetshelf_shelf_append is, except that BAD_ROOM
+ * does not come, and CLOSED only where a cycle would begin. */
+linnetshelf_answer linnetshelf_shelf_advance(linnetshelf_handle *writer, uint64_t moment);
+
+/* Goes on to the last queue that has begun, and appends nothing. A writer that does not append calls this now and then, so that
+ * others are not FULL. BUSY (it is at a queue up to there: call again), OUT_OF_MEMORY. */
+uint32_t linnetshelf_shelf_follow(linnetshelf_handle *writer);
+
+/* Closes the shelf for all its writers (see above). Each of them is still to be destroyed.
+ * CLOSED (it was closed before), WRITING (this writer has begun a message), BUSY (yield or sleep, then call again),
+ * OUT_OF_MEMORY. The shelf is not closed after the last three. */
+uint32_t linnetshelf_shelf_close(linnetshelf_handle *writer);
+
+/* Reads the next message in the reader's direction into the buffer `room`, and returns where it is and its length. The reader
+ * moves after it, or backwards before it. At the end of a closed queue it goes on to the next one; backwards, at the start of a
+ * queue, to the one before, if that is kept.
+ * NOT_YET and FINISHED (forwards), BEFORE_START (backwards), NO_ROOM, MISSED (`index` queues were dropped; the next call goes on
+ * from the oldest that lives), BUSY (call again), OUT_OF_MEMORY (the next queue has as many endpoints as it may have). */
+linnetshelf_shelf_answer linnetshelf_shelf_next(linnetshelf_handle *reader, void *room, size_t size);
+
+/* Reads the message with this index in this queue into the buffer `room`, and returns its length. The reader stays where it is.
+ * NOT_YET, NEVER (no message will be there), GONE (its queue was freed or dropped), NO_ROOM, BUSY (call again), OUT_OF_MEMORY. */
+linnetshelf_answer linnetshelf_shelf_read_at(linnetshelf_handle *reader, uint64_t queue, uint64_t index, void *room, size_t size);
+
+/* Sets the direction in which the reader reads: LINNETSHELF_FORWARDS or LINNETSHELF_BACKWARDS. BAD_DIRECTION. */
+uint32_t linnetshelf_shelf_direction(linnetshelf_handle *reader, uint32_t direction);
+
+/* Moves to the message with this index in this queue, which is read next forwards. If that is another queue than the reader's, it
+ * reads forwards from then on. NO_MESSAGE (none is there, or its queue is not kept), BUSY, OUT_OF_MEMORY: the reader stays where
+ * it is then. */
+uint32_t linnetshelf_shelf_move_to(linnetshelf_handle *reader, uint64_t queue, uint64_t index);
+
+/* Moves before the first message of the oldest queue that is kept, and reads forwards. BUSY, OUT_OF_MEMORY: the reader stays
+ * where it is then. */
+uint32_t linnetshelf_shelf_to_start(linnetshelf_handle *reader);
+
+/* Moves to the end of the last queue that has begun, and reads forwards. BUSY, OUT_OF_MEMORY: the reader is at a queue up to
+ * there then. */
+uint32_t linnetshelf_shelf_to_end(linnetshelf_handle *reader);
+
+/* Returns where a reader is, or where the name of a taker is. The message that is read next forwards, or taken next, is there
+ * or later. */
+linnetshelf_shelf_answer linnetshelf_shelf_position(linnetshelf_handle *user);
+
+/* Takes the next message of the taker's name into the buffer `room`, and returns where it is and its length. Of all that take by
+ * this name, one alone gets it. At the end of a closed queue the name goes on to the next one.
+ * NOT_YET, FINISHED, NO_ROOM, MISSED, BUSY, OUT_OF_MEMORY, as in linnetshelf_shelf_next. MOVED: another taker was faster, and the
+ * answer is where the name was found; call again. Nothing was taken then. */
+linnetshelf_shelf_answer linnetshelf_shelf_take(linnetshelf_handle *taker, void *room, size_t size);
+
+/* Returns the number of the queue to which a writer appends, or which a reader reads, as `index`. */
+linnetshelf_answer linnetshelf_shelf_queue(linnetshelf_handle *user);
+
+/* Returns how many queues of the shelf hold memory, as `index`. It may miss one that another begins or leaves at that moment. */
+linnetshelf_answer linnetshelf_shelf_living(linnetshelf_handle *writer);
+
 /* Texts. */
 
 /* Copies the text of a status and a zero byte after it to `room`, if it has space for both. Returns the length of the text,
  * which is below 128. A number that is no status has a text too. */
 size_t linnetshelf_text(uint32_t status, char *room, size_t size);
 
-/* Returns the size in bytes of a handle (0), of settings (1) or of an answer (2), for a caller that declares them itself; 0 for
- * other numbers. */
+/* Returns the size in bytes of a struct, for a caller that declares it itself: of a handle (0), of settings (1), of an answer
+ * (2), of an answer of a shelf (3), of the settings of a shelf (4). For other numbers it is 0. */
 size_t linnetshelf_size(uint32_t which);
 
 #ifdef __cplusplus

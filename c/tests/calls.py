@@ -1,7 +1,8 @@
-"""The library from Python: two threads, of which one appends and one reads, and a queue that is saved and opened."""
+"""The library from Python: two threads, of which one appends and one reads; a queue that is saved and opened; and a shelf."""
+import ctypes
 import threading
 
-from library import BUSY, DONE, Handle, Settings, call, images_of, messages_of
+from library import BUSY, DONE, FINISHED, Handle, Settings, ShelfSettings, call, images_of, messages_of
 
 SETTINGS = Settings(epoch=0, cells=65536, index_count=64, index_spacing=16, cycles=2, roll=0)
 TEXTS = [b"message %d" % k for k in range(5000)]
@@ -18,7 +19,26 @@ def read_all(endpoint, found):
         found.extend(messages_of(endpoint))
 
 
+def use_shelf():
+    writer, reader, found, room = Handle(), Handle(), [], ctypes.create_string_buffer(64)
+    narrow = Settings(epoch=0, cells=64, index_count=8, index_spacing=1, cycles=1, roll=0)
+    assert call("shelf_create", ShelfSettings(narrow, 2, 0), b"", 0, 0, writer) == DONE
+    assert call("shelf_reader", writer, reader) == DONE
+    for text in TEXTS:
+        appended = call("shelf_append", writer, 0, text, len(text))
+        answer = call("shelf_next", reader, room, len(room))
+        assert (appended.status, answer.status) == (DONE, DONE)
+        assert (answer.queue, answer.index) == (appended.queue, appended.index)
+        found.append(room.raw[:answer.length])
+    assert found == TEXTS and answer.queue > 500
+    assert call("shelf_close", writer) == DONE
+    assert call("shelf_next", reader, room, len(room)).status == FINISHED
+    for handle in (writer, reader):
+        call("destroy", handle)
+
+
 def main():
+    use_shelf()
     queue, reader, found = Handle(), Handle(), []
     assert call("create", SETTINGS, b"", 0, 0, queue) == DONE
     assert call("split", queue, reader) == DONE

@@ -1,4 +1,5 @@
-"""The header against the library: each status has its name, its number, a comment and a text, and each roll its number."""
+"""The header against the library: each status has its name, its number, a comment and a text; each roll has its number, and so
+has what happens at the limit of a shelf."""
 import ctypes
 import re
 from pathlib import Path
@@ -56,11 +57,25 @@ def rolls_in_source():
     return [snake(name) for name in re.findall(r"Roll::(\w+)", rolls)]
 
 
+def limits_in_header():
+    """What happens at the limit of a shelf, each as a name and a number, as in the header."""
+    header = (TOP / "c/linnetshelf.h").read_text()
+    (limits,) = re.findall(r"one more than may live\. \*/\nenum \{ (.*?) \};", header)
+    return [(name, int(number)) for name, number in re.findall(r"LINNETSHELF_(\w+) = (\d+)", limits)]
+
+
+def limits_in_source():
+    """The same, as in the library's source."""
+    source = (TOP / "crates/linnetshelf/src/shelf_settings.rt").read_text()
+    return [(snake(name), int(number)) for number, name in re.findall(r"(\d+) => Some\(AtLimit::(\w+)\)", source)]
+
+
 def main():
     source = in_source()
     assert in_header() == [(name, number) for number, (name, _) in enumerate(source)]
     assert in_library() == [text for _, text in source]
     assert rolls_in_header() == [(name, number) for number, name in enumerate(rolls_in_source())]
+    assert limits_in_header() == limits_in_source()
 
 
 main()

@@ -15,14 +15,51 @@ _Static_assert(sizeof(linnetshelf_answer) == 16, "answer");
 _Static_assert(offsetof(linnetshelf_answer, index) == 0, "index");
 _Static_assert(offsetof(linnetshelf_answer, length) == 8, "length");
 _Static_assert(offsetof(linnetshelf_answer, status) == 12, "status");
+_Static_assert(sizeof(linnetshelf_shelf_answer) == 24, "answer of a shelf");
+_Static_assert(offsetof(linnetshelf_shelf_answer, queue) == 0, "queue");
+_Static_assert(offsetof(linnetshelf_shelf_answer, index) == 8, "index in a queue");
+_Static_assert(offsetof(linnetshelf_shelf_answer, length) == 16, "length in a queue");
+_Static_assert(offsetof(linnetshelf_shelf_answer, status) == 20, "status on a shelf");
+_Static_assert(sizeof(linnetshelf_shelf_settings) == 40, "settings of a shelf");
+_Static_assert(offsetof(linnetshelf_shelf_settings, queue) == 0, "settings of its queues");
+_Static_assert(offsetof(linnetshelf_shelf_settings, most) == 32, "most");
+_Static_assert(offsetof(linnetshelf_shelf_settings, at_limit) == 36, "at_limit");
+
+/* Settings of a shelf are refused if a field is out of its limits, and an answer of a shelf holds what the library returned. */
+static void shelves_have_the_layout(void) {
+    linnetshelf_shelf_settings settings = {
+        .queue = {.epoch = 2 * DAY, .cells = 64, .index_count = 8, .index_spacing = 1, .cycles = 1, .roll = LINNETSHELF_DAILY},
+        .most = 2, .at_limit = LINNETSHELF_DROP_OLDEST};
+    linnetshelf_handle writer = {0}, reader = {0};
+    char room[4];
+    settings.most = 1;
+    CHECK(linnetshelf_shelf_create(&settings, "", 0, 5 * DAY, &writer) == STATUS(BAD_SHELF));
+    settings.most = 2;
+    settings.at_limit = UINT32_MAX;
+    CHECK(linnetshelf_shelf_create(&settings, "", 0, 5 * DAY, &writer) == STATUS(BAD_SETTINGS));
+    settings.at_limit = LINNETSHELF_DROP_OLDEST;
+    settings.queue.roll = UINT32_MAX;
+    CHECK(linnetshelf_shelf_create(&settings, "", 0, 5 * DAY, &writer) == STATUS(BAD_SETTINGS));
+    settings.queue.roll = LINNETSHELF_DAILY;
+    CHECK(linnetshelf_shelf_create(&settings, "", 0, 5 * DAY, &writer) == STATUS(DONE));
+    CHECK(linnetshelf_shelf_advance(&writer, 6 * DAY).index == 4);
+    linnetshelf_shelf_answer answer = linnetshelf_shelf_append(&writer, 5 * DAY, "message", 7);
+    CHECK(answer.queue == 1 && answer.index == 4ull << 32 && answer.length == 0 && answer.status == STATUS(DONE));
+    CHECK(linnetshelf_shelf_reader(&writer, &reader) == STATUS(DONE));
+    answer = linnetshelf_shelf_next(&reader, room, sizeof room);
+    CHECK(answer.queue == 0 && answer.index == 0 && answer.length == 7 && answer.status == STATUS(NO_ROOM));
+    linnetshelf_destroy(writer);
+    linnetshelf_destroy(reader);
+}
 
 /* The library gives the sizes of its own structs, in the order of the header. */
 int main(void) {
     static const size_t wanted[] = {
-        sizeof(linnetshelf_handle), sizeof(linnetshelf_settings), sizeof(linnetshelf_answer)};
-    for (uint32_t k = 0; k < 3; k++)
+        sizeof(linnetshelf_handle), sizeof(linnetshelf_settings), sizeof(linnetshelf_answer),
+        sizeof(linnetshelf_shelf_answer), sizeof(linnetshelf_shelf_settings)};
+    for (uint32_t k = 0; k < 5; k++)
         CHECK(linnetshelf_size(k) == wanted[k]);
-    CHECK(linnetshelf_size(3) == 0);
+    CHECK(linnetshelf_size(5) == 0);
 
     linnetshelf_settings settings = {.epoch = 2 * DAY, .cells = 64, .index_count = 8, .index_spacing = 1, .cycles = 3,
                                      .roll = LINNETSHELF_DAILY};
@@ -43,5 +80,6 @@ int main(void) {
     answer = linnetshelf_next(&queue, room, sizeof room);
     CHECK(answer.index == 0 && answer.length == 7 && answer.status == STATUS(NO_ROOM));
     linnetshelf_destroy(queue);
+    shelves_have_the_layout();
     return failures != 0;
 }

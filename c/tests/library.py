@@ -18,7 +18,15 @@ class Answer(ctypes.Structure):
     _fields_ = [("index", ctypes.c_uint64), ("length", ctypes.c_uint32), ("status", ctypes.c_uint32)]
 
 
-DONE, NOT_YET, BUSY = 0, 1, 8
+class ShelfSettings(ctypes.Structure):
+    _fields_ = [("queue", Settings), ("most", ctypes.c_uint32), ("at_limit", ctypes.c_uint32)]
+
+
+class ShelfAnswer(ctypes.Structure):
+    _fields_ = [("queue", ctypes.c_uint64), ("index", ctypes.c_uint64), ("length", ctypes.c_uint32), ("status", ctypes.c_uint32)]
+
+
+DONE, NOT_YET, BUSY, FINISHED = 0, 1, 8, 36
 HANDLE, BYTES, SIZE = ctypes.POINTER(Handle), ctypes.c_char_p, ctypes.c_size_t
 WORD, LONG = ctypes.c_uint32, ctypes.c_uint64
 CALLS = {
@@ -39,6 +47,11 @@ CALLS = {
     "saved_set_position": (WORD, HANDLE, WORD, LONG),
     "saved_set_floor": (WORD, HANDLE, WORD),
     "open": (WORD, HANDLE, HANDLE),
+    "shelf_create": (WORD, ctypes.POINTER(ShelfSettings), BYTES, SIZE, LONG, HANDLE),
+    "shelf_reader": (WORD, HANDLE, HANDLE),
+    "shelf_append": (ShelfAnswer, HANDLE, LONG, BYTES, SIZE),
+    "shelf_close": (WORD, HANDLE),
+    "shelf_next": (ShelfAnswer, HANDLE, BYTES, SIZE),
     "text": (SIZE, WORD, BYTES, SIZE),
     "size": (SIZE, WORD),
 }
@@ -50,7 +63,8 @@ def call(name, *arguments):
     return function(*arguments)
 
 
-assert [call("size", k) for k in range(3)] == [ctypes.sizeof(it) for it in (Handle, Settings, Answer)]
+STRUCTS = (Handle, Settings, Answer, ShelfAnswer, ShelfSettings)
+assert [call("size", k) for k in range(len(STRUCTS))] == [ctypes.sizeof(it) for it in STRUCTS]
 
 
 def images_of(saved):

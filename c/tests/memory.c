@@ -1,4 +1,4 @@
-/* Nothing is left of a queue once its last endpoint is ended. Each allocation that is refused in turn is reported,
+/* Nothing is left of a queue or a shelf once its last endpoint is ended. Each allocation that is refused in turn is reported,
  * and leaves nothing allocated. malloc, realloc and free are counted here: link with --wrap for each. */
 #include "check.h"
 #include <stdlib.h>
@@ -64,17 +64,66 @@ static int use_queue(void) {
     return is_done;
 }
 
-int main(void) {
-    CHECK(use_queue());
+/* Appends a message to a shelf, reads it and takes it. If memory is refused to the next queue it appends it once more. */
+static void pass_on(linnetshelf_handle *writer, linnetshelf_handle *reader, linnetshelf_handle *taker) {
+    char room[8];
+    uint32_t status = linnetshelf_shelf_append(writer, 0, "message", 7).status;
+    if (status == STATUS(OUT_OF_MEMORY))
+        status = linnetshelf_shelf_append(writer, 0, "message", 7).status;
+    CHECK(status == STATUS(DONE));
+    CHECK(linnetshelf_shelf_next(reader, room, sizeof room).status == STATUS(DONE));
+    CHECK(linnetshelf_shelf_take(taker, room, sizeof room).status == STATUS(DONE));
+}
+
+/* Makes a shelf, and uses several queues of it. Returns whether all was done. If memory is refused it ends what there is. */
+static int use_shelf(void) {
+    static const linnetshelf_shelf_settings settings = {
+        .queue = {.cells = 64, .index_count = 8, .index_spacing = 1, .cycles = 1, .roll = LINNETSHELF_DAILY},
+        .most = 2, .at_limit = LINNETSHELF_REFUSE};
+    linnetshelf_handle writer = {0}, reader = {0}, taker = {0}, other = {0};
+    int is_done = 0;
+    if (linnetshelf_shelf_create(&settings, "worker", 6, 0, &writer) != STATUS(DONE))
+        return 0;
+    if (linnetshelf_shelf_reader(&writer, &reader) == STATUS(DONE)) {
+        if (linnetshelf_shelf_taker(&writer, "worker", 6, &taker) == STATUS(DONE)) {
+            for (int k = 0; k < 100; k++)
+                pass_on(&writer, &reader, &taker);
+            CHECK(linnetshelf_shelf_queue(&writer).index > 5 && linnetshelf_shelf_living(&writer).index == 1);
+            linnetshelf_handle *users[] = {&writer, &reader, &taker};
+            is_done = 1;
+            for (int k = 0; k < 3; k++) {
+                if (linnetshelf_shelf_split(users[k], &other) == STATUS(DONE))
+                    linnetshelf_destroy(other);
+                else
+                    is_done = 0;
+            }
+            linnetshelf_destroy(taker);
+        }
+        linnetshelf_destroy(reader);
+    }
+    linnetshelf_destroy(writer);
+    return is_done;
+}
+
+/* Refuses each allocation of a use in turn, up to the first that is not made. */
+static void refuse_each(int (*use)(void)) {
+    CHECK(use());
     CHECK(blocks == 0);
     for (long refused = 0; refused < 1000; refused++) {
         left = refused;
-        use_queue();
+        int is_done = use();
         CHECK(blocks == 0);
-        if (left >= 0)
-            return failures != 0; /* fewer allocations are made than would be let through */
-        left = -1;
+        if (left >= 0) { /* fewer allocations are made than would be let through */
+            CHECK(is_done);
+            left = -1;
+            return;
+        }
     }
     CHECK(!"it allocates more than a thousand times");
-    return 1;
+}
+
+int main(void) {
+    refuse_each(use_queue);
+    refuse_each(use_shelf);
+    return failures != 0;
 }

@@ -44,6 +44,9 @@ class Status(enum.IntEnum):
     OUT_OF_MEMORY = 34
     CLOSED = 35
     FINISHED = 36
+    FULL = 37
+    MISSED = 38
+    BAD_SHELF = 39
 
 
 class LinnetshelfError(Exception):

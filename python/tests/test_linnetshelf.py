@@ -62,7 +62,7 @@ class Header(unittest.TestCase):
 
     def test_calls(self):
         declared = dict(re.findall(r"^\w[\w ]* \*?linnetshelf_(\w+)\(([^)]*)\);", self.header, re.M))
-        self.assertEqual(set(declared), set(_library.CALLS))
+        self.assertEqual({name for name in declared if not name.startswith("shelf_")}, set(_library.CALLS))
         for name, (_, *arguments) in _library.CALLS.items():
             self.assertEqual(len(arguments), len(declared[name].split(",")), name)
 

@@ -1,5 +1,6 @@
 use cq_endpoint::Endpoint;
 use cq_saved::Saved;
+use cq_shelf::{ShelfReader, ShelfTaker, ShelfWriter};
 use cq_shown::Stopped;
 
 /// What a handle holds.
@@ -11,4 +12,17 @@ pub enum Held {
     Stopped(Stopped),
     /// A queue as plain data.
     Saved(Saved),
+    /// A writer, a reader or a taker of a shelf.
+    Shelf(ShelfUser),
+}
+
+/// Who uses a shelf.
+#[derive(Drop)]
+pub enum ShelfUser {
+    /// It appends messages.
+    Writer(ShelfWriter),
+    /// It reads them.
+    Reader(ShelfReader),
+    /// It takes them by a name.
+    Taker(ShelfTaker),
 }

@@ -6,4 +6,6 @@ pub mod Makes
 pub mod Meets
 pub mod Reads
 pub mod Saves
+pub mod ShelfAnswers
+pub mod Shelves
 pub mod Statuses

@@ -42,3 +42,6 @@ number status.WrongKind = 33
 number status.OutOfMemory = 34
 number status.Closed = 35
 number status.Finished = 36
+number status.Full = 37
+number status.Missed = 38
+number status.BadShelf = 39

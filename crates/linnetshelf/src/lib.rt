@@ -2,9 +2,9 @@
 //!
 //! Most calls are given a handle, and return the number of a `Status`, alone or in an `Answer`. They have no
 //! preconditions, except that two endpoints that meet are of one queue. The contract of each says of what the handle
-//! holds what the contract of the call that it wraps says, in `cq_endpoint` or `cq_saved`. `c/linnetshelf.h` describes
-//! the calls for people. A handle that holds something else than the call is for is left as it is, and the status is
-//! `WrongKind`.
+//! holds what the contract of the call that it wraps says, in `cq_endpoint`, `cq_saved` or `cq_shelf`.
+//! `c/linnetshelf.h` describes the calls for people. A handle that holds something else than the call is for is left as
+//! it is, and the status is `WrongKind`.
 //!
 //! | calls | what they are for |
 //! |---|---|
@@ -16,6 +16,12 @@
 //! | `linnetshelf_cursor`, `_direction`, `_to_start`, `_to_end`, `_move_to` | move an endpoint |
 //! | `linnetshelf_position`, `_seek`, `_drop_before` | read and set the position of a name, and drop old cycles |
 //! | `linnetshelf_stop`, `_saved_..`, `_open` | stop a queue, save what it held, and open it again |
+//! | `linnetshelf_shelf_create`, `_split`, `_reader`, `_taker` | make a shelf, and writers, readers and takers of it |
+//! | `linnetshelf_shelf_append`, `_begin`, `_put`, `_complete`, `_roll_back`, `_advance` | append messages to a shelf |
+//! | `linnetshelf_shelf_follow`, `_close` | move a writer to the last queue, and close a shelf |
+//! | `linnetshelf_shelf_next`, `_read_at`, `_take` | read and take its messages, into a buffer of the caller |
+//! | `linnetshelf_shelf_direction`, `_to_start`, `_to_end`, `_move_to` | move a reader |
+//! | `linnetshelf_shelf_position`, `_queue`, `_living` | say where it is, and how many queues live |
 //! | `linnetshelf_size`, `_text` | sizes of types, and texts of statuses |
 #![tactic(auto)]
 
@@ -30,5 +36,12 @@ mod reading;
 mod rooms;
 mod saving;
 mod settings;
+mod shelf_answer;
+mod shelf_appending;
+mod shelf_making;
+mod shelf_places;
+mod shelf_reading;
+mod shelf_settings;
+mod shelf_taking;
 mod status;
 mod text;

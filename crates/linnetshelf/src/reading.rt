@@ -25,7 +25,7 @@ pub extern "C" fn linnetshelf_cursor(handle: &mut Handle) -> Answer
 {
     match handle.held_mut() {
         Held::Endpoint(endpoint) => done(endpoint.cursor()),
-        Held::Stopped(_) | Held::Saved(_) => plain(Status::WrongKind),
+        Held::Stopped(_) | Held::Saved(_) | Held::Shelf(_) => plain(Status::WrongKind),
     }
 }
 
@@ -38,7 +38,7 @@ pub extern "C" fn linnetshelf_direction(handle: &mut Handle, way: u32) -> u32
 {
     match handle.held_mut() {
         Held::Endpoint(endpoint) => turn(endpoint, way),
-        Held::Stopped(_) | Held::Saved(_) => Status::WrongKind.number(),
+        Held::Stopped(_) | Held::Saved(_) | Held::Shelf(_) => Status::WrongKind.number(),
     }
 }
 
@@ -70,7 +70,7 @@ pub extern "C" fn linnetshelf_to_start(handle: &mut Handle) -> u32
             endpoint.to_start();
             Status::Done.number()
         }
-        Held::Stopped(_) | Held::Saved(_) => Status::WrongKind.number(),
+        Held::Stopped(_) | Held::Saved(_) | Held::Shelf(_) => Status::WrongKind.number(),
     }
 }
 
@@ -82,7 +82,7 @@ pub extern "C" fn linnetshelf_to_end(handle: &mut Handle) -> Answer
 {
     match handle.held_mut() {
         Held::Endpoint(endpoint) => done(endpoint.to_end()),
-        Held::Stopped(_) | Held::Saved(_) => plain(Status::WrongKind),
+        Held::Stopped(_) | Held::Saved(_) | Held::Shelf(_) => plain(Status::WrongKind),
     }
 }
 
@@ -95,7 +95,7 @@ pub extern "C" fn linnetshelf_move_to(handle: &mut Handle, index: u64) -> u32
 {
     match handle.held_mut() {
         Held::Endpoint(endpoint) => move_answer(endpoint.move_to(Index::of_value(index))),
-        Held::Stopped(_) | Held::Saved(_) => Status::WrongKind.number(),
+        Held::Stopped(_) | Held::Saved(_) | Held::Shelf(_) => Status::WrongKind.number(),
     }
 }
 
@@ -110,6 +110,6 @@ pub extern "C" fn linnetshelf_drop_before(handle: &mut Handle, cycle: u32) -> An
 {
     match handle.held_mut() {
         Held::Endpoint(endpoint) => drop_answer(endpoint.drop_before(cycle)),
-        Held::Stopped(_) | Held::Saved(_) => plain(Status::WrongKind),
+        Held::Stopped(_) | Held::Saved(_) | Held::Shelf(_) => plain(Status::WrongKind),
     }
 }

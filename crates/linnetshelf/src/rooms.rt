@@ -25,7 +25,7 @@ pub extern "C" fn linnetshelf_next(handle: &mut Handle, room: &mut [u8]) -> Answ
 {
     match handle.held_mut() {
         Held::Endpoint(endpoint) => found_answer(endpoint.next_into(room)),
-        Held::Stopped(_) | Held::Saved(_) => plain(Status::WrongKind),
+        Held::Stopped(_) | Held::Saved(_) | Held::Shelf(_) => plain(Status::WrongKind),
     }
 }
 
@@ -43,7 +43,7 @@ pub extern "C" fn linnetshelf_read_at(handle: &mut Handle, index: u64, room: &mu
         Held::Endpoint(endpoint) => {
             at_answer(endpoint.read_at_into(Index::of_value(index), room))
         }
-        Held::Stopped(_) | Held::Saved(_) => plain(Status::WrongKind),
+        Held::Stopped(_) | Held::Saved(_) | Held::Shelf(_) => plain(Status::WrongKind),
     }
 }
 
@@ -62,7 +62,7 @@ pub extern "C" fn linnetshelf_take(handle: &mut Handle, name: &[u8], room: &mut 
 {
     match handle.held_mut() {
         Held::Endpoint(endpoint) => take_answer(take(endpoint, name, room)),
-        Held::Stopped(_) | Held::Saved(_) => plain(Status::WrongKind),
+        Held::Stopped(_) | Held::Saved(_) | Held::Shelf(_) => plain(Status::WrongKind),
     }
 }
 
@@ -77,7 +77,7 @@ fn take(endpoint: &mut Endpoint, name: &[u8], room: &mut [u8]) -> Result<TakenIn
 }
 
 /// Makes the answer that a message of this length was read.
-fn read(index: u64, length: u32) -> Answer
+pub(crate) fn read(index: u64, length: u32) -> Answer
     ensures { result ≡ read index length }
 {
     Answer {
@@ -88,7 +88,7 @@ fn read(index: u64, length: u32) -> Answer
 }
 
 /// Makes the answer that a message of this length was not read: the buffer is too small.
-fn too_long(length: u32) -> Answer
+pub(crate) fn too_long(length: u32) -> Answer
     ensures { result ≡ too_long length }
 {
     Answer {

@@ -44,6 +44,7 @@ fn stop(alloc: Global, held: Held) -> (Held, Status)
         },
         Held::Stopped(stopped) => recover(alloc, stopped),
         Held::Saved(saved) => (Held::Saved(saved), Status::WrongKind),
+        Held::Shelf(user) => (Held::Shelf(user), Status::WrongKind),
     }
 }
 
@@ -91,7 +92,7 @@ pub extern "C" fn linnetshelf_saved_add(
 {
     match handle.held_mut() {
         Held::Saved(saved) => add_answer(saved.add(alloc, cycle, bytes)),
-        Held::Endpoint(_) | Held::Stopped(_) => plain(Status::WrongKind),
+        Held::Endpoint(_) | Held::Stopped(_) | Held::Shelf(_) => plain(Status::WrongKind),
     }
 }
 
@@ -135,7 +136,7 @@ pub extern "C" fn linnetshelf_saved_count(handle: &mut Handle) -> Answer
 {
     match handle.held_mut() {
         Held::Saved(saved) => done(saved.len() as u64),
-        Held::Endpoint(_) | Held::Stopped(_) => plain(Status::WrongKind),
+        Held::Endpoint(_) | Held::Stopped(_) | Held::Shelf(_) => plain(Status::WrongKind),
     }
 }
 
@@ -147,7 +148,7 @@ pub extern "C" fn linnetshelf_saved_cycle(handle: &mut Handle, k: u32) -> Answer
 {
     match handle.held_mut() {
         Held::Saved(saved) => number_answer(cycle(saved, k)),
-        Held::Endpoint(_) | Held::Stopped(_) => plain(Status::WrongKind),
+        Held::Endpoint(_) | Held::Stopped(_) | Held::Shelf(_) => plain(Status::WrongKind),
     }
 }
 
@@ -169,7 +170,7 @@ pub extern "C" fn linnetshelf_saved_ended(handle: &mut Handle, k: u32) -> Answer
 {
     match handle.held_mut() {
         Held::Saved(saved) => number_answer(ended(saved, k)),
-        Held::Endpoint(_) | Held::Stopped(_) => plain(Status::WrongKind),
+        Held::Endpoint(_) | Held::Stopped(_) | Held::Shelf(_) => plain(Status::WrongKind),
     }
 }
 
@@ -210,7 +211,7 @@ pub extern "C" fn linnetshelf_saved_image(
 {
     match handle.held_mut() {
         Held::Saved(saved) => image_answer(image_into(alloc, saved, k, room)),
-        Held::Endpoint(_) | Held::Stopped(_) => plain(Status::WrongKind),
+        Held::Endpoint(_) | Held::Stopped(_) | Held::Shelf(_) => plain(Status::WrongKind),
     }
 }
 
@@ -278,7 +279,7 @@ pub extern "C" fn linnetshelf_saved_position(handle: &mut Handle, k: u32) -> Ans
 {
     match handle.held_mut() {
         Held::Saved(saved) => number_answer(position(saved, k)),
-        Held::Endpoint(_) | Held::Stopped(_) => plain(Status::WrongKind),
+        Held::Endpoint(_) | Held::Stopped(_) | Held::Shelf(_) => plain(Status::WrongKind),
     }
 }
 
@@ -307,7 +308,7 @@ pub extern "C" fn linnetshelf_saved_set_position(
             Ok(()) => Status::Done,
             Err(NoSuchPlace) => Status::NoSuchPlace,
         },
-        Held::Endpoint(_) | Held::Stopped(_) => Status::WrongKind,
+        Held::Endpoint(_) | Held::Stopped(_) | Held::Shelf(_) => Status::WrongKind,
     };
     status.number()
 }
@@ -320,7 +321,7 @@ pub extern "C" fn linnetshelf_saved_floor(handle: &mut Handle) -> Answer
 {
     match handle.held_mut() {
         Held::Saved(saved) => done(u64::from(saved.floor())),
-        Held::Endpoint(_) | Held::Stopped(_) => plain(Status::WrongKind),
+        Held::Endpoint(_) | Held::Stopped(_) | Held::Shelf(_) => plain(Status::WrongKind),
     }
 }
 
@@ -335,7 +336,7 @@ pub extern "C" fn linnetshelf_saved_set_floor(handle: &mut Handle, floor: u32) -
             saved.set_floor(floor);
             Status::Done.number()
         }
-        Held::Endpoint(_) | Held::Stopped(_) => Status::WrongKind.number(),
+        Held::Endpoint(_) | Held::Stopped(_) | Held::Shelf(_) => Status::WrongKind.number(),
     }
 }
 
@@ -349,7 +350,7 @@ pub extern "C" fn linnetshelf_open(alloc: Global, handle: &mut Handle, out: &mut
 {
     let status = match handle.held_mut() {
         Held::Saved(saved) => open(alloc, saved, out),
-        Held::Endpoint(_) | Held::Stopped(_) => Status::WrongKind,
+        Held::Endpoint(_) | Held::Stopped(_) | Held::Shelf(_) => Status::WrongKind,
     };
     status.number()
 }

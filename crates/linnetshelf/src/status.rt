@@ -78,10 +78,16 @@ pub enum Status {
     Closed,
     /// There is no such message, and none will come: the queue is closed.
     Finished,
+    /// As many queues of the shelf live as may, and the oldest is still used.
+    Full,
+    /// Queues of the shelf were dropped before they were read; the answer has how many.
+    Missed,
+    /// The shelf is to have fewer than two queues.
+    BadShelf,
 }
 
 /// Each status with its text in English, in the order of their numbers.
-static STATUSES: [(Status, &str); 37] = [
+static STATUSES: [(Status, &str); 40] = [
     (Status::Done, "it is done"),
     (Status::NotYet, "there is no such message yet"),
     (Status::BeforeStart, "there is no earlier message"),
@@ -191,6 +197,15 @@ static STATUSES: [(Status, &str); 37] = [
         Status::Finished,
         "there is no such message, and none will come: the queue is closed",
     ),
+    (
+        Status::Full,
+        "as many queues of the shelf live as may, and the oldest is still used",
+    ),
+    (
+        Status::Missed,
+        "queues of the shelf were dropped before they were read; the answer has how many",
+    ),
+    (Status::BadShelf, "a shelf has at least two queues"),
 ];
 
 impl Status {

@@ -78,6 +78,12 @@ pub enum Error {
     Closed,
     /// There is no such message, and none will come: the queue is closed.
     Finished,
+    /// As many queues of the shelf live as may, and the oldest is still used.
+    Full,
+    /// Queues of the shelf were dropped before they were read.
+    Missed,
+    /// A shelf has at least two queues.
+    BadShelf,
     /// The endpoints that were to meet are of two queues.
     TwoQueues,
     /// A status that this version of the crate does not know.
@@ -119,7 +125,7 @@ const FAULTS: [ImageFault; 8] = [
 ];
 
 /// The statuses that report nothing more.
-const PLAIN: [(u32, Error); 26] = [
+const PLAIN: [(u32, Error); 29] = [
     (1, Error::NotYet),
     (2, Error::BeforeStart),
     (3, Error::Never),
@@ -146,6 +152,9 @@ const PLAIN: [(u32, Error); 26] = [
     (34, Error::OutOfMemory),
     (35, Error::Closed),
     (36, Error::Finished),
+    (37, Error::Full),
+    (38, Error::Missed),
+    (39, Error::BadShelf),
 ];
 
 impl Error {
@@ -236,7 +245,7 @@ mod tests {
         let lines = header.lines().filter_map(|line| line.strip_prefix("    LINNETSHELF_")?.split_once(" = "));
         let listed: BTreeMap<u32, &str> =
             lines.filter_map(|(name, rest)| Some((rest.split_once(", /*")?.0.parse().ok()?, name))).collect();
-        assert_eq!(listed.keys().copied().collect::<Vec<_>>(), (0..37).collect::<Vec<_>>());
+        assert_eq!(listed.keys().copied().collect::<Vec<_>>(), (0..40).collect::<Vec<_>>());
         for (number, name) in listed.into_iter().skip(1) {
             let error = error_of(number);
             let shown = match error {
@@ -249,8 +258,8 @@ mod tests {
 
     #[test]
     fn each_error_has_a_text_of_its_own() {
-        let texts: BTreeSet<String> = (1..37).map(|status| error_of(status).to_string()).collect();
-        assert_eq!(texts.len(), 36);
+        let texts: BTreeSet<String> = (1..40).map(|status| error_of(status).to_string()).collect();
+        assert_eq!(texts.len(), 39);
         assert_eq!(Error::NotYet.to_string(), "there is no such message yet");
         assert!(error_of(6).to_string().ends_with(" (9 bytes)"));
         assert!(error_of(7).to_string().ends_with(" (position 0000000100000002)"));

@@ -327,7 +327,7 @@ mod tests {
     }
 
     #[test]
-    fn the_header_declares_the_same_calls() {
+    fn the_header_declares_the_same_calls_on_queues() {
         let declared = |text: &str| {
             let mut names = std::collections::BTreeSet::new();
             for (start, _) in text.match_indices("linnetshelf_") {
@@ -335,7 +335,7 @@ mod tests {
                 let name = &rest[..rest.find(|it: char| !it.is_alphanumeric() && it != '_').unwrap()];
                 let arguments = &rest[name.len()..];
                 let before = text[..start].chars().next_back();
-                if arguments.starts_with('(') && before == Some(' ') {
+                if arguments.starts_with('(') && before == Some(' ') && !name.starts_with("linnetshelf_shelf_") {
                     let count = arguments[..arguments.find(')').unwrap()].trim_end_matches(['\n', ' ', ',']);
                     names.insert((name.to_owned(), count.matches(',').count()));
                 }
