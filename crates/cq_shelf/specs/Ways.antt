@@ -1,5 +1,5 @@
 -- How an endpoint of a shelf comes from queue to queue in one call, and what it does in the last one.
-use Rattle.std.specs.Prelude.{true, ◌≡◌, ◌⊎◌, ℕ, List}
+use Rattle.std.specs.Prelude.{true, ◌≡◌, ◌⊎◌, ℕ, List, Option, None, Some, Result, Ok, Err}
 use Rattle.cq_endpoint.specs.Endpoints.{EndpointFacts}
 use Rattle.cq_row.specs.Ways.{GoesBack, GoesOn}
 use Rattle.cq_row.specs.declared.fault.ShelfFault.{ShelfFault}
@@ -98,3 +98,24 @@ pub record Asks {A : Type 0} (asking : Asking A) (old new : Here) (reply : Reply
   pub last : Here
   pub passed : Passes (Moves asking) old last
   pub replies : Replies asking last new reply
+
+-- what an answer of a queue comes to where the call ends with it: that answer, or what follows where the queue has no later message
+abbrev pub Settles : {A : Type 0} → Asking A → A → Place → Place → Reply A → Type 0
+Settles asking found old new (said a) = (found ≡ a) × (new ≡ old)
+Settles asking found old new waits = (found ≡ asking.not_yet ⊎ found ≡ asking.finished) × (new ≡ old)
+Settles asking found old new ends = (found ≡ asking.finished) × (new ≡ old)
+Settles asking found old new (missed n) = (found ≡ asking.finished) × GoesOn old (step.Skipped n) new
+Settles asking found old new (failed e) = (found ≡ asking.finished ⊎ asking.is_start found) × (new ≡ old)
+
+-- where the endpoint went after it: to the next queue once its own is finished, or to the one before from the start of its own
+abbrev pub Steps : {A : Type 0} → Asking A → A → Place → Place → Type 0
+Steps asking found old new =
+    ((found ≡ asking.finished) × GoesOn old step.Next new) ⊎ (asking.is_start found × GoesBack old true new)
+
+-- what follows an answer of a queue: the call ends with an answer of the shelf, which is in the queue with the number of the place;
+-- or the endpoint went to another queue
+abbrev pub Turns : {A B : Type 0} → Asking A → (Result B ShelfFault → Reply A) → (ℕ → Result B ShelfFault → Type 0) → A → Place → Place
+    → Result (Option B) ShelfFault → Type 0
+Turns asking reply IsIn found old new (Ok (Some b)) = Settles asking found old new (reply (Ok b)) × IsIn new.number (Ok b)
+Turns asking reply IsIn found old new (Ok None) = Steps asking found old new
+Turns asking reply IsIn found old new (Err e) = Settles asking found old new (failed e)
