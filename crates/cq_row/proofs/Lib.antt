@@ -1,1 +1,4 @@
+mod Faults
+mod Holds
+mod Names
 mod Places

@@ -1,6 +1,5 @@
 //! Why calls of a shelf are refused.
 use cq_endpoint::{NoSuchName, TakeFault};
-use cq_shown::CreateError;
 use std::alloc::{AllocError, AllocFailed};
 
 /// Why a call of a shelf was refused.
@@ -54,19 +53,6 @@ impl<T: Drop> From<AllocFailed<T>> for ShelfFault {
 
     fn from(_error: AllocFailed<T>) -> ShelfFault {
         ShelfFault::OutOfMemory
-    }
-}
-
-impl From<CreateError> for ShelfFault {
-    ghost use Rattle.std.specs.Prelude.{⊤};
-
-    ghost from_gives = { λ _ e. ⊤ };
-
-    fn from(error: CreateError) -> ShelfFault {
-        match error {
-            CreateError::BadMoment => ShelfFault::BadMoment,
-            CreateError::BadContents | CreateError::OutOfMemory => ShelfFault::OutOfMemory,
-        }
     }
 }
 

@@ -1,14 +1,22 @@
 //! At which queue a name takes.
+ghost use Rattle.std.specs.Prelude.{MatchOption};
+ghost use Rattle.cq_row.specs.Rows.{Declares, IsNameAt};
+
 use crate::row::{Row, raise};
 use std::sync::atomic::Ordering;
 
 impl Row {
     /// The place of a name among those that the queues declare.
-    pub fn name_index(&self, name: &str) -> Option<usize> {
-        self.config()
-            .names()
-            .iter()
-            .position(|it| it.as_str() == name)
+    pub fn name_index(&self, name: &str) -> Option<usize>
+        ensures { MatchOption result (¬ Declares self.now.config name.now) (IsNameAt self.now.config name.now) }
+    {
+        let names = self.config().names();
+        for (place, declared) in names.iter().enumerate() {
+            if declared.as_str() == name {
+                return Some(place);
+            }
+        }
+        None
     }
 
     /// The number of the queue at which a name takes, or of the oldest that may live, if that is later.

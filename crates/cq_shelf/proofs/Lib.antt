@@ -1,4 +1,5 @@
 mod Follows
+mod Kept
 mod Names
 mod Seeks
 mod Waits

@@ -11,7 +11,7 @@ use Rattle.cq_row.specs.declared.place.Place.{Place}
 use Rattle.cq_row.specs.declared.place.Step.{Step}
 use Rattle.cq_row.specs.declared.place.Step.TheVariants as step
 use Rattle.cq_shelf.specs.Ways.{Does, Passes, on}
-use Rattle.cq_shelf.specs.Writes.{Append, Leaves, LeavesEnd, LooksForEnd, Shuts, Stays, WriterMoves, Writes, WritesNot, not_on}
+use Rattle.cq_shelf.specs.Writes.{Append, IsOnFault, Leaves, LeavesEnd, LooksForEnd, Shuts, Stays, WriterMoves, Writes, WritesNot, not_on}
 
 module _ (old : Place) (e : EndpointFacts) (looks : LooksForEnd old.endpoint e) where
   abbrev left : Place
@@ -33,18 +33,18 @@ module _ (old : Place) (e : EndpointFacts) (looks : LooksForEnd old.endpoint e) 
 
 -- what going on from a closed queue says, after an append that found it closed
 pub after_closed : (old new : Place) (r : Result Unit ShelfFault)
-    → MatchResult r (λ _. LeavesEnd old new) (λ _. Does LooksForEnd old new)
+    → MatchResult r (λ _. LeavesEnd old new) (λ e. Does LooksForEnd old new × IsOnFault e)
     → MatchResult r (λ _. Leaves unappended.Closed old new) (Stays unappended.Closed old new)
 after_closed old new (Ok u) says = record { left = says.left; leaves = says.looked; onto = says.onto }
-after_closed old new (Err e) says = not_on says
+after_closed old new (Err e) says = not_on says.0 says.1
 
 -- and from one that was closed after a refusal
 pub after_refused : (refusal : Refusal) (old shut new : Place) (r : Result Unit ShelfFault) → Shuts old shut
-    → MatchResult r (λ _. LeavesEnd shut new) (λ _. Does LooksForEnd shut new)
+    → MatchResult r (λ _. LeavesEnd shut new) (λ e. Does LooksForEnd shut new × IsOnFault e)
     → MatchResult r (λ _. Leaves (unappended.Refused refusal) old new) (Stays (unappended.Refused refusal) old new)
 after_refused refusal old shut new (Ok u) shuts says =
     record { left = says.left; leaves = (shut, shuts, says.looked); onto = says.onto }
-after_refused refusal old shut new (Err e) shuts says = not_on (shut, shuts, says)
+after_refused refusal old shut new (Err e) shuts says = not_on (shut, shuts, says.0) says.1
 
 module _ {A : Type 0} (append : Append A) (old p : Place) (e : EndpointFacts) (passed : Passes (WriterMoves append) old p) where
   -- the endpoint appended

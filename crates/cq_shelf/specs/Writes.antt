@@ -13,6 +13,7 @@ use Rattle.cq_endpoint.specs.declared.fault.PutFault.{PutFault}
 use Rattle.cq_layout.specs.declared.refusal.Refusal.TheVariants as refusal
 use Rattle.cq_model.specs.declared.history.Answer.TheVariants.{Ends}
 use Rattle.cq_model.specs.declared.history.Event.TheVariants.{End}
+use Rattle.cq_row.specs.Faults.{IsStepFault}
 use Rattle.cq_row.specs.Ways.{GoesOn}
 use Rattle.cq_row.specs.declared.fault.ShelfFault.{ShelfFault}
 use Rattle.cq_row.specs.declared.fault.ShelfFault.TheVariants as fault
@@ -56,10 +57,18 @@ pub record Shuts (old new : Place) : Type 0 where
   pub closes_it : Does (closes said) old new
   pub is_closed : IsClosed said
 
--- it could not be closed
-pub record ShutsNot (old new : Place) : Type 0 where
+-- why it could not be closed
+abbrev pub IsShutFault : Result Unit CloseFault → ShelfFault → Type 0
+IsShutFault (Ok u) e = ⊥
+IsShutFault (Err unclosed.Closed) e = ⊥
+IsShutFault (Err unclosed.Writing) e = e ≡ fault.Writing
+IsShutFault (Err (unclosed.Refused r)) e = e ≡ fault.Busy
+
+-- it could not be closed, for this reason
+pub record ShutsNot (old new : Place) (e : ShelfFault) : Type 0 where
   pub said : Result Unit CloseFault
   pub tries : Does (closes said) old new
+  pub is_fault : IsShutFault said e
 
 -- the endpoint looked for the end of its queue
 pub record LooksForEnd (e f : EndpointFacts) : Type 0 where
@@ -100,11 +109,20 @@ IsFault (unappended.Refused refusal.Busy) e = e ≡ fault.Busy
 IsFault (unappended.Refused refusal.NoCycleLeft) e = e ≡ fault.BadRoom
 IsFault (unappended.Refused refusal.CycleFull) e = e ≡ fault.BadRoom
 
+-- why the writer did not come to the next queue: that could not begin or be entered, or the shelf is closed
+abbrev pub IsOnFault : ShelfFault → Type 0
+IsOnFault fault.Busy = ⊤
+IsOnFault fault.Full = ⊤
+IsOnFault fault.Closed = ⊤
+IsOnFault fault.BadMoment = ⊤
+IsOnFault fault.OutOfMemory = ⊤
+IsOnFault _ = ⊥
+
 -- why the writer stayed after this refusal
 pub data Stays (refused : AppendFault) (old new : Place) (e : ShelfFault) : Type 0 where
   at_once : new ≡ old → IsFault refused e → Stays refused old new e
-  not_shut : ShutsNot old new → Stays refused old new e
-  not_on : IsLeft refused old new → Stays refused old new e
+  not_shut : ShutsNot old new e → Stays refused old new e
+  not_on : IsLeft refused old new → IsOnFault e → Stays refused old new e
 
 -- a writer was refused in a queue, left it and went on
 pub record WriterMoves {A : Type 0} (append : Append A) (old new : Place) : Type 0 where
@@ -162,11 +180,11 @@ pub record Follows (old new : Place) : Type 0 where
   pub shuts : Shuts old shut
   pub goes : Goes shut new
 
--- it came so far, and then could not close its queue, or could not go on
-pub record FollowsNot (old new : Place) : Type 0 where
+-- it came so far, and went over as many queues as one call does; or could not close its queue, or could not go on
+pub record FollowsNot (old new : Place) (e : ShelfFault) : Type 0 where
   pub last : Place
   pub passed : Passes Follows old last
-  pub stays_there : (new ≡ last) ⊎ ShutsNot last new ⊎ Shuts last new
+  pub stays_there : ((new ≡ last) × (e ≡ fault.Busy)) ⊎ (ShutsNot last new e ⊎ (Shuts last new × IsStepFault e))
 
 -- it came to the last queue, and closed it, or found it closed
 pub record ClosesLast (old new : Place) : Type 0 where
@@ -174,8 +192,13 @@ pub record ClosesLast (old new : Place) : Type 0 where
   pub passed : Passes Follows old last
   pub shuts : Shuts last new
 
+-- it did not close the shelf: it did not come to the last queue or did not close it; or the shelf was closed before
+pub data ClosesNot (old new : Place) (e : ShelfFault) : Type 0 where
+  not_last : FollowsNot old new e → ClosesNot old new e
+  was_closed : ClosesLast old new → e ≡ fault.Closed → ClosesNot old new e
+
 -- what `advance` says: first it follows the others to the last queue
 abbrev pub AdvancesOn : ℕ → Place → Place → Result ℕ ShelfFault → Type 0
 AdvancesOn moment old new (Ok cycle) = (last : Place) × Passes Follows old last × Writes (advances moment) last new cycle
 AdvancesOn moment old new (Err e) =
-    FollowsNot old new ⊎ ((last : Place) × Passes Follows old last × WritesNot (advances moment) last new e)
+    FollowsNot old new e ⊎ ((last : Place) × Passes Follows old last × WritesNot (advances moment) last new e)

@@ -5,6 +5,8 @@ use Rattle.cq_handle.specs.declared.held.Held.TheVariants as held
 use Rattle.cq_handle.specs.declared.held.ShelfUser.{ShelfUser}
 use Rattle.cq_handle.specs.declared.held.ShelfUser.TheVariants as user
 use Rattle.cq_model.specs.Settings as model
+use Rattle.cq_row.specs.Faults.{IsRowFault}
+use Rattle.cq_row.specs.Rows.{IsFirstPlace}
 use Rattle.cq_row.specs.Ways.{Enters}
 use Rattle.cq_row.specs.declared.fault.ShelfFault.{ShelfFault}
 use Rattle.cq_row.specs.declared.place.Place.{Place}
@@ -15,7 +17,7 @@ use Rattle.cq_shelf.specs.Makes.{HasSplit, TakesBy}
 use Rattle.cq_shelf.specs.Reads.{PositionOn}
 use Rattle.cq_shelf.specs.Seeks.{MovesOn, ReadsAtIntoOn, ToEnd, ToStart, Goes, turned}
 use Rattle.cq_shelf.specs.Ways.{Passes}
-use Rattle.cq_shelf.specs.Writes.{ClosesLast, Follows, FollowsNot}
+use Rattle.cq_shelf.specs.Writes.{ClosesLast, ClosesNot, Follows, FollowsNot}
 use Rattle.cq_shelf.specs.declared.answers.ShelfReadAtInto.{ShelfReadAtInto}
 use Rattle.cq_shelf.specs.declared.reader.ShelfReader.{ShelfReader}
 use Rattle.cq_shelf.specs.declared.writer.ShelfWriter.{ShelfWriter}
@@ -95,51 +97,52 @@ MakesTaker writer name (Ok (user.Taker made)) = TakesBy name made
 MakesTaker writer name (Err fault) = ⊤
 MakesTaker _ _ _ = ⊥
 
--- the first writer of a shelf, as it was asked for
-pub record IsShelf (s : ShelfSettings) (text : List ℕ) (writer : ShelfWriter) : Type 0 where
+-- the first writer of a shelf, as it was asked for: its first queue begins with the cycle of this moment
+pub record IsShelf (s : ShelfSettings) (text : List ℕ) (moment : ℕ) (writer : ShelfWriter) : Type 0 where
   pub settings : model.Settings
   pub asked : IsAsked s.queue text settings
   pub at_limit : AtLimit
   pub numbered : limit_number at_limit ≡ s.at_limit
-  pub enters : Enters 0 writer.place
+  pub first : IsFirstPlace settings s.most at_limit moment writer.place
 
 -- a shelf that can be asked for, and was refused for this
-pub record RefusesShelf (s : ShelfSettings) (text : List ℕ) (how : Status) : Type 0 where
+pub record RefusesShelf (s : ShelfSettings) (text : List ℕ) (moment : ℕ) (how : Status) : Type 0 where
   pub settings : model.Settings
   pub asked : IsAsked s.queue text settings
   pub at_limit : AtLimit
   pub numbered : limit_number at_limit ≡ s.at_limit
   pub fault : ShelfFault
+  pub refused : IsRowFault settings s.most moment fault
   pub how_is : how ≡ fault_status fault
 
 -- why no shelf was made
-abbrev pub FailsToMakeShelf : ShelfSettings → List ℕ → Status → Type 0
-FailsToMakeShelf s text how =
-    IsNotMade s.queue text how ⊎ (((how ≡ status.BadSettings) × HasNoLimit s.at_limit) ⊎ RefusesShelf s text how)
+abbrev pub FailsToMakeShelf : ShelfSettings → List ℕ → ℕ → Status → Type 0
+FailsToMakeShelf s text moment how =
+    IsNotMade s.queue text how ⊎ (((how ≡ status.BadSettings) × HasNoLimit s.at_limit) ⊎ RefusesShelf s text moment how)
 
 -- a shelf was made as it was asked for, or why not
-abbrev pub MakesShelf : ShelfSettings → List ℕ → Result ShelfWriter Status → Type 0
-MakesShelf s text (Ok writer) = IsShelf s text writer
-MakesShelf s text (Err how) = FailsToMakeShelf s text how
+abbrev pub MakesShelf : ShelfSettings → List ℕ → ℕ → Result ShelfWriter Status → Type 0
+MakesShelf s text moment (Ok writer) = IsShelf s text moment writer
+MakesShelf s text moment (Err how) = FailsToMakeShelf s text moment how
 
 -- the first writer of a shelf was handed out, as it was asked for
-pub record HandsOutShelf (s : ShelfSettings) (text : List ℕ) (new : Held) : Type 0 where
+pub record HandsOutShelf (s : ShelfSettings) (text : List ℕ) (moment : ℕ) (new : Held) : Type 0 where
   pub writer : ShelfWriter
-  pub made : IsShelf s text writer
+  pub made : IsShelf s text moment writer
   pub new_is : new ≡ held.Shelf (user.Writer writer)
 
 -- a shelf was made, and its first writer handed out; or nothing was
-abbrev pub CreatesShelf : ShelfSettings → List ℕ → Held → Held → Status → Type 0
-CreatesShelf s text old new how = ((how ≡ status.Done) × HandsOutShelf s text new)
-    ⊎ (FailsToMakeShelf s text how × (new ≡ old))
+abbrev pub CreatesShelf : ShelfSettings → List ℕ → ℕ → Held → Held → Status → Type 0
+CreatesShelf s text moment old new how = ((how ≡ status.Done) × HandsOutShelf s text moment new)
+    ⊎ (FailsToMakeShelf s text moment how × (new ≡ old))
 
 -- a writer went on to the last queue, or as far as it came
 abbrev pub FollowsOn : Place → Place → Result Unit ShelfFault → Type 0
-FollowsOn old new result = MatchResult result (λ _. Passes Follows old new) (λ _. FollowsNot old new)
+FollowsOn old new result = MatchResult result (λ _. Passes Follows old new) (FollowsNot old new)
 
--- a writer closed the shelf at the last queue, or went as far as it came
+-- a writer closed the shelf at the last queue, or why it did not
 abbrev pub ClosesOn : Place → Place → Result Unit ShelfFault → Type 0
-ClosesOn old new result = MatchResult result (λ _. ClosesLast old new) (λ _. FollowsNot old new)
+ClosesOn old new result = MatchResult result (λ _. ClosesLast old new) (ClosesNot old new)
 
 -- what is at this index of this queue was read into a buffer; or why not, and nothing changed
 abbrev pub ReadsOn : ℕ → ℕ → Place → List ℕ → Place → List ℕ → Result ShelfReadAtInto ShelfFault → Type 0

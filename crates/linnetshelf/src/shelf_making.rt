@@ -26,7 +26,7 @@ pub extern "C" fn linnetshelf_shelf_create(
     moment: u64,
     out: &mut Handle,
 ) -> u32
-    ensures { Tells (CreatesShelf settings.now names.now out.old.held out.new.held) number result }
+    ensures { Tells (CreatesShelf settings.now names.now moment out.old.held out.new.held) number result }
 {
     let status = match create(alloc, settings, names, moment) {
         Ok(writer) => hand_out(alloc, Held::Shelf(ShelfUser::Writer(writer)), out),
@@ -42,7 +42,7 @@ fn create(
     names: &[u8],
     moment: u64,
 ) -> Result<ShelfWriter, Status>
-    ensures { MakesShelf settings.now names.now result }
+    ensures { MakesShelf settings.now names.now moment result }
 {
     let config = config_of(alloc, &settings.queue, names)?;
     let Some(at_limit) = limit_of(settings.at_limit) else {

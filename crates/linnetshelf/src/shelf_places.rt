@@ -1,5 +1,6 @@
 //! Where writers, readers and takers of a shelf are, and how many of its queues live.
-ghost use Rattle.std.specs.Prelude.{◌≡◌, ⊤};
+ghost use Rattle.std.specs.Arc.{arc_value};
+ghost use Rattle.std.specs.Prelude.{◌≡◌, ◌≤◌, vec_len};
 ghost use Rattle.linnetshelf.specs.Answers.{Tells, done, plain};
 ghost use Rattle.linnetshelf.specs.Handles.{OnShelf, OnShelfWriter};
 ghost use Rattle.linnetshelf.specs.ShelfAnswers.{shelf_plain};
@@ -56,12 +57,12 @@ fn queue(user: &ShelfUser) -> Answer
     }
 }
 
-/// Returns how many queues of a writer's shelf hold memory. It may miss one that another begins or leaves at that
-/// moment.
+/// Returns how many queues of a writer's shelf hold memory, at most as many as it was made for. It may miss one that another
+/// begins or leaves at that moment.
 #[unsafe(no_mangle)]
 pub extern "C" fn linnetshelf_shelf_living(handle: &mut Handle) -> Answer
     ensures { OnShelfWriter handle.old.held handle.new.held (result ≡ plain WrongKind) (λ old new.
-        Tells (λ said. ⊤) done result × (new ≡ old)) }
+        Tells (λ said. said ≤ vec_len (arc_value old.place.row).spots) done result × (new ≡ old)) }
 {
     match handle.held_mut() {
         Held::Shelf(ShelfUser::Writer(writer)) => done(writer.living()),

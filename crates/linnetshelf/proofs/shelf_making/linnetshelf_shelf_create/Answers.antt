@@ -11,16 +11,17 @@ use Rattle.linnetshelf.proofs.shelf_making.linnetshelf_shelf_create.Goals as goa
 use Rattle.linnetshelf.proofs.shelf_making.linnetshelf_shelf_create.Goals.{in-Ok, in-Err}
 
 -- a shelf that was made is handed out, or memory is refused to its handle
-handed : (s : ShelfSettings) (text : List ℕ) (writer : ShelfWriter) (old new : Held) (how : Status) → IsShelf s text writer
-    → HandsOut old (held.Shelf (user.Writer writer)) new how → CreatesShelf s text old new how
-handed s text writer old new how made (inl done) = inl (done.0, record { writer = writer; made = made; new_is = done.1 })
-handed s text writer old new how made (inr none) = inr (inl (inr none.0), none.1)
+handed : (s : ShelfSettings) (text : List ℕ) (moment : ℕ) (writer : ShelfWriter) (old new : Held) (how : Status)
+    → IsShelf s text moment writer
+    → HandsOut old (held.Shelf (user.Writer writer)) new how → CreatesShelf s text moment old new how
+handed s text moment writer old new how made (inl done) = inl (done.0, record { writer = writer; made = made; new_is = done.1 })
+handed s text moment writer old new how made (inr none) = inr (inl (inr none.0), none.1)
 
 pub returns : goal.returns
 returns c = record {
   outcome = c.match-create.status;
   says = elim c.match-create.branch [
-    | in-Ok w ↦ rw (w.status-is, w.out-is) (handed c.args.settings.now c.args.names.now w.in-Ok.writer c.args.out.now.held
+    | in-Ok w ↦ rw (w.status-is, w.out-is) (handed c.args.settings.now c.args.names.now c.args.moment w.in-Ok.writer c.args.out.now.held
         w.hand_out-status.new.out.held w.hand_out-status.result w.in-Ok.ensures w.hand_out-status.ensures)
     | in-Err w ↦ rw (w.status-is, w.out-is) (inr (w.in-Err.ensures, refl))
   ];

@@ -1,0 +1,28 @@
+use Rattle.std.proofs.Common.{ℕ, List, ap, arith, below_more, slice_get, string_bytes, sym, ◌∙◌, ◌≡◌}
+use Rattle.cq_model.specs.Settings.{Settings, texts}
+use Rattle.cq_row.proofs.Names.{name_else, name_here, name_nowhere}
+use Rattle.cq_row.proofs.row.Row.name_index.Goals as goal
+use Rattle.cq_row.proofs.row.Row.name_index.Goals.{After-names-names}
+
+-- the texts that the code goes over are the declared names
+declared : (c : After-names-names) → texts c.names-names.result.now ≡ c.args.self.now.config.names
+declared c = c.names-names.ensures.value ∙ ap (λ (s : Settings). s.names) c.config.ensures
+
+pub returns-then-eq : goal.returns-then-eq
+returns-then-eq c =
+    ap (λ (names : List (List ℕ)). slice_get names c.loop-place.place)
+    (sym (declared (goal.at.returns-then-eq c).After-names-names))
+    ∙ name_here string_bytes c.names-names.result.now c.args.name.now c.loop-place.place (omega arith)
+    c.index-names-place.is c.as_str.ensures.value c.if-eq.ensures
+
+pub loop-place-preserved : goal.loop-place-preserved
+loop-place-preserved c =
+    below_more _ _ c.loop-place.invariant
+    (name_else string_bytes c.names-names.result.now c.args.name.now c.loop-place.place (omega arith)
+    c.index-names-place.is c.as_str.ensures.value c.if-eq.ensures)
+
+pub returns : goal.returns
+returns c named =
+    name_nowhere string_bytes c.names-names.result.now c.args.name.now c.loop-place.place (omega arith)
+    c.loop-place.invariant named.0
+    (ap (λ (names : List (List ℕ)). slice_get names named.0) (declared (goal.at.returns c).After-names-names) ∙ named.1)
