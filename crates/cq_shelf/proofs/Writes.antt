@@ -32,19 +32,19 @@ module _ (old : Place) (e : EndpointFacts) (looks : LooksForEnd old.endpoint e) 
   }
 
 -- what going on from a closed queue says, after an append that found it closed
-pub after_closed : (old new : Place) (r : Result Unit ShelfFault)
+pub after_closed : (len : ℕ) (old new : Place) (r : Result Unit ShelfFault)
     → MatchResult r (λ _. LeavesEnd old new) (λ e. Does LooksForEnd old new × IsOnFault e)
-    → MatchResult r (λ _. Leaves unappended.Closed old new) (Stays unappended.Closed old new)
-after_closed old new (Ok u) says = record { left = says.left; leaves = says.looked; onto = says.onto }
-after_closed old new (Err e) says = not_on says.0 says.1
+    → MatchResult r (λ _. Leaves unappended.Closed old new) (Stays len unappended.Closed old new)
+after_closed len old new (Ok u) says = record { left = says.left; leaves = says.looked; onto = says.onto }
+after_closed len old new (Err e) says = not_on says.0 says.1
 
 -- and from one that was closed after a refusal
-pub after_refused : (refusal : Refusal) (old shut new : Place) (r : Result Unit ShelfFault) → Shuts old shut
+pub after_refused : (len : ℕ) (refusal : Refusal) (old shut new : Place) (r : Result Unit ShelfFault) → Shuts old shut
     → MatchResult r (λ _. LeavesEnd shut new) (λ e. Does LooksForEnd shut new × IsOnFault e)
-    → MatchResult r (λ _. Leaves (unappended.Refused refusal) old new) (Stays (unappended.Refused refusal) old new)
-after_refused refusal old shut new (Ok u) shuts says =
+    → MatchResult r (λ _. Leaves (unappended.Refused refusal) old new) (Stays len (unappended.Refused refusal) old new)
+after_refused len refusal old shut new (Ok u) shuts says =
     record { left = says.left; leaves = (shut, shuts, says.looked); onto = says.onto }
-after_refused refusal old shut new (Err e) shuts says = not_on (shut, shuts, says.0) says.1
+after_refused len refusal old shut new (Err e) shuts says = not_on (shut, shuts, says.0) says.1
 
 module _ {A : Type 0} (append : Append A) (old p : Place) (e : EndpointFacts) (passed : Passes (WriterMoves append) old p) where
   -- the endpoint appended
@@ -62,18 +62,20 @@ module _ {A : Type 0} (append : Append A) (old p : Place) (e : EndpointFacts) (p
     })
 
     -- or stayed there
-    pub writes_not : (one two : ShelfFault) → one ≡ two → Stays f (record p { endpoint = e }) new two → WritesNot append old new one
-    writes_not one two is stayed = record {
+    pub writes_not : (len : ℕ) (one two : ShelfFault) → one ≡ two → Stays len f (record p { endpoint = e }) new two
+        → WritesNot len append old new one
+    writes_not len one two is stayed = record {
       last = p;
       passed = passed;
       fails = inl (record {
         refused = f;
         after = record p { endpoint = e };
         was_refused = (refl, says);
-        stays_there = subst (Stays f (record p { endpoint = e }) new) (sym is) stayed;
+        stays_there = subst (Stays len f (record p { endpoint = e }) new) (sym is) stayed;
       });
     }
 
 -- it went over as many queues as one call does
-pub tires : {A : Type 0} (append : Append A) (old p : Place) → Passes (WriterMoves append) old p → WritesNot append old p Busy
-tires append old p passed = record { last = p; passed = passed; fails = inr (refl, refl) }
+pub tires : {A : Type 0} (len : ℕ) (append : Append A) (old p : Place) → Passes (WriterMoves append) old p
+    → WritesNot len append old p Busy
+tires len append old p passed = record { last = p; passed = passed; fails = inr (refl, refl) }

@@ -1,5 +1,6 @@
 -- What appends of a shelf return: a writer leaves each queue that has no place for its message, once that is closed.
-use Rattle.std.specs.Prelude.{◌≡◌, ◌≢◌, ◌⊎◌, ⊤, ℕ, List, Result, Ok, Err}
+use Rattle.std.specs.Arc.{arc_value}
+use Rattle.std.specs.Prelude.{◌≡◌, ◌≢◌, ◌⊎◌, ⊤, ℕ, List, [], length, Result, Ok, Err}
 use Rattle.cq_endpoint.specs.Closes.{Closes}
 use Rattle.cq_endpoint.specs.Endpoints.{ChangesTailer, ChangesWork, EndpointFacts, child, split_once}
 use Rattle.cq_endpoint.specs.Works.{Advances, Appends, BeginsMessage, CompletesMessage, GivesUp, PutsBytes}
@@ -10,6 +11,7 @@ use Rattle.cq_endpoint.specs.declared.fault.CloseFault.TheVariants as unclosed
 use Rattle.cq_endpoint.specs.declared.fault.CompleteFault.{CompleteFault}
 use Rattle.cq_endpoint.specs.declared.fault.NotWriting.{NotWriting}
 use Rattle.cq_endpoint.specs.declared.fault.PutFault.{PutFault}
+use Rattle.cq_layout.specs.Room.{Fits, IsMessageLength}
 use Rattle.cq_layout.specs.declared.refusal.Refusal.TheVariants as refusal
 use Rattle.cq_model.specs.declared.history.Answer.TheVariants.{Ends}
 use Rattle.cq_model.specs.declared.history.Event.TheVariants.{End}
@@ -99,15 +101,19 @@ pub record Leaves (refused : AppendFault) (old new : Place) : Type 0 where
   pub leaves : IsLeft refused old left
   pub onto : Onto left new
 
--- which fault it is where nothing more was done: an empty queue has no place for the message after the last two refusals
-abbrev pub IsFault : AppendFault → ShelfFault → Type 0
-IsFault unappended.Writing e = e ≡ fault.Writing
-IsFault unappended.Closed e = e ≡ fault.BadRoom
-IsFault (unappended.Refused refusal.BadRoom) e = e ≡ fault.BadRoom
-IsFault (unappended.Refused refusal.BadMoment) e = e ≡ fault.BadMoment
-IsFault (unappended.Refused refusal.Busy) e = e ≡ fault.Busy
-IsFault (unappended.Refused refusal.NoCycleLeft) e = e ≡ fault.BadRoom
-IsFault (unappended.Refused refusal.CycleFull) e = e ≡ fault.BadRoom
+-- an empty queue of this shelf has no place for a message of this many bytes
+abbrev pub HasNoPlaceFor : ℕ → Place → Type 0
+HasNoPlaceFor len p = ¬ (IsMessageLength len × Fits (arc_value p.row).config.layout [] len)
+
+-- which fault it is where nothing more was done after this refusal of a message of this many bytes
+abbrev pub IsFault : ℕ → Place → AppendFault → ShelfFault → Type 0
+IsFault len p unappended.Writing e = e ≡ fault.Writing
+IsFault len p unappended.Closed e = (e ≡ fault.BadRoom) × HasNoPlaceFor len p
+IsFault len p (unappended.Refused refusal.BadRoom) e = e ≡ fault.BadRoom
+IsFault len p (unappended.Refused refusal.BadMoment) e = e ≡ fault.BadMoment
+IsFault len p (unappended.Refused refusal.Busy) e = e ≡ fault.Busy
+IsFault len p (unappended.Refused refusal.NoCycleLeft) e = (e ≡ fault.BadRoom) × HasNoPlaceFor len p
+IsFault len p (unappended.Refused refusal.CycleFull) e = (e ≡ fault.BadRoom) × HasNoPlaceFor len p
 
 -- why the writer did not come to the next queue: that could not begin or be entered, or the shelf is closed
 abbrev pub IsOnFault : ShelfFault → Type 0
@@ -118,11 +124,11 @@ IsOnFault fault.BadMoment = ⊤
 IsOnFault fault.OutOfMemory = ⊤
 IsOnFault _ = ⊥
 
--- why the writer stayed after this refusal
-pub data Stays (refused : AppendFault) (old new : Place) (e : ShelfFault) : Type 0 where
-  at_once : new ≡ old → IsFault refused e → Stays refused old new e
-  not_shut : ShutsNot old new e → Stays refused old new e
-  not_on : IsLeft refused old new → IsOnFault e → Stays refused old new e
+-- why the writer stayed after this refusal of a message of this many bytes
+pub data Stays (len : ℕ) (refused : AppendFault) (old new : Place) (e : ShelfFault) : Type 0 where
+  at_once : new ≡ old → IsFault len old refused e → Stays len refused old new e
+  not_shut : ShutsNot old new e → Stays len refused old new e
+  not_on : IsLeft refused old new → IsOnFault e → Stays len refused old new e
 
 -- a writer was refused in a queue, left it and went on
 pub record WriterMoves {A : Type 0} (append : Append A) (old new : Place) : Type 0 where
@@ -132,11 +138,11 @@ pub record WriterMoves {A : Type 0} (append : Append A) (old new : Place) : Type
   pub leaves : Leaves refused after new
 
 -- it was refused in a queue, and stayed there
-pub record WriterStays {A : Type 0} (append : Append A) (old new : Place) (e : ShelfFault) : Type 0 where
+pub record WriterStays {A : Type 0} (len : ℕ) (append : Append A) (old new : Place) (e : ShelfFault) : Type 0 where
   pub refused : AppendFault
   pub after : Place
   pub was_refused : Does (append (Err refused)) old after
-  pub stays_there : Stays refused after new e
+  pub stays_there : Stays len refused after new e
 
 -- what a call says that appends: it left queue by queue, and in the last one it did this
 pub record Writes {A : Type 0} (append : Append A) (old new : Place) (a : A) : Type 0 where
@@ -145,20 +151,20 @@ pub record Writes {A : Type 0} (append : Append A) (old new : Place) (a : A) : T
   pub appended : Does (append (Ok a)) last new
 
 -- and what it says where it failed: nothing was appended, in no queue
-pub record WritesNot {A : Type 0} (append : Append A) (old new : Place) (e : ShelfFault) : Type 0 where
+pub record WritesNot {A : Type 0} (len : ℕ) (append : Append A) (old new : Place) (e : ShelfFault) : Type 0 where
   pub last : Place
   pub passed : Passes (WriterMoves append) old last
-  pub fails : WriterStays append last new e ⊎ ((new ≡ last) × (e ≡ fault.Busy))
+  pub fails : WriterStays len append last new e ⊎ ((new ≡ last) × (e ≡ fault.Busy))
 
 -- what `append` says
 abbrev pub AppendsOn : ℕ → List ℕ → Place → Place → Result Position ShelfFault → Type 0
 AppendsOn moment m old new (Ok at) = (at.queue ≡ new.number) × Writes (appends moment m) old new at.index
-AppendsOn moment m old new (Err e) = WritesNot (appends moment m) old new e
+AppendsOn moment m old new (Err e) = WritesNot (length m) (appends moment m) old new e
 
 -- what `begin` says
 abbrev pub BeginsOn : ℕ → ℕ → Place → Place → Result Unit ShelfFault → Type 0
 BeginsOn moment room old new (Ok u) = Writes (begins moment room) old new u
-BeginsOn moment room old new (Err e) = WritesNot (begins moment room) old new e
+BeginsOn moment room old new (Err e) = WritesNot room (begins moment room) old new e
 
 -- what `put` says, `complete` and `roll_back`: what the endpoint does there
 abbrev pub PutsOn : List ℕ → Place → Place → Result Unit PutFault → Type 0
@@ -201,4 +207,4 @@ pub data ClosesNot (old new : Place) (e : ShelfFault) : Type 0 where
 abbrev pub AdvancesOn : ℕ → Place → Place → Result ℕ ShelfFault → Type 0
 AdvancesOn moment old new (Ok cycle) = (last : Place) × Passes Follows old last × Writes (advances moment) last new cycle
 AdvancesOn moment old new (Err e) =
-    FollowsNot old new e ⊎ ((last : Place) × Passes Follows old last × WritesNot (advances moment) last new e)
+    FollowsNot old new e ⊎ ((last : Place) × Passes Follows old last × WritesNot 1 (advances moment) last new e)
