@@ -38,9 +38,10 @@ module _ {A : Type 0} (asking : Asking A) (old : Here) (p : Place) (room full : 
         goes = goes;
       };
     }
-    settles (failed f) (inl is, stays) = record { last = here p room; passed = passed; replies = next (answers asking.finished is stays) }
-    settles (failed f) (inr starts, stays) =
-        record { last = here p room; passed = passed; replies = before found starts (answers found refl stays) }
+    settles (failed f) (inl is, stays, why) =
+        record { last = here p room; passed = passed; replies = next (answers asking.finished is stays) why }
+    settles (failed f) (inr starts, stays, why) =
+        record { last = here p room; passed = passed; replies = before found starts (answers found refl stays) why }
 
     -- or it went to another queue
     pub steps : Steps asking found (with_endpoint p e) new → Passes (Moves asking) old (here new full)
@@ -56,6 +57,12 @@ module _ {A : Type 0} (asking : Asking A) (old : Here) (p : Place) (room full : 
       started = (refl, says);
       goes = goes;
     }))
+
+    -- with the error of a step
+    pub settles_as : (one two : ShelfFault) → one ≡ two → Settles asking found (with_endpoint p e) new (failed two)
+        → Asks asking old (here new full) (failed one)
+    settles_as one two is says =
+        settles (failed one) (subst (λ (f : ShelfFault). Settles asking found (with_endpoint p e) new (failed f)) (sym is) says)
 
     module _ {B : Type 0} (reply : Result B ShelfFault → Reply A) (IsIn : ℕ → Result B ShelfFault → Type 0) (o : Option B) where
       -- the call ends with an answer of the shelf

@@ -1,6 +1,7 @@
 -- How an endpoint of a shelf comes from queue to queue in one call, and what it does in the last one.
 use Rattle.std.specs.Prelude.{true, ◌≡◌, ◌⊎◌, ℕ, List, Option, None, Some, Result, Ok, Err}
 use Rattle.cq_endpoint.specs.Endpoints.{EndpointFacts}
+use Rattle.cq_row.specs.Faults.{IsStepFault}
 use Rattle.cq_row.specs.Ways.{GoesBack, GoesOn}
 use Rattle.cq_row.specs.declared.fault.ShelfFault.{ShelfFault}
 use Rattle.cq_row.specs.declared.fault.ShelfFault.TheVariants.{Busy}
@@ -76,12 +77,12 @@ pub record Backward {A : Type 0} (asking : Asking A) (old new : Here) : Type 0 w
 abbrev pub Moves : {A : Type 0} → Asking A → Here → Here → Type 0
 Moves asking old new = Onward (asking.call asking.finished) old new ⊎ Backward asking old new
 
--- why it failed in the last queue to which it came: it was refused, or did not get to the next queue or to the one before; or it
--- had gone over as many queues as one call does
+-- why it failed in the last queue to which it came: it was refused, or did not get to the next queue or to the one before, for one
+-- of the reasons of a step; or it had gone over as many queues as one call does
 pub data FailsAt {A : Type 0} (asking : Asking A) (old new : Here) (fault : ShelfFault) : Type 0 where
   refused : Makes (asking.fails fault) old new → FailsAt asking old new fault
-  next : Makes (asking.call asking.finished) old new → FailsAt asking old new fault
-  before : (a : A) → asking.is_start a → Makes (asking.call a) old new → FailsAt asking old new fault
+  next : Makes (asking.call asking.finished) old new → IsStepFault fault → FailsAt asking old new fault
+  before : (a : A) → asking.is_start a → Makes (asking.call a) old new → IsStepFault fault → FailsAt asking old new fault
   turns : new ≡ old → fault ≡ Busy → FailsAt asking old new fault
 
 -- what it did there
@@ -105,7 +106,7 @@ Settles asking found old new (said a) = (found ≡ a) × (new ≡ old)
 Settles asking found old new waits = (found ≡ asking.not_yet ⊎ found ≡ asking.finished) × (new ≡ old)
 Settles asking found old new ends = (found ≡ asking.finished) × (new ≡ old)
 Settles asking found old new (missed n) = (found ≡ asking.finished) × GoesOn old (step.Skipped n) new
-Settles asking found old new (failed e) = (found ≡ asking.finished ⊎ asking.is_start found) × (new ≡ old)
+Settles asking found old new (failed e) = (found ≡ asking.finished ⊎ asking.is_start found) × (new ≡ old) × IsStepFault e
 
 -- where the endpoint went after it: to the next queue once its own is finished, or to the one before from the start of its own
 abbrev pub Steps : {A : Type 0} → Asking A → A → Place → Place → Type 0
