@@ -23,7 +23,8 @@ impl Endpoint {
     /// - `Closed`: the queue was closed before.
     /// - `Busy`: another caller is writing at the tail. It may be tried again.
     /// - `CycleFull`: not one byte fits into the current cycle, and time has no later one: it would be after the last
-    ///   cycle or the last moment. Or others have filled the next cycle meanwhile; it may be tried again.
+    ///   cycle or the last moment. So it is also where all cycles have begun. Or others have filled the next cycle
+    ///   meanwhile; it may be tried again.
     ///
     /// The last two come as `Refused`. It never waits (ours; Chronicle Queue closes no queue for others).
     pub fn close(&mut self) -> Result<(), CloseFault>

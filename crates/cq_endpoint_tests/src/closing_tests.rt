@@ -1,8 +1,11 @@
 //! Queues that are closed: what each call of their endpoints returns.
-use crate::calls::Call;
-use crate::life_tests::{Life, Who, expect_lives};
+use crate::calls::{Call, Calls, expect_calls};
+use crate::life_tests::{Life, Who, expect_lives, stopped_text};
+use crate::new_queues::rolling_endpoint;
+use cq_cycle::{LAST_MOMENT, Roll};
 use cq_endpoint::Direction;
-use cq_fixtures::DAY;
+use cq_fixtures::{DAY, expect_end};
+use std::alloc::Global;
 use std::test::Fail;
 
 static LIVES: [Life; 6] = [
@@ -139,4 +142,188 @@ static LIVES: [Life; 6] = [
 #[test]
 fn endpoints_close_a_queue(rt: HostRuntime) -> Result<(), Fail> {
     expect_lives(rt.alloc(), &LIVES)
+}
+
+/// A queue in a late cycle.
+struct Late {
+    roll: Roll,
+    /// How many cycles it may have. The first one is cycle 0.
+    cycles: u32,
+    /// Calls of its endpoint in turn, each with what it returns.
+    calls: Calls,
+    /// What it holds once the endpoint stopped it.
+    end: &'static str,
+}
+
+/// A message after which a cycle of 64 cells has a place for one more, of at most four bytes.
+const LONG: &str =
+    "This message takes 33 of the 36 cells that are left by the store record and two tables. One more of four bytes has a place now.";
+
+/// The last millisecond of the last cycle of a minute. No queue has a later one.
+const LAST_OF_MINUTES: u64 = 128_849_018_819_999;
+
+/// Not one byte fits into the last day. No message can come, and yet the queue is not closed.
+const FULL_DAY: Calls = &[
+    (Call::Advance(LAST_MOMENT), "cycle 2932896"),
+    (Call::AppendAll, "13 appended, Refused(CycleFull)"),
+    (Call::Close, "Refused(CycleFull)"),
+    (Call::IsClosed, "open"),
+    (Call::Close, "Refused(CycleFull)"),
+    (Call::Append(0, "b"), "Refused(CycleFull)"),
+    (Call::Append(LAST_MOMENT, "b"), "Refused(CycleFull)"),
+    (Call::Append(LAST_MOMENT + 1, "b"), "Refused(BadMoment)"),
+    (Call::Begin(0, 1), "Refused(CycleFull)"),
+    (Call::Advance(LAST_MOMENT), "cycle 2932896"),
+    (Call::Next, "12596692402569216 a"),
+    (Call::Take("reader"), "12596692402569216 a"),
+    (Call::ReadAt(12596692402569228), "12596692402569228 a"),
+    (Call::ReadAt(12596692402569229), "NotYet"),
+    (Call::ToEnd, "end 12596692402569229"),
+    (Call::Next, "NotYet"),
+    (Call::NextInto(1), "NotYet [.]"),
+    (Call::Turn(Direction::Backwards), "turned"),
+    (Call::Next, "12596692402569228 a"),
+];
+
+static LATE: [Late; 9] = [
+    // The last day has room.
+    Late {
+        roll: Roll::Daily,
+        cycles: 2,
+        calls: &[
+            (Call::Append(LAST_MOMENT, "a"), "12596692402569216"),
+            (Call::Close, "closed"),
+            (Call::IsClosed, "closed"),
+            (Call::Close, "Closed"),
+            (Call::Append(0, "b"), "Closed"),
+            (Call::Append(LAST_MOMENT, "b"), "Closed"),
+            (Call::Append(LAST_MOMENT + 1, "b"), "Refused(BadMoment)"),
+            (Call::Begin(0, 1), "Closed"),
+            (Call::Advance(LAST_MOMENT), "cycle 2932896"),
+            (Call::Next, "12596692402569216 a"),
+            (Call::Next, "Finished"),
+            (Call::Take("reader"), "12596692402569216 a"),
+            (Call::Take("reader"), "Finished"),
+        ],
+        end: "0[] 2932896[a;] at [12596692402569217]",
+    },
+    // It has room for the message of one byte that closes the queue, and for no longer one.
+    Late {
+        roll: Roll::Daily,
+        cycles: 2,
+        calls: &[
+            (Call::Append(LAST_MOMENT, LONG), "12596692402569216"),
+            (Call::Append(LAST_MOMENT, "hello"), "Refused(CycleFull)"),
+            (Call::Close, "closed"),
+            (Call::IsClosed, "closed"),
+            (Call::Append(0, "b"), "Closed"),
+            (Call::Append(0, "hello"), "Closed"),
+            (Call::MoveTo(12596692402569216), "moved"),
+            (Call::NextInto(0), "NoRoom(127) []"),
+            (Call::ToEnd, "end 12596692402569217"),
+            (Call::Next, "Finished"),
+        ],
+        end: "0[] 2932896[This message takes 33 of the 36 cells that are left by the store record and two tables. One more of four bytes has a place now.;] at [0]",
+    },
+    // It has none, whether all cycles have begun or not.
+    Late {
+        roll: Roll::Daily,
+        cycles: 2,
+        calls: FULL_DAY,
+        end: "0[] 2932896[a;a;a;a;a;a;a;a;a;a;a;a;a;] at [12596692402569217]",
+    },
+    Late {
+        roll: Roll::Daily,
+        cycles: 4,
+        calls: FULL_DAY,
+        end: "0[] 2932896[a;a;a;a;a;a;a;a;a;a;a;a;a;] at [12596692402569217]",
+    },
+    // The day before is full. The last day begins, or all cycles have begun.
+    Late {
+        roll: Roll::Daily,
+        cycles: 4,
+        calls: &[
+            (Call::Advance(LAST_MOMENT - DAY), "cycle 2932895"),
+            (Call::AppendAll, "13 appended, Refused(CycleFull)"),
+            (Call::Close, "closed"),
+            (Call::Append(LAST_MOMENT, "b"), "Closed"),
+            (Call::ToEnd, "end 12596692402569216"),
+            (Call::Next, "Finished"),
+        ],
+        end: "0[] 2932895[a;a;a;a;a;a;a;a;a;a;a;a;a;] 2932896[] at [0]",
+    },
+    Late {
+        roll: Roll::Daily,
+        cycles: 2,
+        calls: &[
+            (Call::Advance(LAST_MOMENT - DAY), "cycle 2932895"),
+            (Call::AppendAll, "13 appended, Refused(CycleFull)"),
+            (Call::Close, "closed"),
+            (Call::Append(LAST_MOMENT, "b"), "Closed"),
+            (Call::ToEnd, "end 12596688107601933"),
+            (Call::Next, "Finished"),
+        ],
+        end: "0[] 2932895[a;a;a;a;a;a;a;a;a;a;a;a;a;] at [0]",
+    },
+    // The last hour of the same year, and the last minute that has a number, are as the last day.
+    Late {
+        roll: Roll::Hourly,
+        cycles: 4,
+        calls: &[
+            (Call::Advance(LAST_MOMENT), "cycle 70389527"),
+            (Call::AppendAll, "13 appended, Refused(CycleFull)"),
+            (Call::Close, "Refused(CycleFull)"),
+            (Call::IsClosed, "open"),
+            (Call::Append(LAST_MOMENT, "b"), "Refused(CycleFull)"),
+            (Call::Append(LAST_MOMENT + 1, "b"), "Refused(BadMoment)"),
+            (Call::ToEnd, "end 302320716445909005"),
+            (Call::Next, "NotYet"),
+        ],
+        end: "0[] 70389527[a;a;a;a;a;a;a;a;a;a;a;a;a;] at [0]",
+    },
+    Late {
+        roll: Roll::Minutely,
+        cycles: 4,
+        calls: &[
+            (Call::Advance(LAST_OF_MINUTES), "cycle 2147483646"),
+            (Call::AppendAll, "13 appended, Refused(CycleFull)"),
+            (Call::Close, "Refused(CycleFull)"),
+            (Call::IsClosed, "open"),
+            (Call::Append(LAST_OF_MINUTES, "b"), "Refused(CycleFull)"),
+            (Call::Append(LAST_OF_MINUTES + 1, "b"), "Refused(BadMoment)"),
+            (Call::ToEnd, "end 9223372028264841229"),
+            (Call::Next, "NotYet"),
+        ],
+        end: "0[] 2147483646[a;a;a;a;a;a;a;a;a;a;a;a;a;] at [0]",
+    },
+    Late {
+        roll: Roll::Minutely,
+        cycles: 4,
+        calls: &[
+            (Call::Append(LAST_OF_MINUTES, "a"), "9223372028264841216"),
+            (Call::Close, "closed"),
+            (Call::Append(LAST_OF_MINUTES, "b"), "Closed"),
+            (Call::Next, "9223372028264841216 a"),
+            (Call::Next, "Finished"),
+        ],
+        end: "0[] 2147483646[a;] at [0]",
+    },
+];
+
+impl Late {
+    /// Fails if a call does not return what is wanted, or if the queue does not hold it at the end.
+    fn expect(&self, alloc: Global, row: &str) -> Result<(), Fail> {
+        let mut endpoint = rolling_endpoint(alloc, self.roll, self.cycles)?;
+        expect_calls(alloc, row, &mut endpoint, self.calls)?;
+        expect_end(row, stopped_text(alloc, endpoint)?.as_str(), self.end)
+    }
+}
+
+#[test]
+fn a_full_queue_stays_open_in_the_last_cycle_of_time(rt: HostRuntime) -> Result<(), Fail> {
+    for (number, late) in LATE.iter().enumerate() {
+        let row = format!(in rt.alloc(); "late queue {number}")?;
+        late.expect(rt.alloc(), row.as_str())?;
+    }
+    Ok(())
 }

@@ -45,7 +45,7 @@ fn expect_calls(
 }
 
 /// What a queue holds that an endpoint stops as the last one.
-fn stopped_text(alloc: Global, last: Endpoint) -> Result<String, Fail> {
+pub fn stopped_text(alloc: Global, last: Endpoint) -> Result<String, Fail> {
     match last.stop() {
         Ok(stopped) => contents_text(alloc, &recover(alloc, &stopped)?),
         Err(_endpoint) => Err(Fail::new("the last endpoint did not stop the queue")),
