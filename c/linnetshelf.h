@@ -360,7 +360,7 @@ uint32_t linnetshelf_shelf_taker(linnetshelf_handle *writer, const void *name, s
 /* Appends a message of 1 to 2^30 - 1 bytes, and returns where it is. If its queue has no place for it, the queue is closed. From
  * a closed queue the writer goes on to the next one, and appends there. That queue begins with the cycle of `moment`, or with
  * the last cycle of the queue before it, if that is later.
- * BUSY (yield or sleep, then call again; it also stays so in the last cycle of time, of the year 9999), FULL (see above),
+ * BUSY (yield or sleep, then call again; in the last cycle of time it stays so once not one byte fits), FULL (see above),
  * WRITING, BAD_ROOM (also where an empty queue has no place for the message), BAD_MOMENT, CLOSED (the shelf is), OUT_OF_MEMORY
  * (to the next queue: call again). Nothing was appended then, but the queue may have been closed, and the next one begun. */
 linnetshelf_shelf_answer linnetshelf_shelf_append(linnetshelf_handle *writer, uint64_t moment, const void *bytes, size_t length);

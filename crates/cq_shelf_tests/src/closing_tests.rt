@@ -1,12 +1,13 @@
 //! Shelves that are closed: what each call returns then.
 use crate::calls::Call;
 use crate::lives::{Life, Who, expect_lives};
+use cq_cycle::LAST_MOMENT;
 use cq_endpoint::Direction;
 use cq_fixtures::DAY;
 use cq_shelf::AtLimit;
 use std::test::Fail;
 
-static LIVES: [Life; 8] = [
+static LIVES: [Life; 11] = [
     // Nothing is appended any more. Reads and takes come to their end.
     Life {
         cycles: 1,
@@ -26,6 +27,7 @@ static LIVES: [Life; 8] = [
             (Who::First, Call::Begin(0, 1), "Closed"),
             (Who::First, Call::Begin(0, 0), "BadRoom"),
             (Who::First, Call::Begin(0, 200), "BadRoom"),
+            (Who::First, Call::Advance(0), "cycle 0"),
             (Who::First, Call::Advance(DAY), "Closed"),
             (Who::First, Call::Advance(u64::MAX), "BadMoment"),
             (Who::First, Call::Put("b"), "NotWriting"),
@@ -192,6 +194,94 @@ static LIVES: [Life; 8] = [
             (Who::Second, Call::NewReader, "made"),
             (Who::First, Call::Next, "0: 0.0 a"),
             (Who::First, Call::Next, "Finished"),
+        ],
+    },
+    // In the last cycle of time a queue is closed, and the next one begins, as long as one byte fits.
+    Life {
+        cycles: 1,
+        most: 2,
+        at_limit: AtLimit::Refuse,
+        calls: &[
+            (Who::First, Call::NewReader, "made"),
+            (Who::First, Call::NewTaker("reader"), "made"),
+            (Who::First, Call::Append(LAST_MOMENT, "a"), "1: 2932896.0"),
+            (Who::First, Call::AppendMany(0, 11), "1: 2932896.11"),
+            (Who::Second, Call::Count, "12 read, NotYet"),
+            (Who::Second, Call::CountTaken, "12 taken, NotYet"),
+            (Who::First, Call::Append(0, "hello"), "2: 2932896.0"),
+            (Who::First, Call::AppendMany(0, 11), "2: 2932896.11"),
+            // Not one byte fits: nothing is appended, and the shelf is not closed.
+            (Who::First, Call::Append(0, "b"), "Busy"),
+            (Who::First, Call::Append(LAST_MOMENT, "b"), "Busy"),
+            (Who::First, Call::Begin(0, 1), "Busy"),
+            (Who::First, Call::Close, "Busy"),
+            (Who::First, Call::Close, "Busy"),
+            (Who::First, Call::Append(0, ""), "BadRoom"),
+            (Who::First, Call::Begin(0, 200), "BadRoom"),
+            (Who::First, Call::Append(LAST_MOMENT + 1, "b"), "BadMoment"),
+            (Who::First, Call::Advance(LAST_MOMENT + 1), "BadMoment"),
+            (Who::First, Call::Advance(LAST_MOMENT), "cycle 2932896"),
+            (Who::First, Call::Put("b"), "NotWriting"),
+            (Who::First, Call::Follow, "queue 2"),
+            (Who::First, Call::Living, "2 live"),
+            // All that was appended is read and taken.
+            (Who::Second, Call::Next, "2: 2932896.0 hello"),
+            (Who::Second, Call::Count, "11 read, NotYet"),
+            (Who::Second, Call::NextInto(1), "NotYet [.]"),
+            (Who::Second, Call::CountTaken, "12 taken, NotYet"),
+            (Who::Second, Call::TakeInto(1), "NotYet [.]"),
+            (Who::First, Call::Living, "1 live"),
+            (Who::Second, Call::ReadAt(2, 2932896, 11), "2: 2932896.11 a"),
+            (Who::Second, Call::ReadAt(2, 2932896, 12), "NotYet"),
+            (Who::Second, Call::ReadAt(3, 2932896, 0), "NotYet"),
+            (
+                Who::Second,
+                Call::Snapshot,
+                "2: 2932896[hello;a;a;a;a;a;a;a;a;a;a;a;]",
+            ),
+            (Who::First, Call::NewReader, "made"),
+            (Who::Second, Call::Count, "12 read, NotYet"),
+            (Who::First, Call::Close, "Busy"),
+        ],
+    },
+    // The same, where the oldest queue is dropped, and for a writer that is late.
+    Life {
+        cycles: 1,
+        most: 2,
+        at_limit: AtLimit::DropOldest,
+        calls: &[
+            (Who::First, Call::NewReader, "made"),
+            (Who::First, Call::SplitWriter, "made"),
+            (
+                Who::First,
+                Call::AppendMany(LAST_MOMENT, 13),
+                "1: 2932896.12",
+            ),
+            (Who::First, Call::Append(0, "b"), "Busy"),
+            (Who::First, Call::Close, "Busy"),
+            (Who::Second, Call::Close, "Busy"),
+            (Who::Second, Call::WriterQueue, "queue 1"),
+            (Who::Second, Call::Append(0, "b"), "Busy"),
+            (Who::Second, Call::Count, "13 read, NotYet"),
+            (Who::First, Call::NewTaker("reader"), "made"),
+            (Who::Second, Call::CountTaken, "13 taken, NotYet"),
+        ],
+    },
+    // Where one byte fits the shelf is closed there.
+    Life {
+        cycles: 2,
+        most: 2,
+        at_limit: AtLimit::Refuse,
+        calls: &[
+            (Who::First, Call::NewReader, "made"),
+            (
+                Who::First,
+                Call::AppendMany(LAST_MOMENT, 12),
+                "0: 2932896.11",
+            ),
+            (Who::First, Call::Close, "closed"),
+            (Who::First, Call::Append(LAST_MOMENT, "b"), "Closed"),
+            (Who::Second, Call::Count, "12 read, Finished"),
         ],
     },
 ];
