@@ -1,7 +1,10 @@
 //! Shelves in one thread: messages go over queues, queues are freed, and shelves are made or refused.
-use crate::calls::Call;
+use crate::calls::{Call, written_text};
 use crate::lives::{Life, Who, expect_lives};
-use cq_fixtures::{DAY, expect_answer, small_config};
+use cq_cycle::{LAST_MOMENT, Roll};
+use cq_fixtures::{DAY, expect_answer};
+use cq_layout::Shape;
+use cq_model::Config;
 use cq_shelf::{AtLimit, ShelfWriter};
 use std::alloc::Global;
 use std::test::Fail;
@@ -10,7 +13,11 @@ use std::test::Fail;
 const TOO_LONG: &str =
     "The store record, the top table and the first table take 28 of the 64 cells. This message takes more than the 36 cells of 4 bytes that are left.";
 
-static LIVES: [Life; 4] = [
+/// The longest message that such a cycle has a place for.
+const FILLS: &str =
+    "A message of 136 bytes takes a header and 34 cells. These are all that an empty cycle has left, but for one that is kept for its end....";
+
+static LIVES: [Life; 5] = [
     // Each queue takes 13 messages of one byte, and there are places for three.
     Life {
         cycles: 1,
@@ -102,6 +109,24 @@ static LIVES: [Life; 4] = [
             (Who::Second, Call::CountTaken, "27 taken, NotYet"),
         ],
     },
+    // One message fills a queue.
+    Life {
+        cycles: 1,
+        most: 2,
+        at_limit: AtLimit::Refuse,
+        calls: &[
+            (Who::First, Call::NewReader, "made"),
+            (Who::First, Call::Append(0, FILLS), "0: 0.0"),
+            (Who::Second, Call::NextInto(3), "NoRoom(136) [...]"),
+            (Who::First, Call::Append(0, "b"), "1: 0.0"),
+            (Who::First, Call::Append(0, FILLS), "Full"),
+            (Who::Second, Call::Count, "2 read, NotYet"),
+            (Who::First, Call::NewTaker("reader"), "made"),
+            (Who::Second, Call::CountTaken, "2 taken, NotYet"),
+            (Who::First, Call::Append(0, FILLS), "2: 0.0"),
+            (Who::Second, Call::Count, "1 read, NotYet"),
+        ],
+    },
     // A writer that does not append keeps its queue until it follows.
     Life {
         cycles: 1,
@@ -144,33 +169,66 @@ fn messages_go_over_queues(rt: HostRuntime) -> Result<(), Fail> {
     expect_lives(rt.alloc(), &LIVES)
 }
 
-/// Why no shelf is made.
-fn fault_of(alloc: Global, most: u32, moment: u64) -> Result<String, Fail> {
-    match ShelfWriter::create(
-        alloc,
-        small_config(alloc, 1)?,
-        most,
-        AtLimit::Refuse,
-        moment,
-    ) {
+/// One cycle of a day, the first of which begins one day after the start of Unix time.
+fn late_config(alloc: Global) -> Result<Config, Fail> {
+    let shape = Shape::new(64, 8, 1)?;
+    Ok(Config::new(shape, 1, Roll::Daily, DAY, Vec::new(alloc))?)
+}
+
+/// Why no shelf of such queues is made.
+fn fault_of(alloc: Global, most: u32, at_limit: AtLimit, moment: u64) -> Result<String, Fail> {
+    match ShelfWriter::create(alloc, late_config(alloc)?, most, at_limit, moment) {
         Ok(_writer) => Ok(String::from_str(alloc, "made")?),
         Err(fault) => Ok(format!(in alloc; "{fault}")?),
     }
 }
 
-/// Places and moments of shelves, and why they are not made.
-static SHELVES: [(u32, u64, &str); 4] = [
-    (0, 0, "BadShelf"),
+/// Places and moments of such shelves, and why they are not made.
+static SHELVES: [(u32, u64, &str); 10] = [
+    (0, DAY, "BadShelf"),
+    (1, DAY, "BadShelf"),
     (1, 0, "BadShelf"),
+    (2, 0, "BadMoment"),
+    (2, DAY - 1, "BadMoment"),
+    (2, LAST_MOMENT + 1, "BadMoment"),
     (2, u64::MAX, "BadMoment"),
-    (2, 0, "made"),
+    (2, DAY, "made"),
+    (2, LAST_MOMENT, "made"),
+    (9, 2 * DAY, "made"),
 ];
 
 #[test]
 fn shelves_are_made_or_refused(rt: HostRuntime) -> Result<(), Fail> {
-    for (row, (most, moment, want)) in SHELVES.iter().enumerate() {
-        let fault = fault_of(rt.alloc(), *most, *moment)?;
-        expect_answer("shelves", row, fault.as_str(), want)?;
+    for at_limit in [AtLimit::Refuse, AtLimit::DropOldest] {
+        for (row, (most, moment, want)) in SHELVES.iter().enumerate() {
+            let fault = fault_of(rt.alloc(), *most, at_limit, *moment)?;
+            expect_answer("shelves", row, fault.as_str(), want)?;
+        }
+    }
+    Ok(())
+}
+
+/// Calls of the writer of such a shelf, whose first queue begins with cycle 2.
+static LATE_CALLS: [(Call, &str); 9] = [
+    (Call::Append(DAY - 1, "a"), "BadMoment"),
+    (Call::Begin(DAY - 1, 1), "BadMoment"),
+    (Call::Advance(DAY - 1), "BadMoment"),
+    (Call::Append(DAY, "a"), "0: 2.0"),
+    (Call::Append(5 * DAY, "b"), "1: 4.0"),
+    (Call::Append(DAY, "c"), "1: 4.1"),
+    (Call::Close, "closed"),
+    (Call::Append(0, "d"), "BadMoment"),
+    (Call::Append(DAY, "d"), "Closed"),
+];
+
+#[test]
+fn no_message_comes_before_the_first_cycle(rt: HostRuntime) -> Result<(), Fail> {
+    let alloc = rt.alloc();
+    let config = late_config(alloc)?;
+    let mut writer = ShelfWriter::create(alloc, config, 2, AtLimit::Refuse, 3 * DAY)?;
+    for (row, (call, want)) in LATE_CALLS.iter().enumerate() {
+        let answer = written_text(alloc, &mut writer, *call)?;
+        expect_answer("calls", row, answer.as_str(), want)?;
     }
     Ok(())
 }
