@@ -17,7 +17,7 @@ use std::test::Fail;
 pub enum Call {
     /// Appends this text at a moment.
     Append(u64, &'static str),
-    /// Appends "a" at a moment this many times, and gives the position of the last one.
+    /// Appends "a" at a moment this many times, unless one is refused, and gives the position of the last one.
     AppendMany(u64, u32),
     /// Begins a message at a moment, of at most this many bytes.
     Begin(u64, u32),
@@ -129,7 +129,7 @@ fn with_buffer(alloc: Global, answer: String, buffer: &[u8]) -> Result<String, F
     Ok(format!(in alloc; "{answer} [{text}]")?)
 }
 
-/// Where the last message is of this many that are appended, or why it was not appended.
+/// Where the last message is of this many that are appended, or why the first of them was refused that was.
 fn append_many(
     alloc: Global,
     writer: &mut ShelfWriter,
@@ -139,6 +139,9 @@ fn append_many(
     let mut last = Err(ShelfFault::Busy);
     for _ in 0..count {
         last = writer.append(alloc, moment, b"a");
+        if last.is_err() {
+            break;
+        }
     }
     place_text(alloc, &last)
 }
