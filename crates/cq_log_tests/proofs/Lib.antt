@@ -1,0 +1,2 @@
+mod Torn
+mod Records

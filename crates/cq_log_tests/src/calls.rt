@@ -1,0 +1,68 @@
+//! Calls of a log, and their answers as text.
+ghost use Rattle.cq_log.specs.Log.{IsSound};
+
+use crate::{Change, TornFile};
+use cq_log::{Device, DeviceFault, Log, LogFault};
+use std::alloc::{AllocError, Global};
+
+/// A call of a log.
+#[derive(Clone, Copy)]
+pub enum Call {
+    /// Puts a frame with these bytes.
+    Push(&'static str),
+    /// Opens the gate of the frame that waits.
+    Settle,
+}
+
+/// Makes the calls, and returns their answers as text. Out of memory ends it.
+fn answers<D: Device>(alloc: Global, log: &mut Log<D>, calls: &[Call]) -> Result<String, LogFault>
+    requires { IsSound D.seen D.may_leave D.fault log.old }
+    ensures { IsSound D.seen D.may_leave D.fault log.new }
+{
+    let mut text = String::new(alloc);
+    for call in calls {
+        let answer = match call {
+            Call::Push(frame) => log.push(alloc, frame.as_bytes()),
+            Call::Settle => log.settle().map_err(LogFault::Stopped),
+        };
+        match answer {
+            Ok(()) => text.push_str("ok ")?,
+            Err(LogFault::OutOfMemory | LogFault::Stopped(DeviceFault::OutOfMemory)) => {
+                return Err(LogFault::OutOfMemory);
+            }
+            Err(fault) => write!(text, "{fault:?} ")?,
+        }
+    }
+    Ok(text)
+}
+
+/// Makes a log in a file of which the write, cut or sync with this number fails, and makes the calls. Returns the file and the
+/// answers.
+pub fn after_calls(
+    alloc: Global,
+    failing: u64,
+    calls: &[Call],
+) -> Result<(TornFile, String), LogFault> {
+    match Log::create(TornFile::new(alloc, failing)) {
+        Err(error) if error.fault == DeviceFault::OutOfMemory => Err(LogFault::OutOfMemory),
+        Err(error) => Ok((error.device, format!(in alloc; "{:?}", error.fault)?)),
+        Ok(log) => {
+            let mut log = log;
+            let answers = answers(alloc, &mut log, calls)?;
+            Ok((log.into_device(), answers))
+        }
+    }
+}
+
+/// Returns the writes and syncs of a file as text: the offset and the number of bytes of a write.
+pub fn changes_text(alloc: Global, file: &TornFile) -> Result<String, AllocError> {
+    let mut text = String::new(alloc);
+    for change in file.changes() {
+        match change {
+            Change::Write(at, bytes) => write!(text, "{at}+{} ", bytes.len())?,
+            Change::Cut(len) => write!(text, "cut {len} ")?,
+            Change::Sync(_) => text.push_str("sync ")?,
+        }
+    }
+    Ok(text)
+}

@@ -1,0 +1,78 @@
+//! The frames that are read out of bytes.
+use cq_log::read_frames;
+use std::alloc::{AllocError, Global};
+use std::test::Fail;
+
+/// Returns the frames of these bytes as text, a `|` after each.
+fn frames_text(alloc: Global, bytes: &[u8]) -> Result<String, AllocError> {
+    let mut text = String::new(alloc);
+    for frame in &read_frames(alloc, bytes)? {
+        for &byte in frame {
+            text.push(char::from(byte))?;
+        }
+        text.push('|')?;
+    }
+    Ok(text)
+}
+
+/// Bytes, and their frames.
+static FRAMES: [(&[u8], &str); 10] = [
+    (&[], ""),
+    (&[0], ""),
+    (&[1, 2, 0, 0, 0, 97, 98], "ab|"),
+    (&[1, 2, 0, 0, 0, 97, 98, 0, 1, 0, 0, 0, 99, 0], "ab|"),
+    (&[1, 2, 0, 0, 0, 97, 98, 2, 1, 0, 0, 0, 99, 0], "ab|"),
+    (&[1, 2, 0, 0, 0, 97, 98, 1, 1, 0, 0, 0, 99, 0], "ab|c|"),
+    (&[1, 0, 0, 0, 0, 1, 1, 0, 0, 0, 99], "|c|"),
+    (&[1, 3, 0, 0, 0, 97, 98], ""),
+    (&[1, 1, 1, 0, 0, 97, 98], ""),
+    (&[1, 1, 0, 0, 1, 97, 98], ""),
+];
+
+#[test]
+fn bytes_have_these_frames(rt: HostRuntime) -> Result<(), Fail> {
+    let alloc = rt.alloc();
+    for (i, (bytes, frames)) in FRAMES.iter().enumerate() {
+        assert_eq!(rt; frames_text(alloc, bytes)?.as_str(), *frames, "at {i}");
+    }
+    Ok(())
+}
+
+/// The frames `ab`, none and `xyz`, and a closed gate.
+static LOG: [u8; 21] = [
+    1, 2, 0, 0, 0, 97, 98, 1, 0, 0, 0, 0, 1, 3, 0, 0, 0, 120, 121, 122, 0,
+];
+
+/// Returns the frames of the first bytes of that log.
+fn frames_before(end: usize) -> &'static str {
+    match end {
+        0..7 => "",
+        7..12 => "ab|",
+        12..20 => "ab||",
+        _ => "ab||xyz|",
+    }
+}
+
+#[test]
+fn logs_are_read_that_are_cut_anywhere(rt: HostRuntime) -> Result<(), Fail> {
+    let alloc = rt.alloc();
+    for end in 0..=LOG.len() {
+        assert_eq!(rt;
+            frames_text(alloc, &LOG[..end])?.as_str(),
+            frames_before(end),
+            "at {end}"
+        );
+    }
+    Ok(())
+}
+
+#[test]
+fn a_gate_is_open_only_as_1(rt: HostRuntime) -> Result<(), Fail> {
+    let alloc = rt.alloc();
+    for gate in 0..=255u8 {
+        let wanted = if gate == 1 { "a|" } else { "" };
+        let bytes = [gate, 1, 0, 0, 0, 97];
+        assert_eq!(rt; frames_text(alloc, &bytes)?.as_str(), wanted, "at {gate}");
+    }
+    Ok(())
+}
