@@ -1,0 +1,7 @@
+//! Tests of the bytes of notes.
+//!
+//! They are proved apart from what they test, so that both proofs can run at the same time.
+#![tactic(auto)]
+
+#[cfg(test)]
+mod frame_tests;
