@@ -379,7 +379,7 @@ linnetshelf_shelf_answer linnetshelf_shelf_complete(linnetshelf_handle *writer);
 uint32_t linnetshelf_shelf_roll_back(linnetshelf_handle *writer);
 
 /* Begins the cycle of `moment` if it is later than the current one, in the last queue or in a new one. Returns the current cycle,
- * as `index`. Later queues begin with that cycle or a later one. Refused as linnetshelf_shelf_append is, except that BAD_ROOM
+ * as `index`. Later queues begin with that cycle or a later one, but for one that another writer begins concurrently. Refused as linnetshelf_shelf_append is, except that BAD_ROOM
  * does not come, and CLOSED only where a cycle would begin. */
 linnetshelf_answer linnetshelf_shelf_advance(linnetshelf_handle *writer, uint64_t moment);
 
@@ -388,8 +388,8 @@ linnetshelf_answer linnetshelf_shelf_advance(linnetshelf_handle *writer, uint64_
 uint32_t linnetshelf_shelf_follow(linnetshelf_handle *writer);
 
 /* Closes the shelf for all its writers (see above). Each of them is still to be destroyed.
- * CLOSED (it was closed before), WRITING (this writer has begun a message), BUSY (yield or sleep, then call again),
- * OUT_OF_MEMORY. The shelf is not closed after the last three. */
+ * CLOSED (it was closed before), WRITING (this writer has begun a message), BUSY (yield or sleep, then call again; a full queue in
+ * the last cycle of time stays so), OUT_OF_MEMORY. The shelf is not closed after the last three. */
 uint32_t linnetshelf_shelf_close(linnetshelf_handle *writer);
 
 /* Reads the next message in the reader's direction into the buffer `room`, and returns where it is and its length. The reader
@@ -432,7 +432,8 @@ linnetshelf_shelf_answer linnetshelf_shelf_take(linnetshelf_handle *taker, void 
 /* Returns the number of the queue to which a writer appends, or which a reader reads, as `index`. */
 linnetshelf_answer linnetshelf_shelf_queue(linnetshelf_handle *user);
 
-/* Returns how many queues of the shelf hold memory, as `index`. It may miss one that another begins or leaves at that moment. */
+/* Returns in how many places of the shelf there is a queue, as `index`. It may miss one that another begins or leaves at that
+ * moment. A dropped queue that somebody still reads has no place. */
 linnetshelf_answer linnetshelf_shelf_living(linnetshelf_handle *writer);
 
 /* Texts. */

@@ -57,8 +57,8 @@ fn queue(user: &ShelfUser) -> Answer
     }
 }
 
-/// Returns how many queues of a writer's shelf hold memory, at most as many as it was made for. It may miss one that another
-/// begins or leaves at that moment.
+/// Returns in how many places of a writer's shelf there is a queue, at most as many as it was made for. It may miss one that
+/// another begins or leaves at that moment. A dropped queue that somebody still reads has no place.
 #[unsafe(no_mangle)]
 pub extern "C" fn linnetshelf_shelf_living(handle: &mut Handle) -> Answer
     ensures { OnShelfWriter handle.old.held handle.new.held (result ≡ plain WrongKind) (λ old new.
