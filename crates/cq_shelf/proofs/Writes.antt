@@ -11,7 +11,7 @@ use Rattle.cq_row.specs.declared.place.Place.{Place}
 use Rattle.cq_row.specs.declared.place.Step.{Step}
 use Rattle.cq_row.specs.declared.place.Step.TheVariants as step
 use Rattle.cq_shelf.specs.Ways.{Does, Passes, on}
-use Rattle.cq_shelf.specs.Writes.{Append, IsOnFault, Leaves, LeavesEnd, LooksForEnd, Shuts, Stays, WriterMoves, Writes, WritesNot, not_on}
+use Rattle.cq_shelf.specs.Writes.{Append, HasPlaceFor, IsOnFault, IsToLeave, Leaves, LeavesEnd, LooksForEnd, Shuts, Stays, WriterMoves, Writes, WritesNot, not_on}
 
 module _ (old : Place) (e : EndpointFacts) (looks : LooksForEnd old.endpoint e) where
   abbrev left : Place
@@ -32,50 +32,52 @@ module _ (old : Place) (e : EndpointFacts) (looks : LooksForEnd old.endpoint e) 
   }
 
 -- what going on from a closed queue says, after an append that found it closed
-pub after_closed : (len : ℕ) (old new : Place) (r : Result Unit ShelfFault)
+pub after_closed : (len : ℕ) (old new : Place) (r : Result Unit ShelfFault) → HasPlaceFor len old
     → MatchResult r (λ _. LeavesEnd old new) (λ e. Does LooksForEnd old new × IsOnFault e)
-    → MatchResult r (λ _. Leaves unappended.Closed old new) (Stays len unappended.Closed old new)
-after_closed len old new (Ok u) says = record { left = says.left; leaves = says.looked; onto = says.onto }
-after_closed len old new (Err e) says = not_on says.0 says.1
+    → MatchResult r (λ _. Leaves len unappended.Closed old new) (Stays len unappended.Closed old new)
+after_closed len old new (Ok u) has says = record { is_to = has; left = says.left; leaves = says.looked; onto = says.onto }
+after_closed len old new (Err e) has says = not_on has says.0 says.1
 
 -- and from one that was closed after a refusal
-pub after_refused : (len : ℕ) (refusal : Refusal) (old shut new : Place) (r : Result Unit ShelfFault) → Shuts old shut
+pub after_refused : (len : ℕ) (refusal : Refusal) (old shut new : Place) (r : Result Unit ShelfFault)
+    → IsToLeave len old (unappended.Refused refusal) → Shuts old shut
     → MatchResult r (λ _. LeavesEnd shut new) (λ e. Does LooksForEnd shut new × IsOnFault e)
-    → MatchResult r (λ _. Leaves (unappended.Refused refusal) old new) (Stays len (unappended.Refused refusal) old new)
-after_refused len refusal old shut new (Ok u) shuts says =
-    record { left = says.left; leaves = (shut, shuts, says.looked); onto = says.onto }
-after_refused len refusal old shut new (Err e) shuts says = not_on (shut, shuts, says.0) says.1
+    → MatchResult r (λ _. Leaves len (unappended.Refused refusal) old new) (Stays len (unappended.Refused refusal) old new)
+after_refused len refusal old shut new (Ok u) is_to shuts says =
+    record { is_to = is_to; left = says.left; leaves = (shut, shuts, says.looked); onto = says.onto }
+after_refused len refusal old shut new (Err e) is_to shuts says = not_on is_to (shut, shuts, says.0) says.1
 
-module _ {A : Type 0} (append : Append A) (old p : Place) (e : EndpointFacts) (passed : Passes (WriterMoves append) old p) where
-  -- the endpoint appended
-  pub writes : (a : A) → append (Ok a) p.endpoint e → Writes append old (record p { endpoint = e }) a
-  writes a says = record { last = p; passed = passed; appended = (refl, says) }
+module _ {A : Type 0} (len : ℕ) (append : Append A) (old p : Place) (e : EndpointFacts) (passed : Passes (WriterMoves len append) old p)
+  where
+    -- the endpoint appended
+    pub writes : (a : A) → append (Ok a) p.endpoint e → Writes len append old (record p { endpoint = e }) a
+    writes a says = record { last = p; passed = passed; appended = (refl, says) }
 
-  module _ (f : AppendFault) (says : append (Err f) p.endpoint e) (new : Place) where
-    -- it was refused, and the writer went on
-    pub moves : Leaves f (record p { endpoint = e }) new → Passes (WriterMoves append) old new
-    moves goes = on p new passed (record {
-      refused = f;
-      after = record p { endpoint = e };
-      was_refused = (refl, says);
-      leaves = goes;
-    })
-
-    -- or stayed there
-    pub writes_not : (len : ℕ) (one two : ShelfFault) → one ≡ two → Stays len f (record p { endpoint = e }) new two
-        → WritesNot len append old new one
-    writes_not len one two is stayed = record {
-      last = p;
-      passed = passed;
-      fails = inl (record {
+    module _ (f : AppendFault) (says : append (Err f) p.endpoint e) (new : Place) where
+      -- it was refused, and the writer went on
+      pub moves : Leaves len f (record p { endpoint = e }) new → Passes (WriterMoves len append) old new
+      moves goes = on p new passed (record {
         refused = f;
         after = record p { endpoint = e };
         was_refused = (refl, says);
-        stays_there = subst (Stays len f (record p { endpoint = e }) new) (sym is) stayed;
-      });
-    }
+        leaves = goes;
+      })
+
+      -- or stayed there
+      pub writes_not : (one two : ShelfFault) → one ≡ two → Stays len f (record p { endpoint = e }) new two
+          → WritesNot len append old new one
+      writes_not one two is stayed = record {
+        last = p;
+        passed = passed;
+        fails = inl (record {
+          refused = f;
+          after = record p { endpoint = e };
+          was_refused = (refl, says);
+          stays_there = subst (Stays len f (record p { endpoint = e }) new) (sym is) stayed;
+        });
+      }
 
 -- it went over as many queues as one call does
-pub tires : {A : Type 0} (len : ℕ) (append : Append A) (old p : Place) → Passes (WriterMoves append) old p
+pub tires : {A : Type 0} (len : ℕ) (append : Append A) (old p : Place) → Passes (WriterMoves len append) old p
     → WritesNot len append old p Busy
 tires len append old p passed = record { last = p; passed = passed; fails = inr (refl, refl) }

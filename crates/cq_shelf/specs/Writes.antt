@@ -95,15 +95,27 @@ IsLeft unappended.Writing old left = ⊥
 IsLeft unappended.Closed old left = Does LooksForEnd old left
 IsLeft (unappended.Refused r) old left = (shut : Place) × Shuts old shut × Does LooksForEnd shut left
 
--- and then the writer went on
-pub record Leaves (refused : AppendFault) (old new : Place) : Type 0 where
+-- an empty queue of this shelf has a place for a message of this many bytes
+abbrev pub HasPlaceFor : ℕ → Place → Type 0
+HasPlaceFor len p = IsMessageLength len × Fits (arc_value p.row).config.layout [] len
+
+-- or it has none
+abbrev pub HasNoPlaceFor : ℕ → Place → Type 0
+HasNoPlaceFor len p = ¬ HasPlaceFor len p
+
+-- after this refusal of a message of this many bytes the queue is to be left: it is full or closed, and the next one has a place
+abbrev pub IsToLeave : ℕ → Place → AppendFault → Type 0
+IsToLeave len p unappended.Closed = HasPlaceFor len p
+IsToLeave len p (unappended.Refused refusal.NoCycleLeft) = HasPlaceFor len p
+IsToLeave len p (unappended.Refused refusal.CycleFull) = HasPlaceFor len p
+IsToLeave len p _ = ⊥
+
+-- it was left, and then the writer went on
+pub record Leaves (len : ℕ) (refused : AppendFault) (old new : Place) : Type 0 where
+  pub is_to : IsToLeave len old refused
   pub left : Place
   pub leaves : IsLeft refused old left
   pub onto : Onto left new
-
--- an empty queue of this shelf has no place for a message of this many bytes
-abbrev pub HasNoPlaceFor : ℕ → Place → Type 0
-HasNoPlaceFor len p = ¬ (IsMessageLength len × Fits (arc_value p.row).config.layout [] len)
 
 -- which fault it is where nothing more was done after this refusal of a message of this many bytes
 abbrev pub IsFault : ℕ → Place → AppendFault → ShelfFault → Type 0
@@ -127,15 +139,15 @@ IsOnFault _ = ⊥
 -- why the writer stayed after this refusal of a message of this many bytes
 pub data Stays (len : ℕ) (refused : AppendFault) (old new : Place) (e : ShelfFault) : Type 0 where
   at_once : new ≡ old → IsFault len old refused e → Stays len refused old new e
-  not_shut : ShutsNot old new e → Stays len refused old new e
-  not_on : IsLeft refused old new → IsOnFault e → Stays len refused old new e
+  not_shut : IsToLeave len old refused → ShutsNot old new e → Stays len refused old new e
+  not_on : IsToLeave len old refused → IsLeft refused old new → IsOnFault e → Stays len refused old new e
 
--- a writer was refused in a queue, left it and went on
-pub record WriterMoves {A : Type 0} (append : Append A) (old new : Place) : Type 0 where
+-- a writer whose message of this many bytes was refused in a queue left it and went on
+pub record WriterMoves {A : Type 0} (len : ℕ) (append : Append A) (old new : Place) : Type 0 where
   pub refused : AppendFault
   pub after : Place
   pub was_refused : Does (append (Err refused)) old after
-  pub leaves : Leaves refused after new
+  pub leaves : Leaves len refused after new
 
 -- it was refused in a queue, and stayed there
 pub record WriterStays {A : Type 0} (len : ℕ) (append : Append A) (old new : Place) (e : ShelfFault) : Type 0 where
@@ -145,25 +157,25 @@ pub record WriterStays {A : Type 0} (len : ℕ) (append : Append A) (old new : P
   pub stays_there : Stays len refused after new e
 
 -- what a call says that appends: it left queue by queue, and in the last one it did this
-pub record Writes {A : Type 0} (append : Append A) (old new : Place) (a : A) : Type 0 where
+pub record Writes {A : Type 0} (len : ℕ) (append : Append A) (old new : Place) (a : A) : Type 0 where
   pub last : Place
-  pub passed : Passes (WriterMoves append) old last
+  pub passed : Passes (WriterMoves len append) old last
   pub appended : Does (append (Ok a)) last new
 
 -- and what it says where it failed: nothing was appended, in no queue
 pub record WritesNot {A : Type 0} (len : ℕ) (append : Append A) (old new : Place) (e : ShelfFault) : Type 0 where
   pub last : Place
-  pub passed : Passes (WriterMoves append) old last
+  pub passed : Passes (WriterMoves len append) old last
   pub fails : WriterStays len append last new e ⊎ ((new ≡ last) × (e ≡ fault.Busy))
 
 -- what `append` says
 abbrev pub AppendsOn : ℕ → List ℕ → Place → Place → Result Position ShelfFault → Type 0
-AppendsOn moment m old new (Ok at) = (at.queue ≡ new.number) × Writes (appends moment m) old new at.index
+AppendsOn moment m old new (Ok at) = (at.queue ≡ new.number) × Writes (length m) (appends moment m) old new at.index
 AppendsOn moment m old new (Err e) = WritesNot (length m) (appends moment m) old new e
 
 -- what `begin` says
 abbrev pub BeginsOn : ℕ → ℕ → Place → Place → Result Unit ShelfFault → Type 0
-BeginsOn moment room old new (Ok u) = Writes (begins moment room) old new u
+BeginsOn moment room old new (Ok u) = Writes room (begins moment room) old new u
 BeginsOn moment room old new (Err e) = WritesNot room (begins moment room) old new e
 
 -- what `put` says, `complete` and `roll_back`: what the endpoint does there
@@ -205,6 +217,6 @@ pub data ClosesNot (old new : Place) (e : ShelfFault) : Type 0 where
 
 -- what `advance` says: first it follows the others to the last queue
 abbrev pub AdvancesOn : ℕ → Place → Place → Result ℕ ShelfFault → Type 0
-AdvancesOn moment old new (Ok cycle) = (last : Place) × Passes Follows old last × Writes (advances moment) last new cycle
+AdvancesOn moment old new (Ok cycle) = (last : Place) × Passes Follows old last × Writes 1 (advances moment) last new cycle
 AdvancesOn moment old new (Err e) =
     FollowsNot old new e ⊎ ((last : Place) × Passes Follows old last × WritesNot 1 (advances moment) last new e)
