@@ -1,2 +1,1 @@
-mod Torn
 mod Records

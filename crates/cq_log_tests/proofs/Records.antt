@@ -1,6 +1,6 @@
 -- One more change is recorded.
 use Rattle.std.proofs.Common.{◌≡◌, ◌⊎◌, inl, inr, ⊎_elim, ℕ, zero, suc, ◌+◌, ◌<◌, ◌≤◌, List, [], ◌∷◌, ◌++◌, Vec, drop, get_or, length, take, if◌then◌else◌, refl, sym, ◌∙◌, ap, subst, arith, length-append}
-use Rattle.std.specs.Prelude.{Bool, true, false, nat_le, Result, Ok, Err, OnOk, OnErr}
+use Rattle.std.specs.Prelude.{nat_le, Result, Ok, Err, OnOk, OnErr}
 use Rattle.std.proofs.lemmas.Bool.Decides.{nat_tests}
 use Rattle.std.proofs.lemmas.List.{take-append-le, take_all}
 use Rattle.std.specs.declared.alloc.Global.{Global}
@@ -8,7 +8,8 @@ use Rattle.cq_log.specs.Device as device
 use Rattle.cq_log_tests.specs.Changes.{Adds, IsAdded, IsCut, IsSync, IsWrite, Leaves, LeftSince, MayLeave, after, changed, outcomes, replay}
 use Rattle.cq_log_tests.specs.declared.torn_file.Change.{Change}
 use Rattle.cq_log_tests.specs.declared.torn_file.Change.TheVariants.{Cut, Sync, Write}
-use Rattle.cq_log_tests.proofs.Torn.{cut_done, cut_none, torn_none, torn_over}
+use Rattle.cq_log_tests.specs.Stays.{stays}
+use Rattle.cq_log_tests.specs.Torn.{cut_none, torn_none}
 
 taken : (before : List ℕ → Type 0) (changes : List Change) (change : Change) (c : List ℕ) → outcomes before (changes ++ change ∷ []) c → after (outcomes before changes) change c
 taken before [] (Write at bytes) c left = left
@@ -59,16 +60,37 @@ elapses P old new (inl same) =
 elapses P old new (inr added) =
     subst (λ (l : List Change). device.Elapses (length old) (length l) (LeftSince old) (LeftSince l) (MayLeave l)) (sym added.2) (elapses_more old added.0)
 
-pub follows_write : (at : ℕ) (bytes : List ℕ) (old new : List Change) → Adds (IsWrite at bytes) old new → device.Follows (device.Torn at (length bytes)) (MayLeave old) (MayLeave new)
-follows_write at bytes old new (inl same) c left = (c, subst (λ (l : List Change). MayLeave l c) same left, torn_none at (length bytes) c)
-follows_write at bytes old new (inr added) c left =
+pub follows_write : (at n : ℕ) (old new : List Change) → Adds (IsWrite at n) old new → device.Follows (device.Torn at n) (MayLeave old) (MayLeave new)
+follows_write at n old new (inl same) c left = (c, subst (λ (l : List Change). MayLeave l c) same left, torn_none at n c)
+follows_write at n old new (inr added) c left =
     let write = added.1 in
     let from : after (MayLeave old) (Write at write.0) c = subst (λ (x : Change). after (MayLeave old) x c) write.2 (one_more old new added.0 c added.2 left) in
-    (from.0, from.1, subst (λ (b : List ℕ). device.Torn at (length b) from.0 c) write.1 from.2)
+    (from.0, from.1, subst (λ (m : ℕ). device.Torn at m from.0 c) write.1 from.2)
+
+pub allows_write : (at n : ℕ) (old new : List Change) → IsAdded (IsWrite at n) old new → device.Allows (device.Torn at n) (MayLeave old) (MayLeave new)
+allows_write at n old new added d c is torn =
+    let write = added.1 in
+    let more : after (MayLeave old) (Write at write.0) c = (d, is, subst (λ (m : ℕ). device.Torn at m d c) (sym write.1) torn) in
+    one_put old new added.0 c added.2 (subst (λ (x : Change). after (MayLeave old) x c) (sym write.2) more)
+
+-- a write may be lost
+pub loses_write : (at n : ℕ) (old new : List Change) → Adds (IsWrite at n) old new → device.IsPartOf (MayLeave old) (MayLeave new)
+loses_write at n old new (inl same) c left = subst (λ (l : List Change). MayLeave l c) (sym same) left
+loses_write at n old new (inr added) c left = allows_write at n old new added c c left (torn_none at n c)
 
 pub follows_cut : (len : ℕ) (old new : List Change) → Adds (IsCut len) old new → device.Follows (device.Cut len) (MayLeave old) (MayLeave new)
 follows_cut len old new (inl same) c left = (c, subst (λ (l : List Change). MayLeave l c) same left, cut_none len c)
 follows_cut len old new (inr added) c left = subst (λ (x : Change). after (MayLeave old) x c) added.1 (one_more old new added.0 c added.2 left)
+
+pub allows_cut : (len : ℕ) (old new : List Change) → IsAdded (IsCut len) old new → device.Allows (device.Cut len) (MayLeave old) (MayLeave new)
+allows_cut len old new added d c is short =
+    let more : after (MayLeave old) (Cut len) c = (d, is, short) in
+    one_put old new added.0 c added.2 (subst (λ (x : Change). after (MayLeave old) x c) (sym added.1) more)
+
+-- a cut may be lost
+pub loses_cut : (len : ℕ) (old new : List Change) → Adds (IsCut len) old new → device.IsPartOf (MayLeave old) (MayLeave new)
+loses_cut len old new (inl same) c left = subst (λ (l : List Change). MayLeave l c) (sym same) left
+loses_cut len old new (inr added) c left = allows_cut len old new added c c left (cut_none len c)
 
 pub only_synced : (file : List ℕ) (old new : List Change) → IsAdded (IsSync file) old new → device.Only file (MayLeave new)
 only_synced file old new added c left =
@@ -79,34 +101,15 @@ replay_more : (file : List ℕ) (changes : List Change) (change : Change) → re
 replay_more file [] change = refl
 replay_more file (first ∷ changes) change = replay_more (changed file first) changes change
 
-torn_if : (t : Bool) (at : ℕ) (bytes file : List ℕ) → (t ≡ true → at ≤ length file)
-    → device.Torn at (length bytes) file (if t then take at file ++ bytes ++ drop (at + length bytes) file else file)
-torn_if true at bytes file le = torn_over at (length bytes) file bytes (take at file ++ bytes ++ drop (at + length bytes) file) (le refl) (omega arith) refl
-torn_if false at bytes file le = torn_none at (length bytes) file
-
-left_more : (before : List ℕ → Type 0) (file : List ℕ) (change : Change) → before file → after before change (changed file change)
-left_more before file (Write at bytes) is = (file, is, torn_if (nat_le at (length file)) at bytes.items file (λ yes. grind (arith, nat_tests)))
-left_more before file (Cut len) is = (file, is, cut_done len file)
-left_more before file (Sync bytes) is = refl
-
-left_all : (before : List ℕ → Type 0) (file : List ℕ) (changes : List Change) → before file → outcomes before changes (replay file changes)
-left_all before file [] is = is
-left_all before file (change ∷ changes) is = left_all (after before change) (changed file change) changes (left_more before file change is)
-
--- a crash may leave the file as it is
-pub left_now : (changes : List Change) (file c : List ℕ) → file ≡ replay [] changes → c ≡ file → MayLeave changes c
-left_now changes file c is same = subst (MayLeave changes) (sym (same ∙ is)) (left_all (λ d. d ≡ []) [] changes refl)
-
 changed_within : (file bytes : List ℕ) (at : ℕ) → at ≤ length file
     → (if nat_le at (length file) then take at file ++ bytes ++ drop (at + length bytes) file else file) ≡ take at file ++ bytes ++ drop (at + length bytes) file
 changed_within file bytes at le = grind (arith, nat_tests)
 
 -- the file after one more write, cut or sync
-pub replay_write : (old new : List Change) (file next bytes : List ℕ) (at : ℕ) (v : Vec ℕ Global) → file ≡ replay [] old → at ≤ length file → v.items ≡ bytes
-    → new ≡ old ++ Write at v ∷ [] → device.Overwrites file at bytes next → next ≡ replay [] new
-replay_write old new file next bytes at v is le same more over =
+pub replay_write : (old new : List Change) (file next : List ℕ) (at : ℕ) (v : Vec ℕ Global) → file ≡ replay [] old → at ≤ length file
+    → new ≡ old ++ Write at v ∷ [] → device.Overwrites file at v.items next → next ≡ replay [] new
+replay_write old new file next at v is le more over =
     over
-    ∙ ap (λ (b : List ℕ). take at file ++ b ++ drop (at + length b) file) (sym same)
     ∙ sym (changed_within file v.items at le)
     ∙ ap (λ (f : List ℕ). changed f (Write at v)) is
     ∙ sym (replay_more [] old (Write at v))
@@ -115,17 +118,18 @@ replay_write old new file next bytes at v is le same more over =
 pub replay_cut : (old new : List Change) (file : List ℕ) (len : ℕ) → file ≡ replay [] old → new ≡ old ++ Cut len ∷ [] → take len file ≡ replay [] new
 replay_cut old new file len is more = ap (take len) is ∙ sym (replay_more [] old (Cut len)) ∙ ap (replay []) (sym more)
 
-pub replay_sync : (old new : List Change) (file : List ℕ) (v : Vec ℕ Global) → v.items ≡ file → new ≡ old ++ Sync v ∷ [] → file ≡ replay [] new
-replay_sync old new file v same more = sym same ∙ sym (replay_more [] old (Sync v)) ∙ ap (replay []) (sym more)
+pub replay_synced : (old new : List Change) (file : List ℕ) (v : Vec ℕ Global) → file ≡ replay [] old → v.items ≡ file → (new ≡ old) ⊎ (new ≡ old ++ Sync v ∷ []) → file ≡ replay [] new
+replay_synced old new file v is same (inl none) = is ∙ ap (replay []) (sym none)
+replay_synced old new file v is same (inr more) = sym same ∙ sym (replay_more [] old (Sync v)) ∙ ap (replay []) (sym more)
 
 -- a call that answered did one of two things
 pub either : {T E : Type 0} (result : Result T E) (A B : Type 0) → OnOk result A → OnErr result B → B ⊎ A
 either (Ok x) A B one other = inr one
 either (Err e) A B one other = inl other
 
-pub synced_back : (file : List ℕ) (old new : List Change) → file ≡ replay [] old → Adds (IsSync file) old new → (c : List ℕ) → MayLeave new c → MayLeave old c
+pub synced_back : (file : List ℕ) (old new : List Change) → file ≡ replay [] old → Adds (IsSync file) old new → device.IsPartOf (MayLeave new) (MayLeave old)
 synced_back file old new is (inl same) c left = subst (λ (l : List Change). MayLeave l c) same left
-synced_back file old new is (inr added) c left = left_now old file c is (only_synced file old new added c left)
+synced_back file old new is (inr added) c left = subst (MayLeave old) (sym (only_synced file old new added c left)) (stays old file is)
 
 leaves_after : (before : List ℕ → Type 0) (change : Change) (d c : List ℕ) → before d → Leaves change d c → after before change c
 leaves_after before (Write at bytes) d c is leaves = (d, is, leaves)
@@ -144,3 +148,12 @@ pub left_next : (changes : List Change) (i : ℕ) (change : Change) (d c : List 
     → MayLeave (take i changes) d → Leaves change d c → MayLeave (take (i + 1) changes) c
 left_next changes i change d c lt is so_far leaves =
     one_put (take i changes) (take (i + 1) changes) change c (take_next changes i change lt is) (leaves_after (MayLeave (take i changes)) change d c so_far leaves)
+
+-- as many bytes, and as many changes before
+pub added_here : (at n m : ℕ) (old mid new : List Change) → m ≡ n → mid ≡ old → IsAdded (IsWrite at m) mid new → IsAdded (IsWrite at n) old new
+added_here at n m old mid new is same added =
+    subst (λ (l : List Change). IsAdded (IsWrite at n) l new) same (subst (λ (k : ℕ). IsAdded (IsWrite at k) mid new) is added)
+
+pub adds_here : (at n m : ℕ) (old mid new : List Change) → m ≡ n → mid ≡ old → Adds (IsWrite at m) mid new → Adds (IsWrite at n) old new
+adds_here at n m old mid new is same adds =
+    subst (λ (l : List Change). Adds (IsWrite at n) l new) same (subst (λ (k : ℕ). Adds (IsWrite at k) mid new) is adds)

@@ -1,26 +1,28 @@
+//! What a crash makes of writes and cuts.
 ghost use Rattle.std.specs.Prelude.{◌≤◌, IfOk, length};
 
 use std::alloc::{AllocError, Global};
 
-/// What a crash makes of each write that was not synced.
+/// What a crash makes of each write and of each cut that was not synced.
 #[derive(Clone, Copy, Debug, PartialEq, Eq)]
 pub enum Ruin {
-    /// All of its bytes are there.
+    /// All bytes of a write are there, and a cut is done.
     Kept,
-    /// None of its bytes is there.
+    /// No byte of a write is there, and a cut is not done.
     Lost,
-    /// As many of its bytes, from the front, are there, and the others are not.
+    /// As many bytes of a write, from the front, are there, and the others are not. A cut leaves as many past its end.
     Front(usize),
-    /// Each byte of its range is this one.
+    /// Each byte in the range of a write, and each past the end of a cut, is this one.
     Filled(u8),
-    /// All of its bytes are there, but at this place of the file there is this byte.
+    /// All bytes of a write are there, but at this place of the file there is this byte. A cut is done.
     Spoilt(usize, u8),
-    /// Of each byte the old one or the written one is there, by a bit of this number; past the old end a 0.
+    /// By the bits of this number, in turn: the written byte for a 1, or else the old one; past the old end a 0. Past the end of
+    /// a cut a 0 for a 1, or else the old byte.
     Mixed(u64),
 }
 
 impl Ruin {
-    /// Returns the bytes at the beginning of the range of a write, to which the crash came. All later ones are the old ones.
+    /// Returns the bytes that a crash leaves at the beginning of the range of a write. All later ones are the old ones.
     pub fn reached(
         self,
         alloc: Global,
@@ -49,5 +51,25 @@ impl Ruin {
         }
         reached.truncate(bytes.len());
         Ok(reached)
+    }
+
+    /// Returns the bytes that a crash leaves past the end of a cut, where these were before.
+    pub fn left_past(self, alloc: Global, bytes: &[u8]) -> Result<Vec<u8>, AllocError>
+        ensures { IfOk result (λ left. length left.items ≤ length bytes.now) }
+    {
+        let mut left = Vec::new(alloc);
+        for (i, &byte) in bytes.iter().enumerate() {
+            match self {
+                Ruin::Kept | Ruin::Spoilt(..) => {}
+                Ruin::Lost => left.push(byte)?,
+                Ruin::Front(count) if i < count => left.push(byte)?,
+                Ruin::Front(_) => {}
+                Ruin::Filled(other) => left.push(other)?,
+                Ruin::Mixed(bits) if bits.rotate_right((i % 64) as u32) % 2 == 1 => left.push(0)?,
+                Ruin::Mixed(_) => left.push(byte)?,
+            }
+        }
+        left.truncate(bytes.len());
+        Ok(left)
     }
 }

@@ -2,6 +2,7 @@
 ghost use Rattle.std.specs.Prelude.{◌≡◌, ◌≤◌, [], IfOk, None, OnErr, OnOk, length, take};
 ghost use Rattle.cq_log.specs.Device.{Cut, Overwrites, Torn};
 ghost use Rattle.cq_log_tests.specs.Changes.{Adds, IsAdded, IsCut, IsSync, IsWrite, Leaves, LeftSince, MayLeave, counts_now, only_now, replay};
+ghost use Rattle.cq_log_tests.specs.Stays.{stays};
 
 use crate::Ruin;
 use cq_log::{Device, DeviceFault};
@@ -18,7 +19,7 @@ pub enum Change {
     Sync(Vec<u8>),
 }
 
-/// A file in memory, at first empty. Its changes are seen at once, and a crash may leave of those after the last sync what
+/// A file in memory, at first empty. Its changes are seen at once, and a crash may leave of those after the last sync all that
 /// `Device` allows.
 #[derive(Drop)]
 pub struct TornFile {
@@ -74,18 +75,35 @@ impl TornFile {
         Ok(left)
     }
 
-    /// Writes bytes, and fails if this is the call that fails. Out of memory, it does nothing.
+    /// Writes bytes. If this is the call that fails, the back half of what it writes is 0. Out of memory, it does nothing.
     fn write(&mut self, at: usize, bytes: &[u8]) -> Result<(), DeviceFault>
         requires { at ≤ length self.old.file.items }
         ensures written { OnOk result (Overwrites self.old.file.items at bytes.now self.new.file.items) }
         ensures torn { OnErr result (Torn at (length bytes.now) self.old.file.items self.new.file.items) }
-        ensures recorded { Adds (IsWrite at bytes.now) self.old.changes.items self.new.changes.items }
+        ensures added { OnOk result (IsAdded (IsWrite at (length bytes.now)) self.old.changes.items self.new.changes.items) }
+        ensures recorded { Adds (IsWrite at (length bytes.now)) self.old.changes.items self.new.changes.items }
     {
-        let next = overwritten(self.alloc, &self.file, at, bytes)?;
-        let bytes = bytes.to_vec(self.alloc)?;
+        if self.count() {
+            let written = half_written(self.alloc, bytes)?;
+            self.record(at, written)?;
+            return Err(DeviceFault::Failed);
+        }
+        let written = bytes.to_vec(self.alloc)?;
+        self.record(at, written)
+    }
+
+    /// Writes these bytes, and keeps them. Out of memory, it does nothing.
+    fn record(&mut self, at: usize, bytes: Vec<u8>) -> Result<(), DeviceFault>
+        requires { at ≤ length self.old.file.items }
+        ensures written { OnOk result (Overwrites self.old.file.items at bytes.items self.new.file.items) }
+        ensures added { OnOk result (IsAdded (IsWrite at (length bytes.items)) self.old.changes.items self.new.changes.items) }
+        ensures same { OnErr result (self.new.file.items ≡ self.old.file.items) }
+        ensures unchanged { OnErr result (self.new.changes.items ≡ self.old.changes.items) }
+    {
+        let next = overwritten(self.alloc, &self.file, at, &bytes)?;
         self.changes.push(Change::Write(at, bytes))?;
         self.file = next;
-        self.count()
+        Ok(())
     }
 
     /// Cuts the file, and fails if this is the call that fails. Out of memory, it does nothing.
@@ -93,11 +111,16 @@ impl TornFile {
         requires { len ≤ length self.old.file.items }
         ensures cut { OnOk result (self.new.file.items ≡ take len self.old.file.items) }
         ensures partly { OnErr result (Cut len self.old.file.items self.new.file.items) }
+        ensures added { OnOk result (IsAdded (IsCut len) self.old.changes.items self.new.changes.items) }
         ensures recorded { Adds (IsCut len) self.old.changes.items self.new.changes.items }
     {
+        let is_failing = self.count();
         self.changes.push(Change::Cut(len))?;
         self.file.truncate(len);
-        self.count()
+        if is_failing {
+            return Err(DeviceFault::Failed);
+        }
+        Ok(())
     }
 
     /// Syncs the file, or fails and does nothing.
@@ -106,27 +129,31 @@ impl TornFile {
         ensures synced { OnOk result (IsAdded (IsSync self.old.file.items) self.old.changes.items self.new.changes.items) }
         ensures unchanged { OnErr result (self.new.changes.items ≡ self.old.changes.items) }
     {
-        if self.calls_left == 1 {
-            self.calls_left = 0;
+        if self.count() {
             return Err(DeviceFault::Failed);
         }
         let file = self.file.to_vec(self.alloc)?;
         self.changes.push(Change::Sync(file))?;
-        self.calls_left = self.calls_left.saturating_sub(1);
         Ok(())
     }
 
-    /// Counts a call, and fails if it is the one that fails.
-    fn count(&mut self) -> Result<(), DeviceFault>
+    /// Counts a call. Returns whether it is the one that fails.
+    fn count(&mut self) -> bool
         ensures same { (self.new.file ≡ self.old.file) × (self.new.changes ≡ self.old.changes) }
     {
         let is_failing = self.calls_left == 1;
         self.calls_left = self.calls_left.saturating_sub(1);
-        if is_failing {
-            return Err(DeviceFault::Failed);
-        }
-        Ok(())
+        is_failing
     }
+}
+
+/// Returns the front half of these bytes, and then zeros.
+fn half_written(alloc: Global, bytes: &[u8]) -> Result<Vec<u8>, AllocError>
+    ensures { IfOk result (λ written. length written.items ≡ length bytes.now) }
+{
+    let mut written = bytes[..bytes.len() / 2].to_vec(alloc)?;
+    written.resize(bytes.len(), 0)?;
+    Ok(written)
 }
 
 /// Returns the file with these bytes at this offset, and elsewhere what it had.
@@ -170,14 +197,17 @@ fn torn(
     overwritten(alloc, file, at, &reached)
 }
 
-/// Returns what a crash leaves of a cut: the whole file if it is lost, else what is left of it up to that length.
+/// Returns what a crash leaves of a cut.
 fn cut_short(alloc: Global, file: &[u8], len: usize, ruin: Ruin) -> Result<Vec<u8>, AllocError>
     ensures { IfOk result (λ left. Cut len file.now left.items) }
 {
-    if ruin == Ruin::Lost || len > file.len() {
+    if len > file.len() {
         return file.to_vec(alloc);
     }
-    file[..len].to_vec(alloc)
+    let rest = ruin.left_past(alloc, &file[len..])?;
+    let mut left = file[..len].to_vec(alloc)?;
+    left.extend_from_slice(&rest)?;
+    Ok(left)
 }
 
 impl Device for TornFile {
@@ -190,6 +220,8 @@ impl Device for TornFile {
     ghost left_since = { λ m. LeftSince m.changes.items };
 
     ghost fault = { λ m. m.fault };
+
+    ghost stays = { λ m. stays m.changes.items m.file.items m.replayed };
 
     ghost counts_now = { λ m t c le left. counts_now m.changes.items t c le left };
 

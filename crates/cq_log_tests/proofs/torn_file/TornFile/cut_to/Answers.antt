@@ -3,6 +3,8 @@ use Rattle.cq_log_tests.proofs.Records.{replay_cut}
 use Rattle.cq_log_tests.proofs.torn_file.TornFile.cut_to.Goals as goal
 
 pub invariant_of-self-2 : goal.invariant_of-self-2
-invariant_of-self-2 c = record {
-  replayed = c.truncate.ensures.items ∙ replay_cut c.args.self.now.changes.items c.push.new.self.items c.args.self.now.file.items c.args.len c.args.self.now.replayed c.in_ok-push.ensures.items;
-}
+invariant_of-self-2 c =
+    let counted = c.count-is_failing.new.self in
+    record {
+      replayed = c.truncate.ensures.items ∙ replay_cut counted.changes.items c.push.new.self.items counted.file.items c.args.len counted.replayed c.in_ok-push.ensures.items;
+    }

@@ -1,20 +1,25 @@
-use Rattle.std.proofs.Common.{◌≡◌, ◌∷◌, ◌++◌, [], inr, refl, rules}
-use Rattle.cq_log.specs.Device.{Overwrites}
-use Rattle.cq_log_tests.proofs.Records.{replay_write}
-use Rattle.cq_log_tests.specs.declared.torn_file.Change.TheVariants.{Write}
+use Rattle.std.proofs.Common.{◌≡◌, ap, inr, length, rules}
+use Rattle.std.proofs.lemmas.Result.{on_ok_weaker}
+use Rattle.cq_log_tests.proofs.Records.{added_here, adds_here, either}
 use Rattle.cq_log_tests.proofs.torn_file.TornFile.write.Goals as goal
 
-pub invariant_of-self-2 : goal.invariant_of-self-2
-invariant_of-self-2 c =
-    let same : c.in_ok-bytes.bytes.items ≡ c.args.bytes.now = search rules in
-    let over : Overwrites c.args.self.now.file.items c.args.at c.args.bytes.now c.in_ok-next.next.items = search rules in
-    record {
-      replayed = replay_write c.args.self.now.changes.items c.push.new.self.items c.args.self.now.file.items c.in_ok-next.next.items c.args.bytes.now c.args.at c.in_ok-bytes.bytes
-          c.args.self.now.replayed c.requires same c.in_ok-push.ensures.items over;
-    }
+pub returns-then-count-clause-recorded : goal.returns-then-count-clause-recorded
+returns-then-count-clause-recorded c =
+    inr
+    (added_here c.args.at (length c.args.bytes.now) (length c.in_ok-written.written.items) c.args.self.now.changes.items c.count.new.self.changes.items c.record.new.self.changes.items
+    c.in_ok-written.ensures (ap (λ v. v.items) c.count.ensures.same.1) c.in_ok-record.ensures.added)
+
+pub returns-clause-added : goal.returns-clause-added
+returns-clause-added c =
+    let long : length c.in_ok-written-2.written.items ≡ length c.args.bytes.now = search rules in
+    on_ok_weaker c.record-2.result
+    (added_here c.args.at (length c.args.bytes.now) (length c.in_ok-written-2.written.items) c.args.self.now.changes.items c.count.new.self.changes.items c.record-2.new.self.changes.items
+    long (ap (λ v. v.items) c.count.ensures.same.1))
+    c.record-2.ensures.added
 
 pub returns-clause-recorded : goal.returns-clause-recorded
 returns-clause-recorded c =
-    let same : c.in_ok-bytes.bytes.items ≡ c.args.bytes.now = search rules in
-    let more : c.count.new.self.changes.items ≡ c.args.self.now.changes.items ++ Write c.args.at c.in_ok-bytes.bytes ∷ [] = search rules in
-    inr (Write c.args.at c.in_ok-bytes.bytes, (c.in_ok-bytes.bytes, same, refl), more)
+    let long : length c.in_ok-written-2.written.items ≡ length c.args.bytes.now = search rules in
+    adds_here c.args.at (length c.args.bytes.now) (length c.in_ok-written-2.written.items) c.args.self.now.changes.items c.count.new.self.changes.items c.record-2.new.self.changes.items
+    long (ap (λ v. v.items) c.count.ensures.same.1)
+    (either c.record-2.result _ _ c.record-2.ensures.added c.record-2.ensures.unchanged)
