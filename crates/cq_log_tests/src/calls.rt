@@ -59,7 +59,7 @@ pub fn changes_text(alloc: Global, file: &TornFile) -> Result<String, AllocError
     let mut text = String::new(alloc);
     for change in file.changes() {
         match change {
-            Change::Write(at, bytes) => write!(text, "{at}+{} ", bytes.len())?,
+            Change::Write { at, bytes } => write!(text, "{at}+{} ", bytes.len())?,
             Change::Cut(len) => write!(text, "cut {len} ")?,
             Change::Sync(_) => text.push_str("sync ")?,
         }

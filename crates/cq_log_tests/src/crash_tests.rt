@@ -107,7 +107,8 @@ fn a_crash_leaves_whole_frames(rt: HostRuntime) -> Result<(), Fail> {
         }
         for place in 0..LENGTH {
             for &byte in &BYTES {
-                let are_first = counts.add(count_left(alloc, &file, Ruin::Spoilt(place, byte))?);
+                let ruin = Ruin::Spoilt { place, byte };
+                let are_first = counts.add(count_left(alloc, &file, ruin)?);
                 assert!(rt; are_first, "at {moment}, {byte} at {place}");
             }
         }

@@ -22,7 +22,10 @@ static RUINS: [Ruin; 6] = [
     Ruin::Lost,
     Ruin::Front(1),
     Ruin::Filled(b'x'),
-    Ruin::Spoilt(4, b'x'),
+    Ruin::Spoilt {
+        place: 4,
+        byte: b'x',
+    },
     Ruin::Mixed(0b01010),
 ];
 

@@ -14,8 +14,13 @@ pub enum Ruin {
     Front(usize),
     /// Each byte in the range of a write, and each past the end of a cut, is this one.
     Filled(u8),
-    /// All bytes of a write are there, but at this place of the file there is this byte. A cut is done.
-    Spoilt(usize, u8),
+    /// All bytes of a write are there, but for one. A cut is done.
+    Spoilt {
+        /// Where it is in the file, in bytes.
+        place: usize,
+        /// What is there.
+        byte: u8,
+    },
     /// By the bits of this number, in turn: the written byte for a 1, or else the old one; past the old end a 0. Past the end of
     /// a cut a 0 for a 1, or else the old byte.
     Mixed(u64),
@@ -41,8 +46,11 @@ impl Ruin {
                 Ruin::Front(count) if i < count => reached.push(byte)?,
                 Ruin::Front(_) => {}
                 Ruin::Filled(other) => reached.push(other)?,
-                Ruin::Spoilt(spoilt, other) if spoilt == place => reached.push(other)?,
-                Ruin::Spoilt(..) => reached.push(byte)?,
+                Ruin::Spoilt {
+                    place: spoilt,
+                    byte: other,
+                } if spoilt == place => reached.push(other)?,
+                Ruin::Spoilt { .. } => reached.push(byte)?,
                 Ruin::Mixed(bits) if bits.rotate_right((place % 64) as u32) % 2 == 1 => {
                     reached.push(byte)?;
                 }
@@ -60,7 +68,7 @@ impl Ruin {
         let mut left = Vec::new(alloc);
         for (i, &byte) in bytes.iter().enumerate() {
             match self {
-                Ruin::Kept | Ruin::Spoilt(..) => {}
+                Ruin::Kept | Ruin::Spoilt { .. } => {}
                 Ruin::Lost => left.push(byte)?,
                 Ruin::Front(count) if i < count => left.push(byte)?,
                 Ruin::Front(_) => {}

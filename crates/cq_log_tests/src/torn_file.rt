@@ -11,8 +11,13 @@ use std::alloc::{AllocError, Global};
 /// A change of a file, or a sync.
 #[derive(Debug, Drop, PartialEq, Eq)]
 pub enum Change {
-    /// These bytes were written at this offset.
-    Write(usize, Vec<u8>),
+    /// Bytes were written.
+    Write {
+        /// The offset in bytes.
+        at: usize,
+        /// What was written.
+        bytes: Vec<u8>,
+    },
     /// The file was cut to this length.
     Cut(usize),
     /// The file was synced with these bytes.
@@ -101,7 +106,7 @@ impl TornFile {
         ensures unchanged { OnErr result (self.new.changes.items ≡ self.old.changes.items) }
     {
         let next = overwritten(self.alloc, &self.file, at, &bytes)?;
-        self.changes.push(Change::Write(at, bytes))?;
+        self.changes.push(Change::Write { at, bytes })?;
         self.file = next;
         Ok(())
     }
@@ -174,7 +179,7 @@ fn left_by(alloc: Global, file: &[u8], change: &Change, ruin: Ruin) -> Result<Ve
     ensures { IfOk result (λ left. Leaves change.now file.now left.items) }
 {
     match change {
-        Change::Write(at, bytes) => torn(alloc, file, *at, bytes, ruin),
+        Change::Write { at, bytes } => torn(alloc, file, *at, bytes, ruin),
         Change::Cut(len) => cut_short(alloc, file, *len, ruin),
         Change::Sync(bytes) => bytes.to_vec(alloc),
     }

@@ -15,7 +15,7 @@ fn notes_text(alloc: Global, notes: &[Note]) -> Result<String, AllocError> {
                 }
                 text.push_str(", ")?;
             }
-            Note::NameMoved(name, position) => write!(text, "name {name} at {position}, ")?,
+            Note::NameMoved { name, position } => write!(text, "name {name} at {position}, ")?,
             Note::FloorMoved(floor) => write!(text, "floor {floor}, ")?,
         }
     }
@@ -82,7 +82,7 @@ fn frames_have_these_faults(rt: HostRuntime) -> Result<(), Fail> {
     Ok(())
 }
 
-/// A frame of a cycle, a message of two bytes, a name and a floor, which ends at these places of its notes.
+/// A frame of a cycle, a message of two bytes, a name and a floor.
 static WHOLE: [u8; 30] = [
     1, 1, 0, 0, 0, 2, 2, 0, 0, 0, 104, 105, 3, 0, 0, 0, 0, 1, 0, 0, 0, 0, 0, 0, 0, 4, 1, 0, 0, 0,
 ];
