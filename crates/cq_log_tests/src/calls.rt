@@ -15,20 +15,24 @@ pub enum Call {
 }
 
 /// Makes the calls, and returns their answers as text. Out of memory ends it.
-fn answers<D: Device>(alloc: Global, log: &mut Log<D>, calls: &[Call]) -> Result<String, LogFault>
+fn answers<D: Device>(
+    alloc: Global,
+    log: &mut Log<D>,
+    calls: &[Call],
+) -> Result<String, DeviceFault>
     requires { IsSound D.seen D.may_leave D.fault log.old }
     ensures { IsSound D.seen D.may_leave D.fault log.new }
 {
     let mut text = String::new(alloc);
     for call in calls {
         let answer = match call {
-            Call::Push(frame) => log.push(alloc, frame.as_bytes()),
+            Call::Push(frame) => log.push(frame.as_bytes()),
             Call::Settle => log.settle().map_err(LogFault::Stopped),
         };
         match answer {
             Ok(()) => text.push_str("ok ")?,
-            Err(LogFault::OutOfMemory | LogFault::Stopped(DeviceFault::OutOfMemory)) => {
-                return Err(LogFault::OutOfMemory);
+            Err(LogFault::Stopped(DeviceFault::OutOfMemory)) => {
+                return Err(DeviceFault::OutOfMemory);
             }
             Err(fault) => write!(text, "{fault:?} ")?,
         }
@@ -42,9 +46,9 @@ pub fn after_calls(
     alloc: Global,
     failing: u64,
     calls: &[Call],
-) -> Result<(TornFile, String), LogFault> {
+) -> Result<(TornFile, String), DeviceFault> {
     match Log::create(TornFile::new(alloc, failing)) {
-        Err(error) if error.fault == DeviceFault::OutOfMemory => Err(LogFault::OutOfMemory),
+        Err(error) if error.fault == DeviceFault::OutOfMemory => Err(DeviceFault::OutOfMemory),
         Err(error) => Ok((error.device, format!(in alloc; "{:?}", error.fault)?)),
         Ok(log) => {
             let mut log = log;

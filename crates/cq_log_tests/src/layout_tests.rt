@@ -51,34 +51,49 @@ fn each_frame_is_synced_once(rt: HostRuntime) -> Result<(), Fail> {
     assert_eq!(rt; answers.as_str(), "ok ok ok ok ");
     assert_eq!(rt;
         changes_text(alloc, &file)?.as_str(),
-        "0+1 sync 1+7 sync 0+1 8+5 sync 7+1 13+8 sync 12+1 sync "
+        "0+1 sync 1+4 5+2 7+1 sync 0+1 8+4 12+0 12+1 sync 7+1 13+4 17+3 20+1 sync 12+1 sync "
     );
     Ok(())
 }
 
 /// The number of the call of the file that fails, the answers, and the calls of the file: none is made after it.
-static STOPS: [(u64, &str, &str); 6] = [
+static STOPS: [(u64, &str, &str); 9] = [
     (1, "Failed", "0+1 "),
     (2, "Failed", "0+1 "),
     (
         3,
         "Stopped(Failed) Stopped(Failed) Stopped(Failed) Stopped(Failed) ",
-        "0+1 sync 1+7 ",
+        "0+1 sync 1+4 ",
     ),
     (
         4,
         "Stopped(Failed) Stopped(Failed) Stopped(Failed) Stopped(Failed) ",
-        "0+1 sync 1+7 ",
+        "0+1 sync 1+4 5+2 ",
+    ),
+    (
+        5,
+        "Stopped(Failed) Stopped(Failed) Stopped(Failed) Stopped(Failed) ",
+        "0+1 sync 1+4 5+2 7+1 ",
+    ),
+    (
+        6,
+        "Stopped(Failed) Stopped(Failed) Stopped(Failed) Stopped(Failed) ",
+        "0+1 sync 1+4 5+2 7+1 ",
     ),
     (
         7,
         "ok Stopped(Failed) Stopped(Failed) Stopped(Failed) ",
-        "0+1 sync 1+7 sync 0+1 8+5 ",
+        "0+1 sync 1+4 5+2 7+1 sync 0+1 ",
     ),
     (
-        12,
+        11,
+        "ok Stopped(Failed) Stopped(Failed) Stopped(Failed) ",
+        "0+1 sync 1+4 5+2 7+1 sync 0+1 8+4 12+0 12+1 ",
+    ),
+    (
+        18,
         "ok ok ok Stopped(Failed) ",
-        "0+1 sync 1+7 sync 0+1 8+5 sync 7+1 13+8 sync 12+1 ",
+        "0+1 sync 1+4 5+2 7+1 sync 0+1 8+4 12+0 12+1 sync 7+1 13+4 17+3 20+1 sync 12+1 ",
     ),
 ];
 
