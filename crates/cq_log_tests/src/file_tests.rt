@@ -1,6 +1,6 @@
 //! A file in memory by itself: its bytes, and what a crash leaves of writes and cuts.
 use crate::{Ruin, TornFile};
-use cq_log::{Device, DeviceFault, Log};
+use cq_log::{Device, Log, read_frames};
 use std::alloc::{AllocError, Global};
 use std::test::Fail;
 
@@ -56,15 +56,37 @@ fn a_used_file_gets_a_new_log(rt: HostRuntime) -> Result<(), Fail> {
     file.sync()?;
     file.cut(0)?;
     assert_eq!(rt;
-        left_text(alloc, &file, &[Ruin::Kept, Ruin::Lost])?.as_str(),
-        "|old|"
+        left_text(alloc, &file, &RUINS)?.as_str(),
+        "|old|o|xxx||o\0d|"
     );
     file.sync()?;
-    let Ok(log) = Log::create(file) else {
-        return Err(Fail::from(DeviceFault::OutOfMemory));
+    let log = match Log::create(file) {
+        Ok(log) => log,
+        Err(error) => return Err(Fail::from(error.fault)),
     };
     assert!(rt; log.is_settled());
     assert_eq!(rt; log.fault(), None);
     assert_eq!(rt; log.device().bytes(), [0].as_slice());
+    Ok(())
+}
+
+/// The frames `ab` and `c`, and a closed gate.
+static LOG: [u8; 14] = [1, 2, 0, 0, 0, 97, 98, 1, 1, 0, 0, 0, 99, 0];
+
+#[test]
+fn a_crash_leaves_frames_of_a_log_that_is_emptied(rt: HostRuntime) -> Result<(), Fail> {
+    let alloc = rt.alloc();
+    let mut file = TornFile::new(alloc, 0);
+    file.write_at(0, &LOG)?;
+    file.sync()?;
+    file.cut(0)?;
+    for (count, wanted) in [(0, 0), (6, 0), (7, 1), (12, 1), (13, 2)] {
+        let left = file.after_crash(alloc, Ruin::Front(count))?;
+        assert_eq!(rt;
+            read_frames(alloc, &left)?.len(),
+            wanted,
+            "of {count} bytes"
+        );
+    }
     Ok(())
 }

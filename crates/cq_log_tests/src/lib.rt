@@ -12,6 +12,8 @@ mod file_tests;
 #[cfg(test)]
 mod layout_tests;
 #[cfg(test)]
+mod memory_tests;
+#[cfg(test)]
 mod reading_tests;
 mod ruin;
 mod torn_file;

@@ -5,3 +5,5 @@
 
 #[cfg(test)]
 mod frame_tests;
+#[cfg(test)]
+mod memory_tests;
