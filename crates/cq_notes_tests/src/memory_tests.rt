@@ -1,5 +1,5 @@
 //! Notes that are written and read although memory is refused: the call that is refused for it is made again.
-use cq_notes::{Note, NoteFault, decode, encode};
+use cq_notes::{NoteFault, decode, encode};
 use std::alloc::Global;
 use std::test::Fail;
 
@@ -12,10 +12,16 @@ static FRAME: [u8; 36] = [
     0, 4, 1, 0, 0, 0,
 ];
 
-/// Reads notes, with another try where memory is refused.
-fn decode_again(alloc: Global, frame: &[u8]) -> Result<Vec<Note>, NoteFault> {
+/// Reads the notes of a frame, and writes them again.
+fn written_again(alloc: Global, frame: &[u8]) -> Result<Vec<u8>, NoteFault> {
+    let notes = decode(alloc, frame)?;
+    Ok(encode(alloc, &notes)?)
+}
+
+/// Does so, with another try where memory is refused.
+fn written_at_last(alloc: Global, frame: &[u8]) -> Result<Vec<u8>, NoteFault> {
     for _ in 0..TRIES {
-        match decode(alloc, frame) {
+        match written_again(alloc, frame) {
             Err(NoteFault::OutOfMemory) => {}
             answer => return answer,
         }
@@ -24,14 +30,8 @@ fn decode_again(alloc: Global, frame: &[u8]) -> Result<Vec<Note>, NoteFault> {
 }
 
 #[test]
-fn notes_are_all_read_or_none(rt: HostRuntime) -> Result<(), Fail> {
-    let alloc = rt.alloc();
-    let notes = decode_again(alloc, &FRAME)?;
-    assert_eq!(rt; notes.len(), 5);
-    let frame = match encode(alloc, &notes) {
-        Ok(frame) => frame,
-        Err(_) => encode(alloc, &notes)?,
-    };
+fn notes_are_all_written_or_none(rt: HostRuntime) -> Result<(), Fail> {
+    let frame = written_at_last(rt.alloc(), &FRAME)?;
     assert_eq!(rt; frame.as_slice(), FRAME.as_slice());
     Ok(())
 }
