@@ -44,4 +44,4 @@ pub record IsNewRow (settings : Settings) (places : ℕ) (at_limit : AtLimit) (m
 pub record IsFirstPlace (settings : Settings) (places : ℕ) (at_limit : AtLimit) (moment : ℕ) (p : Place) : Type 0 where
   pub made : IsNewRow settings places at_limit moment (arc_value p.row) p.endpoint
   pub starts : p.start ≡ moment
-  pub enters : Enters 0 p
+  pub enters : Enters (arc_value p.row) 0 p

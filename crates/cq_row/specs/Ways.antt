@@ -1,9 +1,11 @@
 -- How an endpoint goes from one queue of a shelf to another.
-use Rattle.std.specs.Prelude.{Bool, true, false, ◌≡◌, ℕ, ◌+◌, suc}
+use Rattle.std.specs.Prelude.{Bool, true, false, ◌≡◌, ◌<◌, ℕ, ◌+◌, suc}
+use Rattle.std.specs.Arc.{arc_value}
 use Rattle.cq_endpoint.specs.Endpoints.{EndpointFacts, endpoint_of}
 use Rattle.cq_row.specs.declared.place.Place.{Place}
 use Rattle.cq_row.specs.declared.place.Step.{Step}
 use Rattle.cq_row.specs.declared.place.Step.TheVariants as step
+use Rattle.cq_row.specs.declared.row.Row.{Row}
 use Rattle.cq_model.specs.declared.history.Answer.TheVariants.{Ends}
 use Rattle.cq_model.specs.declared.history.Event.TheVariants.{End}
 use Rattle.cq_tail.specs.Tailers.{Answered, TailerFacts}
@@ -15,20 +17,22 @@ pub record IsFresh (e : EndpointFacts) : Type 0 where
   pub caller : CallerFacts
   pub is : e ≡ endpoint_of e.queue caller
 
--- a place is at the queue with this number, from its start
-pub record Enters (n : ℕ) (p : Place) : Type 0 where
+-- a place of this row is at the queue with this number, from its start
+pub record Enters (row : Row) (n : ℕ) (p : Place) : Type 0 where
+  pub row_is : arc_value p.row ≡ row
   pub number : p.number ≡ n
   pub fresh : IsFresh p.endpoint
 
 -- where a step to the next queue led
 abbrev pub GoesOn : Place → Step → Place → Type 0
-GoesOn old step.Next new = Enters (suc old.number) new
-GoesOn old (step.Skipped n) new = Enters (suc old.number + n) new
+GoesOn old step.Next new = Enters (arc_value old.row) (suc old.number) new
+GoesOn old (step.Skipped n) new = (0 < n) × Enters (arc_value old.row) (suc old.number + n) new
 GoesOn old step.NotBegun new = new ≡ old
 GoesOn old step.Ended new = new ≡ old
 
--- a place is at the queue with this number, at its end, and reads backwards from there
-pub record EntersEnd (n : ℕ) (p : Place) : Type 0 where
+-- a place of this row is at the queue with this number, at its end, and reads backwards from there
+pub record EntersEnd (row : Row) (n : ℕ) (p : Place) : Type 0 where
+  pub row_is : arc_value p.row ≡ row
   pub number : p.number ≡ n
   pub begun : EndpointFacts
   pub fresh : IsFresh begun
@@ -39,4 +43,4 @@ pub record EntersEnd (n : ℕ) (p : Place) : Type 0 where
 -- where a step to the queue before led, if it led there
 abbrev pub GoesBack : Place → Bool → Place → Type 0
 GoesBack old false new = new ≡ old
-GoesBack old true new = (number : ℕ) × (old.number ≡ suc number) × EntersEnd number new
+GoesBack old true new = (number : ℕ) × (old.number ≡ suc number) × EntersEnd (arc_value old.row) number new

@@ -1,21 +1,21 @@
 -- How calls of a shelf go on, and what they come to.
-use Rattle.std.proofs.Common.{◌≡◌, Err, IfSome, IsErrAnd, List, None, Ok, Option, Result, Some, ℕ, inl, inr, refl, subst, sym}
+use Rattle.std.proofs.Common.{◌≡◌, Err, IfSome, IsErrAnd, List, None, Ok, Option, Result, Some, ℕ, ◌+◌, inl, inr, refl, subst, sym}
 use Rattle.cq_endpoint.specs.Endpoints.{EndpointFacts}
 use Rattle.cq_row.specs.declared.fault.ShelfFault.{ShelfFault}
 use Rattle.cq_row.specs.declared.fault.ShelfFault.TheVariants.{Busy}
 use Rattle.cq_row.specs.declared.place.Place.{Place}
-use Rattle.cq_shelf.specs.Ways.{Asking, Asks, Here, Makes, Moves, Passes, Reply, Settles, Steps, Turns, before, ends, failed, here, missed, next, on, refused, said, turns, waits}
+use Rattle.cq_shelf.specs.Ways.{Asking, Asks, Here, IsTired, Makes, Moves, Passes, Reply, Settles, Steps, Turns, before, ends, failed, here, missed, next, on, refused, said, turns, waits}
 
 -- a place whose endpoint has changed to this
 abbrev with_endpoint : Place → EndpointFacts → Place
 with_endpoint p e = record p { endpoint = e }
 
 module _ {A : Type 0} (asking : Asking A) (old : Here) (p : Place) (room full : List ℕ) (e : EndpointFacts)
-    (passed : Passes (Moves asking) old (here p room)) where
+    (over : ℕ) (passed : Passes (Moves asking) old over (here p room)) where
   -- the endpoint was refused
   pub is_refused : (fault : ShelfFault) → asking.fails fault p.endpoint room e full
       → Asks asking old (here (with_endpoint p e) full) (failed fault)
-  is_refused fault says = record { last = here p room; passed = passed; replies = refused (refl, says) }
+  is_refused fault says = record { over = over; last = here p room; passed = passed; replies = refused (refl, says) }
 
   module _ (found : A) (says : asking.call found p.endpoint room e full) (new : Place) where
     -- it answered so, and nothing followed
@@ -25,11 +25,12 @@ module _ {A : Type 0} (asking : Asking A) (old : Here) (p : Place) (room full : 
 
     -- by its answer the call ends
     pub settles : (r : Reply A) → Settles asking found (with_endpoint p e) new r → Asks asking old (here new full) r
-    settles (said a) (is, stays) = record { last = here p room; passed = passed; replies = answers a is stays }
-    settles waits (inl is, stays) = record { last = here p room; passed = passed; replies = inl (answers asking.not_yet is stays) }
-    settles waits (inr is, stays) = record { last = here p room; passed = passed; replies = inr (answers asking.finished is stays) }
-    settles ends (is, stays) = record { last = here p room; passed = passed; replies = answers asking.finished is stays }
+    settles (said a) (is, stays) = record { over = over; last = here p room; passed = passed; replies = answers a is stays }
+    settles waits (inl is, stays) = record { over = over; last = here p room; passed = passed; replies = inl (answers asking.not_yet is stays) }
+    settles waits (inr is, stays) = record { over = over; last = here p room; passed = passed; replies = inr (answers asking.finished is stays) }
+    settles ends (is, stays) = record { over = over; last = here p room; passed = passed; replies = answers asking.finished is stays }
     settles (missed n) (is, goes) = record {
+      over = over;
       last = here p room;
       passed = passed;
       replies = record {
@@ -39,18 +40,18 @@ module _ {A : Type 0} (asking : Asking A) (old : Here) (p : Place) (room full : 
       };
     }
     settles (failed f) (inl is, stays, why) =
-        record { last = here p room; passed = passed; replies = next (answers asking.finished is stays) why }
+        record { over = over; last = here p room; passed = passed; replies = next (answers asking.finished is stays) why }
     settles (failed f) (inr starts, stays, why) =
-        record { last = here p room; passed = passed; replies = before found starts (answers found refl stays) why }
+        record { over = over; last = here p room; passed = passed; replies = before found starts (answers found refl stays) why }
 
     -- or it went to another queue
-    pub steps : Steps asking found (with_endpoint p e) new → Passes (Moves asking) old (here new full)
-    steps (inl (is, goes)) = on (here p room) (here new full) passed (inl (record {
+    pub steps : Steps asking found (with_endpoint p e) new → Passes (Moves asking) old (over + 1) (here new full)
+    steps (inl (is, goes)) = on over (here p room) (here new full) passed (inl (record {
       left = with_endpoint p e;
       finished = (refl, subst (λ (x : A). asking.call x p.endpoint room e full) is says);
       goes = goes;
     }))
-    steps (inr (starts, goes)) = on (here p room) (here new full) passed (inr (record {
+    steps (inr (starts, goes)) = on over (here p room) (here new full) passed (inr (record {
       left = with_endpoint p e;
       answer = found;
       is_start = starts;
@@ -74,13 +75,15 @@ module _ {A : Type 0} (asking : Asking A) (old : Here) (p : Place) (room full : 
           in (settles (reply (Ok b)) turned.0, turned.1)
 
       -- or goes on in another queue
-      pub goes_over : o ≡ None → Turns asking reply IsIn found (with_endpoint p e) new (Ok o) → Passes (Moves asking) old (here new full)
+      pub goes_over : o ≡ None → Turns asking reply IsIn found (with_endpoint p e) new (Ok o)
+          → Passes (Moves asking) old (over + 1) (here new full)
       goes_over is says =
           steps (subst (λ (x : Option B). Turns asking reply IsIn found (with_endpoint p e) new (Ok x)) is says)
 
 -- it went over as many queues as one call does
-pub tired : {A : Type 0} (asking : Asking A) (old at : Here) → Passes (Moves asking) old at → Asks asking old at (failed Busy)
-tired asking old at passed = record { last = at; passed = passed; replies = turns refl refl }
+pub tired : {A : Type 0} (asking : Asking A) (old at : Here) (over : ℕ) → Passes (Moves asking) old over at → IsTired over
+    → Asks asking old at (failed Busy)
+tired asking old at over passed is = record { over = over; last = at; passed = passed; replies = turns is refl refl }
 
 -- what holds of each such error holds of a result that is one
 pub by_error : {B : Type 0} (P : Result B ShelfFault → Type 0) (Q : ShelfFault → Type 0) (r : Result B ShelfFault) → IsErrAnd r Q

@@ -1,5 +1,5 @@
 -- How a writer leaves a queue.
-use Rattle.std.proofs.Common.{◌≡◌, ◌⊎◌, Err, MatchResult, Ok, Result, ℕ, inl, inr, refl, subst, sym}
+use Rattle.std.proofs.Common.{◌≡◌, ◌⊎◌, Err, MatchResult, Ok, Result, ℕ, ◌+◌, inl, inr, refl, subst, sym}
 use Rattle.cq_endpoint.specs.Endpoints.{EndpointFacts}
 use Rattle.cq_endpoint.specs.declared.fault.AppendFault.{AppendFault}
 use Rattle.cq_endpoint.specs.declared.fault.AppendFault.TheVariants as unappended
@@ -10,7 +10,7 @@ use Rattle.cq_row.specs.declared.fault.ShelfFault.TheVariants.{Busy}
 use Rattle.cq_row.specs.declared.place.Place.{Place}
 use Rattle.cq_row.specs.declared.place.Step.{Step}
 use Rattle.cq_row.specs.declared.place.Step.TheVariants as step
-use Rattle.cq_shelf.specs.Ways.{Does, Passes, on}
+use Rattle.cq_shelf.specs.Ways.{Does, IsTired, Passes, on}
 use Rattle.cq_shelf.specs.Writes.{Append, HasPlaceFor, IsOnFault, IsToLeave, Leaves, LeavesEnd, LooksForEnd, Shuts, Stays, WriterMoves, Writes, WritesNot, not_on}
 
 module _ (old : Place) (e : EndpointFacts) (looks : LooksForEnd old.endpoint e) where
@@ -47,37 +47,38 @@ after_refused len refusal old shut new (Ok u) is_to shuts says =
     record { is_to = is_to; left = says.left; leaves = (shut, shuts, says.looked); onto = says.onto }
 after_refused len refusal old shut new (Err e) is_to shuts says = not_on is_to (shut, shuts, says.0) says.1
 
-module _ {A : Type 0} (len : ℕ) (append : Append A) (old p : Place) (e : EndpointFacts) (passed : Passes (WriterMoves len append) old p)
-  where
-    -- the endpoint appended
-    pub writes : (a : A) → append (Ok a) p.endpoint e → Writes len append old (record p { endpoint = e }) a
-    writes a says = record { last = p; passed = passed; appended = (refl, says) }
+module _ {A : Type 0} (len : ℕ) (append : Append A) (old p : Place) (e : EndpointFacts)
+    (over : ℕ) (passed : Passes (WriterMoves len append) old over p) where
+  -- the endpoint appended
+  pub writes : (a : A) → append (Ok a) p.endpoint e → Writes len append old (record p { endpoint = e }) a
+  writes a says = record { last = p; passed = (over, passed); appended = (refl, says) }
 
-    module _ (f : AppendFault) (says : append (Err f) p.endpoint e) (new : Place) where
-      -- it was refused, and the writer went on
-      pub moves : Leaves len f (record p { endpoint = e }) new → Passes (WriterMoves len append) old new
-      moves goes = on p new passed (record {
+  module _ (f : AppendFault) (says : append (Err f) p.endpoint e) (new : Place) where
+    -- it was refused, and the writer went on
+    pub moves : Leaves len f (record p { endpoint = e }) new → Passes (WriterMoves len append) old (over + 1) new
+    moves goes = on over p new passed (record {
+      refused = f;
+      after = record p { endpoint = e };
+      was_refused = (refl, says);
+      leaves = goes;
+    })
+
+    -- or stayed there
+    pub writes_not : (one two : ShelfFault) → one ≡ two → Stays len f (record p { endpoint = e }) new two
+        → WritesNot len append old new one
+    writes_not one two is stayed = record {
+      over = over;
+      last = p;
+      passed = passed;
+      fails = inl (record {
         refused = f;
         after = record p { endpoint = e };
         was_refused = (refl, says);
-        leaves = goes;
-      })
-
-      -- or stayed there
-      pub writes_not : (one two : ShelfFault) → one ≡ two → Stays len f (record p { endpoint = e }) new two
-          → WritesNot len append old new one
-      writes_not one two is stayed = record {
-        last = p;
-        passed = passed;
-        fails = inl (record {
-          refused = f;
-          after = record p { endpoint = e };
-          was_refused = (refl, says);
-          stays_there = subst (Stays len f (record p { endpoint = e }) new) (sym is) stayed;
-        });
-      }
+        stays_there = subst (Stays len f (record p { endpoint = e }) new) (sym is) stayed;
+      });
+    }
 
 -- it went over as many queues as one call does
-pub tires : {A : Type 0} (len : ℕ) (append : Append A) (old p : Place) → Passes (WriterMoves len append) old p
-    → WritesNot len append old p Busy
-tires len append old p passed = record { last = p; passed = passed; fails = inr (refl, refl) }
+pub tires : {A : Type 0} (len : ℕ) (append : Append A) (old p : Place) (over : ℕ) → Passes (WriterMoves len append) old over p
+    → IsTired over → WritesNot len append old p Busy
+tires len append old p over passed is = record { over = over; last = p; passed = passed; fails = inr (is, refl, refl) }

@@ -1,4 +1,5 @@
 -- How a reader of a shelf moves, and what it reads at a position.
+use Rattle.std.specs.Arc.{arc_value}
 use Rattle.std.specs.Prelude.{Bool, true, false, ◌≡◌, ◌≢◌, ◌<◌, ⊤, ℕ, List}
 use Rattle.cq_endpoint.specs.Endpoints.{ChangesTailer, EndpointFacts}
 use Rattle.cq_endpoint.specs.Reads.{ReadAtFails, ReadAtIntoSays, ReadAtSays, ReadFits}
@@ -8,11 +9,14 @@ use Rattle.cq_endpoint.specs.declared.answers.ReadAtInto.{ReadAtInto}
 use Rattle.cq_endpoint.specs.declared.answers.ReadAtInto.TheVariants as read_at_into
 use Rattle.cq_model.specs.declared.history.Answer.TheVariants.{Ends}
 use Rattle.cq_model.specs.declared.history.Event.TheVariants.{End}
+use Rattle.cq_row.specs.Faults.{IsStepFault}
 use Rattle.cq_row.specs.Ways.{Enters, GoesOn}
+use Rattle.cq_row.specs.declared.fault.ShelfFault.{ShelfFault}
+use Rattle.cq_row.specs.declared.fault.ShelfFault.TheVariants.{OutOfMemory}
 use Rattle.cq_row.specs.declared.place.Place.{Place}
 use Rattle.cq_row.specs.declared.place.Position.{Position}
 use Rattle.cq_row.specs.declared.place.Step.{Step}
-use Rattle.cq_shelf.specs.Ways.{Does, Passes}
+use Rattle.cq_shelf.specs.Ways.{Comes, Does}
 use Rattle.cq_shelf.specs.declared.answers.ShelfReadAt.{ShelfReadAt}
 use Rattle.cq_shelf.specs.declared.answers.ShelfReadAt.TheVariants as shelf_at
 use Rattle.cq_shelf.specs.declared.answers.ShelfReadAtInto.{ShelfReadAtInto}
@@ -31,7 +35,7 @@ turned p way = with_tailer p (record p.endpoint.tailer { direction = way })
 
 -- a reader is before the first message of the oldest queue that is kept: of an earlier one, or of its own
 pub data ToStart (old new : Place) : Type 0 where
-  at_earlier : (n : ℕ) → n < old.number → Enters n new → ToStart old new
+  at_earlier : (n : ℕ) → n < old.number → Enters (arc_value old.row) n new → ToStart old new
   at_own : new ≡ with_tailer old (record old.endpoint.tailer { cursor = 0; direction = Forwards }) → ToStart old new
 
 -- what a step to the next queue came to
@@ -49,7 +53,7 @@ pub record AtEnd (e f : EndpointFacts) : Type 0 where
 -- a reader is at the end of the last queue to which it came
 pub record ToEnd (old new : Place) : Type 0 where
   pub last : Place
-  pub passed : Passes Goes old last
+  pub passed : Comes Goes old last
   pub at_end : Does AtEnd last new
 
 -- a move to an index in a queue
@@ -59,7 +63,7 @@ moves_to i moved e f = MovesTo e.queue e.tailer f.tailer i moved × ChangesTaile
 -- a move to a position: in the queue where the reader is; or to another one that is kept
 pub data MovesOn (at : Position) (old new : Place) (moved : Bool) : Type 0 where
   moves_here : at.queue ≡ old.number → Does (moves_to at.index moved) old new → MovesOn at old new moved
-  moves_there : (p : Place) → at.queue ≢ old.number → moved ≡ true → Enters at.queue p → Does (moves_to at.index true) p new
+  moves_there : (p : Place) → at.queue ≢ old.number → moved ≡ true → Enters (arc_value old.row) at.queue p → Does (moves_to at.index true) p new
       → MovesOn at old new moved
   moves_not : at.queue ≢ old.number → moved ≡ false → new ≡ old → MovesOn at old new moved
 
@@ -91,15 +95,23 @@ IsNone shelf_at.Gone = ⊤
 -- a read at a position: in the queue where the reader is; or in another one that is kept; or there is no such queue
 pub data ReadsAtOn (at : Position) (old new : Place) (r : ShelfReadAt) : Type 0 where
   in_own : at.queue ≡ old.number → Does (ReadsIn at.index r) old new → ReadsAtOn at old new r
-  in_other : (p : Place) (f : EndpointFacts) → at.queue ≢ old.number → new ≡ old → Enters at.queue p
+  in_other : (p : Place) (f : EndpointFacts) → at.queue ≢ old.number → new ≡ old → Enters (arc_value old.row) at.queue p
       → ReadsIn at.index r p.endpoint f → ReadsAtOn at old new r
   nowhere : at.queue ≢ old.number → new ≡ old → IsNone r → ReadsAtOn at old new r
 
--- and one that failed
-pub data ReadsAtFails (at : Position) (old new : Place) : Type 0 where
-  fails_here : at.queue ≡ old.number → Does (λ e f. ReadAtFails e.queue e.tailer f.tailer at.index × ChangesTailer e f) old new
-      → ReadsAtFails at old new
-  fails_elsewhere : at.queue ≢ old.number → new ≡ old → ReadsAtFails at old new
+-- and one that failed: memory was refused to the copy, or the reader did not come to another queue
+pub data ReadsAtFails (at : Position) (old new : Place) (fault : ShelfFault) : Type 0 where
+  fails_here : at.queue ≡ old.number → fault ≡ OutOfMemory
+      → Does (λ e f. ReadAtFails e.queue e.tailer f.tailer at.index × ChangesTailer e f) old new → ReadsAtFails at old new fault
+  fails_elsewhere : at.queue ≢ old.number → IsStepFault fault → new ≡ old → ReadsAtFails at old new fault
+
+-- a reader stayed where it was, since it did not come to another queue
+abbrev pub StaysThere : Place → Place → ShelfFault → Type 0
+StaysThere old new fault = (new ≡ old) × IsStepFault fault
+
+-- it did not come to the last queue
+abbrev pub EndsNot : Place → Place → ShelfFault → Type 0
+EndsNot old new fault = Comes Goes old new × IsStepFault fault
 
 -- the same into a room
 abbrev pub reads_at_into : ℕ → List ℕ → List ℕ → ReadAtInto → EndpointFacts → EndpointFacts → Type 0
@@ -129,6 +141,6 @@ IsNoneInto shelf_at_into.Gone = ⊤
 pub data ReadsAtIntoOn (at : Position) (old : Place) (room : List ℕ) (new : Place) (full : List ℕ) (r : ShelfReadAtInto) : Type 0
   where
     into_own : at.queue ≡ old.number → Does (ReadsIntoIn at.index room full r) old new → ReadsAtIntoOn at old room new full r
-    into_other : (p : Place) (f : EndpointFacts) → at.queue ≢ old.number → new ≡ old → Enters at.queue p
+    into_other : (p : Place) (f : EndpointFacts) → at.queue ≢ old.number → new ≡ old → Enters (arc_value old.row) at.queue p
         → ReadsIntoIn at.index room full r p.endpoint f → ReadsAtIntoOn at old room new full r
     into_nowhere : at.queue ≢ old.number → new ≡ old → full ≡ room → IsNoneInto r → ReadsAtIntoOn at old room new full r

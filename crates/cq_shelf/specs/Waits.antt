@@ -3,7 +3,7 @@ use Rattle.std.specs.Prelude.{⊤, Result, Ok, Err}
 use Rattle.cq_row.specs.declared.fault.ShelfFault.{ShelfFault}
 use Rattle.cq_row.specs.declared.fault.ShelfFault.TheVariants as fault
 use Rattle.cq_row.specs.declared.place.Position.{Position}
-use Rattle.cq_shelf.specs.Ways.{Passes}
+use Rattle.cq_shelf.specs.Ways.{Comes}
 use Rattle.cq_shelf.specs.declared.answers.ShelfNext.{ShelfNext}
 use Rattle.cq_shelf.specs.declared.answers.ShelfNext.TheVariants as shelf_next
 use Rattle.cq_shelf.specs.declared.answers.ShelfTaken.{ShelfTaken}
@@ -20,7 +20,7 @@ pub record Again {S B : Type 0} (tries : S → S → Result B ShelfFault → Typ
 pub record Waits {S B : Type 0} (tries : S → S → Result B ShelfFault → Type 0) (waits : Result B ShelfFault → Type 0)
     (old new : S) (said : Result B ShelfFault) : Type 0 where
   pub last : S
-  pub passed : Passes (Again tries waits) old last
+  pub passed : Comes (Again tries waits) old last
   pub tried : tries last new said
 
 -- which errors pass by themselves: others go on at the same moment, or the shelf is full

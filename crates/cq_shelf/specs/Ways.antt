@@ -1,5 +1,5 @@
 -- How an endpoint of a shelf comes from queue to queue in one call, and what it does in the last one.
-use Rattle.std.specs.Prelude.{true, ◌≡◌, ◌⊎◌, ℕ, List, Option, None, Some, Result, Ok, Err}
+use Rattle.std.specs.Prelude.{true, ◌≡◌, ◌⊎◌, ◌≤◌, ◌+◌, ℕ, List, Option, None, Some, Result, Ok, Err}
 use Rattle.cq_endpoint.specs.Endpoints.{EndpointFacts}
 use Rattle.cq_row.specs.Faults.{IsStepFault}
 use Rattle.cq_row.specs.Ways.{GoesBack, GoesOn}
@@ -29,10 +29,18 @@ Does call old new = (new ≡ record old { endpoint = new.endpoint }) × call old
 abbrev pub Makes : Call → Here → Here → Type 0
 Makes call old new = Does (λ e f. call e old.room f new.room) old.place new.place
 
--- somebody came from one state to another by steps, none or more
-pub data Passes {S : Type 0} (moves : S → S → Type 0) (old : S) : S → Type 0 where
-  stays : Passes moves old old
-  on : (there new : S) → Passes moves old there → moves there new → Passes moves old new
+-- somebody came from one state to another by this many steps
+pub data Passes {S : Type 0} (moves : S → S → Type 0) (old : S) : ℕ → S → Type 0 where
+  stays : Passes moves old 0 old
+  on : (n : ℕ) (there new : S) → Passes moves old n there → moves there new → Passes moves old (n + 1) new
+
+-- by some number of them
+abbrev pub Comes : {S : Type 0} → (S → S → Type 0) → S → S → Type 0
+Comes moves old new = (n : ℕ) × Passes moves old n new
+
+-- these are as many queues as one call goes over, or more
+abbrev pub IsTired : ℕ → Type 0
+IsTired n = 65536 ≤ n
 
 -- by this call it saw that its queue is closed and that nothing is left there, and it went to the start of the next queue
 pub record Onward (finishes : Call) (old new : Here) : Type 0 where
@@ -79,26 +87,27 @@ Moves asking old new = Onward (asking.call asking.finished) old new ⊎ Backward
 
 -- why it failed in the last queue to which it came: it was refused, or did not get to the next queue or to the one before, for one
 -- of the reasons of a step; or it had gone over as many queues as one call does
-pub data FailsAt {A : Type 0} (asking : Asking A) (old new : Here) (fault : ShelfFault) : Type 0 where
-  refused : Makes (asking.fails fault) old new → FailsAt asking old new fault
-  next : Makes (asking.call asking.finished) old new → IsStepFault fault → FailsAt asking old new fault
-  before : (a : A) → asking.is_start a → Makes (asking.call a) old new → IsStepFault fault → FailsAt asking old new fault
-  turns : new ≡ old → fault ≡ Busy → FailsAt asking old new fault
+pub data FailsAt {A : Type 0} (asking : Asking A) (over : ℕ) (old new : Here) (fault : ShelfFault) : Type 0 where
+  refused : Makes (asking.fails fault) old new → FailsAt asking over old new fault
+  next : Makes (asking.call asking.finished) old new → IsStepFault fault → FailsAt asking over old new fault
+  before : (a : A) → asking.is_start a → Makes (asking.call a) old new → IsStepFault fault → FailsAt asking over old new fault
+  turns : IsTired over → new ≡ old → fault ≡ Busy → FailsAt asking over old new fault
 
--- what it did there
-abbrev pub Replies : {A : Type 0} → Asking A → Here → Here → Reply A → Type 0
-Replies asking old new (said a) = Makes (asking.call a) old new
-Replies asking old new waits = Makes (asking.call asking.not_yet) old new ⊎ Makes (asking.call asking.finished) old new
-Replies asking old new ends = Makes (asking.call asking.finished) old new
-Replies asking old new (missed n) = Misses (asking.call asking.finished) n old new
-Replies asking old new (failed e) = FailsAt asking old new e
+-- what it did there, after it went over this number of queues
+abbrev pub Replies : {A : Type 0} → Asking A → ℕ → Here → Here → Reply A → Type 0
+Replies asking over old new (said a) = Makes (asking.call a) old new
+Replies asking over old new waits = Makes (asking.call asking.not_yet) old new ⊎ Makes (asking.call asking.finished) old new
+Replies asking over old new ends = Makes (asking.call asking.finished) old new
+Replies asking over old new (missed n) = Misses (asking.call asking.finished) n old new
+Replies asking over old new (failed e) = FailsAt asking over old new e
 
 -- what a call says that reads or takes: it finished each queue from the old place on, or backwards came to its start; and in the
 -- last one it did this
 pub record Asks {A : Type 0} (asking : Asking A) (old new : Here) (reply : Reply A) : Type 0 where
+  pub over : ℕ
   pub last : Here
-  pub passed : Passes (Moves asking) old last
-  pub replies : Replies asking last new reply
+  pub passed : Passes (Moves asking) old over last
+  pub replies : Replies asking over last new reply
 
 -- what an answer of a queue comes to where the call ends with it: that answer, or what follows where the queue has no later message
 abbrev pub Settles : {A : Type 0} → Asking A → A → Place → Place → Reply A → Type 0

@@ -23,7 +23,7 @@ use Rattle.cq_row.specs.declared.place.Place.{Place}
 use Rattle.cq_row.specs.declared.place.Position.{Position}
 use Rattle.cq_row.specs.declared.place.Step.TheVariants as step
 use Rattle.cq_shelf.specs.Seeks.{Goes}
-use Rattle.cq_shelf.specs.Ways.{Does, Passes}
+use Rattle.cq_shelf.specs.Ways.{Comes, Does, IsTired, Passes}
 use Rattle.cq_tail.specs.Tailers.{Answered}
 
 -- what one call of an endpoint that appends does where it returns this
@@ -159,14 +159,15 @@ pub record WriterStays {A : Type 0} (len : ℕ) (append : Append A) (old new : P
 -- what a call says that appends: it left queue by queue, and in the last one it did this
 pub record Writes {A : Type 0} (len : ℕ) (append : Append A) (old new : Place) (a : A) : Type 0 where
   pub last : Place
-  pub passed : Passes (WriterMoves len append) old last
+  pub passed : Comes (WriterMoves len append) old last
   pub appended : Does (append (Ok a)) last new
 
 -- and what it says where it failed: nothing was appended, in no queue
 pub record WritesNot {A : Type 0} (len : ℕ) (append : Append A) (old new : Place) (e : ShelfFault) : Type 0 where
+  pub over : ℕ
   pub last : Place
-  pub passed : Passes (WriterMoves len append) old last
-  pub fails : WriterStays len append last new e ⊎ ((new ≡ last) × (e ≡ fault.Busy))
+  pub passed : Passes (WriterMoves len append) old over last
+  pub fails : WriterStays len append last new e ⊎ (IsTired over × (new ≡ last) × (e ≡ fault.Busy))
 
 -- what `append` says
 abbrev pub AppendsOn : ℕ → List ℕ → Place → Place → Result Position ShelfFault → Type 0
@@ -200,14 +201,15 @@ pub record Follows (old new : Place) : Type 0 where
 
 -- it came so far, and went over as many queues as one call does; or could not close its queue, or could not go on
 pub record FollowsNot (old new : Place) (e : ShelfFault) : Type 0 where
+  pub over : ℕ
   pub last : Place
-  pub passed : Passes Follows old last
-  pub stays_there : ((new ≡ last) × (e ≡ fault.Busy)) ⊎ (ShutsNot last new e ⊎ (Shuts last new × IsStepFault e))
+  pub passed : Passes Follows old over last
+  pub stays_there : (IsTired over × (new ≡ last) × (e ≡ fault.Busy)) ⊎ (ShutsNot last new e ⊎ (Shuts last new × IsStepFault e))
 
 -- it came to the last queue, and closed it, or found it closed
 pub record ClosesLast (old new : Place) : Type 0 where
   pub last : Place
-  pub passed : Passes Follows old last
+  pub passed : Comes Follows old last
   pub shuts : Shuts last new
 
 -- it did not close the shelf: it did not come to the last queue or did not close it; or the shelf was closed before
@@ -217,6 +219,6 @@ pub data ClosesNot (old new : Place) (e : ShelfFault) : Type 0 where
 
 -- what `advance` says: first it follows the others to the last queue
 abbrev pub AdvancesOn : ℕ → Place → Place → Result ℕ ShelfFault → Type 0
-AdvancesOn moment old new (Ok cycle) = (last : Place) × Passes Follows old last × Writes 1 (advances moment) last new cycle
+AdvancesOn moment old new (Ok cycle) = (last : Place) × Comes Follows old last × Writes 1 (advances moment) last new cycle
 AdvancesOn moment old new (Err e) =
-    FollowsNot old new e ⊎ ((last : Place) × Passes Follows old last × WritesNot 1 (advances moment) last new e)
+    FollowsNot old new e ⊎ ((last : Place) × Comes Follows old last × WritesNot 1 (advances moment) last new e)

@@ -1,5 +1,7 @@
 -- What the calls on shelves say.
-use Rattle.std.specs.Prelude.{◌≡◌, ◌≢◌, ◌⊎◌, ⊤, Bool, ℕ, List, MatchResult, Option, Some, None, Result, Ok, Err, string_bytes}
+use Rattle.std.specs.Arc.{arc_value}
+use Rattle.std.specs.Prelude.{◌≡◌, ◌≢◌, ◌⊎◌, Bool, ℕ, List, MatchResult, Option, Some, None, Result, Ok, Err, string_bytes}
+use Rattle.std.specs.Str.{IsUtf8}
 use Rattle.cq_handle.specs.declared.held.Held.{Held}
 use Rattle.cq_handle.specs.declared.held.Held.TheVariants as held
 use Rattle.cq_handle.specs.declared.held.ShelfUser.{ShelfUser}
@@ -9,14 +11,15 @@ use Rattle.cq_row.specs.Faults.{IsRowFault}
 use Rattle.cq_row.specs.Rows.{IsFirstPlace}
 use Rattle.cq_row.specs.Ways.{Enters}
 use Rattle.cq_row.specs.declared.fault.ShelfFault.{ShelfFault}
+use Rattle.cq_row.specs.declared.fault.ShelfFault.TheVariants.{NoSuchName, OutOfMemory}
 use Rattle.cq_row.specs.declared.place.Place.{Place}
 use Rattle.cq_row.specs.declared.place.Position.{Position}
 use Rattle.cq_row.specs.declared.row.AtLimit.{AtLimit}
 use Rattle.cq_row.specs.declared.row.AtLimit.TheVariants as limit
-use Rattle.cq_shelf.specs.Makes.{HasSplit, TakesBy}
+use Rattle.cq_shelf.specs.Makes.{HasSplit, IsTakerFault, TakesBy}
 use Rattle.cq_shelf.specs.Reads.{PositionOn}
-use Rattle.cq_shelf.specs.Seeks.{MovesOn, ReadsAtIntoOn, ToEnd, ToStart, Goes, turned}
-use Rattle.cq_shelf.specs.Ways.{Passes}
+use Rattle.cq_shelf.specs.Seeks.{EndsNot, MovesOn, ReadsAtIntoOn, StaysThere, ToEnd, ToStart, turned}
+use Rattle.cq_shelf.specs.Ways.{Comes}
 use Rattle.cq_shelf.specs.Writes.{ClosesLast, ClosesNot, Follows, FollowsNot}
 use Rattle.cq_shelf.specs.declared.answers.ShelfReadAtInto.{ShelfReadAtInto}
 use Rattle.cq_shelf.specs.declared.reader.ShelfReader.{ShelfReader}
@@ -76,25 +79,32 @@ pub record GivesUser (Made : Result ShelfUser ShelfFault → Type 0) (old new : 
 -- another user of the kind of this one was split off it
 abbrev pub SplitsUser : ShelfUser → ShelfUser → Result ShelfUser ShelfFault → Type 0
 SplitsUser (user.Writer old) (user.Writer new) (Ok (user.Writer made)) =
-    Enters old.place.number made.place × HasSplit old.place new.place
-SplitsUser (user.Writer old) (user.Writer new) (Err fault) = HasSplit old.place new.place
+    Enters (arc_value old.place.row) old.place.number made.place × HasSplit old.place new.place
+SplitsUser (user.Writer old) (user.Writer new) (Err fault) = (fault ≡ OutOfMemory) × HasSplit old.place new.place
 SplitsUser (user.Reader old) (user.Reader new) (Ok (user.Reader made)) =
-    Enters old.place.number made.place × HasSplit old.place new.place
-SplitsUser (user.Reader old) (user.Reader new) (Err fault) = HasSplit old.place new.place
-SplitsUser (user.Taker old) (user.Taker new) (Ok (user.Taker made)) = TakesBy (string_bytes old.name) made × (new ≡ old)
-SplitsUser (user.Taker old) (user.Taker new) (Err fault) = new ≡ old
+    Enters (arc_value old.place.row) old.place.number made.place × HasSplit old.place new.place
+SplitsUser (user.Reader old) (user.Reader new) (Err fault) = (fault ≡ OutOfMemory) × HasSplit old.place new.place
+SplitsUser (user.Taker old) (user.Taker new) (Ok (user.Taker made)) =
+    TakesBy (arc_value old.place.row) (string_bytes old.name) made × (new ≡ old)
+SplitsUser (user.Taker old) (user.Taker new) (Err fault) =
+    IsTakerFault (arc_value old.place.row).config (string_bytes old.name) fault × (new ≡ old)
 SplitsUser _ _ _ = ⊥
 
 -- a reader was made at the queue of a writer
 abbrev pub MakesReader : ShelfWriter → ShelfWriter → Result ShelfUser ShelfFault → Type 0
-MakesReader old new (Ok (user.Reader made)) = Enters old.place.number made.place × HasSplit old.place new.place
-MakesReader old new (Err fault) = HasSplit old.place new.place
+MakesReader old new (Ok (user.Reader made)) =
+    Enters (arc_value old.place.row) old.place.number made.place × HasSplit old.place new.place
+MakesReader old new (Err fault) = (fault ≡ OutOfMemory) × HasSplit old.place new.place
 MakesReader _ _ _ = ⊥
+
+-- why no taker was made by this name: it is no text, or the shelf refused it
+abbrev pub IsNoTaker : model.Settings → List ℕ → ShelfFault → Type 0
+IsNoTaker settings name fault = ((fault ≡ NoSuchName) × (¬ IsUtf8 name)) ⊎ IsTakerFault settings name fault
 
 -- a taker was made by this name
 abbrev pub MakesTaker : ShelfWriter → List ℕ → Result ShelfUser ShelfFault → Type 0
-MakesTaker writer name (Ok (user.Taker made)) = TakesBy name made
-MakesTaker writer name (Err fault) = ⊤
+MakesTaker writer name (Ok (user.Taker made)) = TakesBy (arc_value writer.place.row) name made
+MakesTaker writer name (Err fault) = IsNoTaker (arc_value writer.place.row).config name fault
 MakesTaker _ _ _ = ⊥
 
 -- the first writer of a shelf, as it was asked for: its first queue begins with the cycle of this moment
@@ -138,7 +148,7 @@ CreatesShelf s text moment old new how = ((how ≡ status.Done) × HandsOutShelf
 
 -- a writer went on to the last queue, or as far as it came
 abbrev pub FollowsOn : Place → Place → Result Unit ShelfFault → Type 0
-FollowsOn old new result = MatchResult result (λ _. Passes Follows old new) (FollowsNot old new)
+FollowsOn old new result = MatchResult result (λ _. Comes Follows old new) (FollowsNot old new)
 
 -- a writer closed the shelf at the last queue, or why it did not
 abbrev pub ClosesOn : Place → Place → Result Unit ShelfFault → Type 0
@@ -147,19 +157,20 @@ ClosesOn old new result = MatchResult result (λ _. ClosesLast old new) (ClosesN
 -- what is at this index of this queue was read into a buffer; or why not, and nothing changed
 abbrev pub ReadsOn : ℕ → ℕ → Place → List ℕ → Place → List ℕ → Result ShelfReadAtInto ShelfFault → Type 0
 ReadsOn queue index old room new full result =
-    MatchResult result (ReadsAtIntoOn (position_of queue index) old room new full) (λ _. (new ≡ old) × (full ≡ room))
+    MatchResult result (ReadsAtIntoOn (position_of queue index) old room new full)
+    (λ fault. (queue ≢ old.number) × StaysThere old new fault × (full ≡ room))
 
 -- the reader moved to this index of this queue, if a message is there; or why not, and it stayed
 abbrev pub MovesTo : ℕ → ℕ → Place → Place → Result Bool ShelfFault → Type 0
-MovesTo queue index old new result = MatchResult result (MovesOn (position_of queue index) old new) (λ _. new ≡ old)
+MovesTo queue index old new result = MatchResult result (MovesOn (position_of queue index) old new) (StaysThere old new)
 
 -- the reader moved to the start, or stayed
 abbrev pub StartsOn : Place → Place → Result Unit ShelfFault → Type 0
-StartsOn old new result = MatchResult result (λ _. ToStart old new) (λ _. new ≡ old)
+StartsOn old new result = MatchResult result (λ _. ToStart old new) (StaysThere old new)
 
 -- the reader moved to the end, or as far as it came
 abbrev pub EndsOn : Place → Place → Result Unit ShelfFault → Type 0
-EndsOn old new result = MatchResult result (λ _. ToEnd old new) (λ _. Passes Goes old new)
+EndsOn old new result = MatchResult result (λ _. ToEnd old new) (EndsNot old new)
 
 -- the reader reads the way now that has this number; or none has it, and nothing changed
 abbrev pub TurnsReader : ShelfReader → ShelfReader → ℕ → Option Direction → Type 0

@@ -9,7 +9,7 @@ pub returns-in_default : goal.returns-in_default
 returns-in_default g c = once NextOn NextWaits c.args.self.now.place c.next.new.self.place c.next.result c.next.ensures
 
 pub loop-init : goal.loop-init
-loop-init g c = stays
+loop-init g c = (0, stays)
 
 pub returns-then-not-next_waits : goal.returns-then-not-next_waits
 returns-then-not-next_waits g c = at_last NextOn NextWaits c.args.self.now.place c.loop.self.place c.next-answer.new.self.place c.loop.invariant c.next-answer.result c.next-answer.ensures

@@ -9,7 +9,7 @@ pub returns-in_default : goal.returns-in_default
 returns-in_default g c = once TakenOn TakeWaits c.args.self.now c.take.new.self c.take.result c.take.ensures
 
 pub loop-init : goal.loop-init
-loop-init g c = stays
+loop-init g c = (0, stays)
 
 pub returns-then-not-take_waits : goal.returns-then-not-take_waits
 returns-then-not-take_waits g c = at_last TakenOn TakeWaits c.args.self.now c.loop.self c.take-answer.new.self c.loop.invariant c.take-answer.result c.take-answer.ensures

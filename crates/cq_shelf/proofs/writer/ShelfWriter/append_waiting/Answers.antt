@@ -9,7 +9,7 @@ pub returns-in_default : goal.returns-in_default
 returns-in_default g c = once (AppendsOn c.args.moment c.args.bytes.now) AppendWaits c.args.self.now.place c.append.new.self.place c.append.result c.append.ensures
 
 pub loop-init : goal.loop-init
-loop-init g c = stays
+loop-init g c = (0, stays)
 
 pub returns-then-not-append_waits : goal.returns-then-not-append_waits
 returns-then-not-append_waits g c = at_last (AppendsOn c.args.moment c.args.bytes.now) AppendWaits c.args.self.now.place c.loop.self.place c.append-answer.new.self.place c.loop.invariant c.append-answer.result c.append-answer.ensures
