@@ -9,7 +9,7 @@ use Rattle.cq_log_tests.specs.Changes.{Adds, IsAdded, IsCut, IsSync, IsWrite, Le
 use Rattle.cq_log_tests.specs.declared.torn_file.Change.{Change}
 use Rattle.cq_log_tests.specs.declared.torn_file.Change.TheVariants.{Cut, Sync, Write}
 use Rattle.cq_log_tests.specs.Stays.{stays}
-use Rattle.cq_log_tests.specs.Torn.{cut_none, torn_none}
+use Rattle.cq_log.specs.Torn.{cut_none, torn_none}
 
 taken : (before : List ℕ → Type 0) (changes : List Change) (change : Change) (c : List ℕ) → outcomes before (changes ++ change ∷ []) c → after (outcomes before changes) change c
 taken before [] (Write at bytes) c left = left

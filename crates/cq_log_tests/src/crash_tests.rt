@@ -88,7 +88,7 @@ static RUNS: [Run; 2] = [
 
 /// Returns the number of frames in these bytes; `None` if they are not the first of those that were put.
 fn count_in(alloc: Global, bytes: &[u8], put: &[&[u8]]) -> Result<Option<usize>, AllocError> {
-    let frames = read_frames(alloc, bytes)?;
+    let frames = read_frames(alloc, bytes)?.frames;
     let are_first = frames
         .iter()
         .zip(put.iter())

@@ -83,7 +83,7 @@ fn a_crash_leaves_frames_of_a_log_that_is_emptied(rt: HostRuntime) -> Result<(),
     for (count, wanted) in [(0, 0), (6, 0), (7, 1), (12, 1), (13, 2)] {
         let left = file.after_crash(alloc, Ruin::Front(count))?;
         assert_eq!(rt;
-            read_frames(alloc, &left)?.len(),
+            read_frames(alloc, &left)?.frames.len(),
             wanted,
             "of {count} bytes"
         );

@@ -1,32 +1,35 @@
-//! The frames that are read out of bytes.
-use cq_log::read_frames;
+//! The frames that are read out of bytes, and where reading stops.
+use cq_log::{Frames, read_frames};
 use std::alloc::{AllocError, Global};
 use std::test::Fail;
 
-/// Returns the frames of these bytes as text, a `|` after each.
+/// Returns the frames of these bytes as text, a `|` after each, and then the offset at which reading stopped.
 fn frames_text(alloc: Global, bytes: &[u8]) -> Result<String, AllocError> {
+    let Frames { frames, end } = read_frames(alloc, bytes)?;
     let mut text = String::new(alloc);
-    for frame in &read_frames(alloc, bytes)? {
+    for frame in &frames {
         for &byte in frame {
             text.push(char::from(byte))?;
         }
         text.push('|')?;
     }
+    write!(text, "{end}")?;
     Ok(text)
 }
 
 /// Bytes, and their frames.
-static FRAMES: [(&[u8], &str); 10] = [
-    (&[], ""),
-    (&[0], ""),
-    (&[1, 2, 0, 0, 0, 97, 98], "ab|"),
-    (&[1, 2, 0, 0, 0, 97, 98, 0, 1, 0, 0, 0, 99, 0], "ab|"),
-    (&[1, 2, 0, 0, 0, 97, 98, 2, 1, 0, 0, 0, 99, 0], "ab|"),
-    (&[1, 2, 0, 0, 0, 97, 98, 1, 1, 0, 0, 0, 99, 0], "ab|c|"),
-    (&[1, 0, 0, 0, 0, 1, 1, 0, 0, 0, 99], "|c|"),
-    (&[1, 3, 0, 0, 0, 97, 98], ""),
-    (&[1, 1, 1, 0, 0, 97, 98], ""),
-    (&[1, 1, 0, 0, 1, 97, 98], ""),
+static FRAMES: [(&[u8], &str); 11] = [
+    (&[], "0"),
+    (&[0], "0"),
+    (&[1, 2, 0, 0, 0, 97, 98], "ab|7"),
+    (&[1, 2, 0, 0, 0, 97, 98, 0, 1, 0, 0, 0, 99, 0], "ab|7"),
+    (&[1, 2, 0, 0, 0, 97, 98, 2, 1, 0, 0, 0, 99, 0], "ab|7"),
+    (&[1, 2, 0, 0, 0, 97, 98, 1, 1, 0, 0, 0, 99, 0], "ab|c|13"),
+    (&[1, 0, 0, 0, 0, 1, 1, 0, 0, 0, 99], "|c|11"),
+    (&[1, 1, 0, 0, 0, 97, 1, 3, 0, 0, 0, 98, 99], "a|6"),
+    (&[1, 3, 0, 0, 0, 97, 98], "0"),
+    (&[1, 1, 1, 0, 0, 97, 98], "0"),
+    (&[1, 1, 0, 0, 1, 97, 98], "0"),
 ];
 
 #[test]
@@ -43,13 +46,13 @@ static LOG: [u8; 21] = [
     1, 2, 0, 0, 0, 97, 98, 1, 0, 0, 0, 0, 1, 3, 0, 0, 0, 120, 121, 122, 0,
 ];
 
-/// Returns the frames of the first bytes of that log.
+/// Returns the frames of the first bytes of that log, and where their blocks end.
 fn frames_before(end: usize) -> &'static str {
     match end {
-        0..7 => "",
-        7..12 => "ab|",
-        12..20 => "ab||",
-        _ => "ab||xyz|",
+        0..7 => "0",
+        7..12 => "ab|7",
+        12..20 => "ab||12",
+        _ => "ab||xyz|20",
     }
 }
 
@@ -70,7 +73,7 @@ fn logs_are_read_that_are_cut_anywhere(rt: HostRuntime) -> Result<(), Fail> {
 fn a_gate_is_open_only_as_1(rt: HostRuntime) -> Result<(), Fail> {
     let alloc = rt.alloc();
     for gate in 0..=255u8 {
-        let wanted = if gate == 1 { "a|" } else { "" };
+        let wanted = if gate == 1 { "a|6" } else { "0" };
         let bytes = [gate, 1, 0, 0, 0, 97];
         assert_eq!(rt; frames_text(alloc, &bytes)?.as_str(), wanted, "at {gate}");
     }

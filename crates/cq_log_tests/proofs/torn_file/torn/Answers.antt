@@ -1,7 +1,7 @@
 use Rattle.std.proofs.Common.{◌≤◌, arith, length, subst}
 use Rattle.std.proofs.lemmas.Result.{IfOk-weaker}
 use Rattle.cq_log.specs.Device.{Overwrites}
-use Rattle.cq_log_tests.specs.Torn.{torn_over}
+use Rattle.cq_log.specs.Torn.{torn_over}
 use Rattle.cq_log_tests.proofs.torn_file.torn.Goals as goal
 
 pub returns : goal.returns

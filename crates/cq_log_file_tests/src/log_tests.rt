@@ -1,0 +1,112 @@
+//! A log in a file of the system, and what it leaves where a call of the system fails.
+ghost use Rattle.cq_log.specs.Log.{IsSound};
+
+use crate::FailingFile;
+use crate::places::{new_folder, within};
+use cq_log::{Device, Log, read_frames};
+use cq_log_file::{LogFile, LogFileOf, OpenFault, SystemFile};
+use std::fs;
+use std::test::Fail;
+
+/// The frames that are put, in order.
+static FRAMES: [&[u8]; 3] = [b"ab", b"", b"xyz"];
+
+/// The number of the call of the file that fails, or 0 if none does; the number of frames that are stored by the answers of the
+/// log; and the number of frames that are read from the file.
+///
+/// The write of a gate that fails leaves it closed.
+static FAILURES: [(u64, usize, usize); 23] = [
+    (0, 3, 3),
+    // The lock, the first read, the sync, the sync of the folder.
+    (1, 0, 0),
+    (2, 0, 0),
+    (3, 0, 0),
+    (4, 0, 0),
+    // The first gate, and its sync.
+    (5, 0, 0),
+    (6, 0, 0),
+    // The first frame, which waits: its length, its bytes, the next gate, the sync.
+    (7, 0, 0),
+    (8, 0, 0),
+    (9, 0, 0),
+    (10, 0, 0),
+    // Its gate, the second frame in three writes, the sync.
+    (11, 0, 0),
+    (12, 0, 1),
+    (13, 0, 1),
+    (14, 0, 1),
+    (15, 0, 1),
+    // The gate of the second frame, the third one, the sync.
+    (16, 1, 1),
+    (17, 1, 2),
+    (18, 1, 2),
+    (19, 1, 2),
+    (20, 1, 2),
+    // The gate of the third frame, the sync.
+    (21, 2, 2),
+    (22, 2, 3),
+];
+
+/// Puts the frames to a log up to the first fault, and settles it. Returns the number of frames that are stored by its answers,
+/// and whether a call failed.
+fn put_all<D: Device>(log: &mut Log<D>) -> (usize, bool)
+    requires { IsSound D.seen D.may_leave D.fault log.old }
+    ensures { IsSound D.seen D.may_leave D.fault log.new }
+{
+    let mut count = 0usize;
+    for frame in &FRAMES {
+        if log.push(frame).is_err() {
+            return (count.saturating_sub(1), true);
+        }
+        count = count.saturating_add(1);
+    }
+    match log.settle() {
+        Ok(()) => (count, false),
+        Err(_) => (count.saturating_sub(1), true),
+    }
+}
+
+/// Makes a log in a new file of which a call fails, and puts the frames. Returns the number of frames that are stored by its
+/// answers, whether a call failed, and whether the log has stopped. Out of memory ends it.
+fn put_at(rt: &HostRuntime, path: &str, failing: u64) -> Result<(usize, bool, bool), OpenFault> {
+    let file = FailingFile::new(SystemFile::create(rt, path)?, failing);
+    let file = match LogFileOf::begin_empty(file, rt.alloc()) {
+        Ok(file) => file,
+        Err(error) if matches!(error.fault, OpenFault::OutOfMemory) => return Err(error.fault),
+        Err(_) => return Ok((0, true, true)),
+    };
+    match Log::create(file) {
+        Ok(log) => {
+            let mut log = log;
+            let (stored, has_failed) = put_all(&mut log);
+            Ok((stored, has_failed, log.push(b"late").is_err()))
+        }
+        Err(_) => Ok((0, true, true)),
+    }
+}
+
+/// Returns the number of frames in a file; `None` if they are not the first of those that were put.
+fn count_at(rt: &HostRuntime, path: &str) -> Result<Option<usize>, Fail> {
+    let found = LogFile::open(rt, path)?;
+    let frames = read_frames(rt.alloc(), &found.bytes)?.frames;
+    let are_first = frames
+        .iter()
+        .zip(FRAMES.iter())
+        .all(|(found, put)| found.as_slice() == *put);
+    Ok((are_first && frames.len() <= FRAMES.len()).then_some(frames.len()))
+}
+
+#[test]
+fn what_is_stored_is_there(rt: HostRuntime) -> Result<(), Fail> {
+    let folder = new_folder(&rt, "log_frames")?;
+    let path = within(&rt, &folder, "a")?;
+    for &(failing, stored, read) in &FAILURES {
+        let put = put_at(&rt, &path, failing)?;
+        let has_failed = failing != 0;
+        assert_eq!(rt; put, (stored, has_failed, has_failed), "at {failing}");
+        assert_eq!(rt; count_at(&rt, &path)?, Some(read), "at {failing}");
+        fs::remove_file(&rt, path.as_str())?;
+    }
+    fs::remove_dir_all(&rt, folder.as_str())?;
+    Ok(())
+}
