@@ -1,4 +1,4 @@
-//! Tests of the bytes of notes.
+//! Tests of the bytes of notes, and of notes that are played.
 //!
 //! They are proved apart from what they test, so that both proofs can run at the same time.
 #![tactic(auto)]
@@ -7,3 +7,5 @@
 mod frame_tests;
 #[cfg(test)]
 mod memory_tests;
+#[cfg(test)]
+mod play_tests;
