@@ -1,0 +1,166 @@
+//! What is read after a crash at each moment, whatever it made of what was not synced.
+use crate::fixture::{Call, Fixture, failing_at};
+use crate::reading::read_text;
+use cq_fixtures::DAY;
+use cq_log_tests::{Ruin, TornFile};
+use std::alloc::Global;
+use std::test::Fail;
+
+/// Appends, a take, a drop and turns: three frames, of which the second is settled by a turn to which nothing came.
+static CALLS: [Call; 10] = [
+    Call::Append(0, "a"),
+    Call::Turn,
+    Call::Append(0, "b"),
+    Call::Take("reader"),
+    Call::Turn,
+    Call::Turn,
+    Call::Append(5 * DAY, "c"),
+    Call::DropBefore(5),
+    Call::Turn,
+    Call::Settle,
+];
+
+/// What the first frames give, none of them at first, and the end of it.
+static STATES: [(&str, u64); 4] = [
+    ("at [0]", 0),
+    ("0[a;] at [0]", 1),
+    ("0[a;b;] at [1]", 2),
+    ("0[a;b;] 5[c;] at [1] floor 5", 21474836481),
+];
+
+/// A moment of those calls: the number of the call of the file that fails, or 0 after all; what the turns and the settle return;
+/// the end below which all is stored; the number of frames that are read without a crash; and the least and the greatest number
+/// of frames that a crash leaves.
+type Moment = (u64, &'static str, u64, usize, (usize, usize));
+
+/// What calls return where the first, the second and so on is the one in which the file fails.
+const FIRST: &str = "Stopped(Failed) Stopped(Failed) Stopped(Failed) Stopped(Failed) Failed ";
+
+const SECOND: &str = "ok Stopped(Failed) Stopped(Failed) Stopped(Failed) Failed ";
+
+const THIRD: &str = "ok ok Stopped(Failed) Stopped(Failed) Failed ";
+
+const FOURTH: &str = "ok ok ok Stopped(Failed) Failed ";
+
+const FIFTH: &str = "ok ok ok ok Failed ";
+
+const NONE: &str = "ok ok ok ok ok ";
+
+/// Each moment after the log was made.
+static MOMENTS: [Moment; 18] = [
+    // The first frame, which waits then: its length, its bytes, the next gate, the sync.
+    (3, FIRST, 0, 0, (0, 0)),
+    (4, FIRST, 0, 0, (0, 0)),
+    (5, FIRST, 0, 0, (0, 0)),
+    (6, FIRST, 0, 0, (0, 0)),
+    // Its gate, the second frame in three writes, the sync.
+    (7, SECOND, 0, 0, (0, 1)),
+    (8, SECOND, 0, 1, (0, 1)),
+    (9, SECOND, 0, 1, (0, 1)),
+    (10, SECOND, 0, 1, (0, 1)),
+    (11, SECOND, 0, 1, (0, 1)),
+    // Nothing came: the gate of the second frame, the sync.
+    (12, THIRD, 1, 1, (1, 2)),
+    (13, THIRD, 1, 2, (1, 2)),
+    // The third frame, before which none waits, and the sync.
+    (14, FOURTH, 2, 2, (2, 2)),
+    (15, FOURTH, 2, 2, (2, 2)),
+    (16, FOURTH, 2, 2, (2, 2)),
+    (17, FOURTH, 2, 2, (2, 2)),
+    // Its gate, the sync.
+    (18, FIFTH, 2, 2, (2, 3)),
+    (19, FIFTH, 2, 3, (2, 3)),
+    // After all.
+    (0, NONE, 21474836481, 3, (3, 3)),
+];
+
+/// What a crash may make of writes, but for single bytes.
+static RUINS: [Ruin; 12] = [
+    Ruin::Kept,
+    Ruin::Lost,
+    Ruin::Front(1),
+    Ruin::Front(2),
+    Ruin::Front(5),
+    Ruin::Front(12),
+    Ruin::Filled(0),
+    Ruin::Filled(1),
+    Ruin::Filled(255),
+    Ruin::Mixed(0x5555_5555_5555_5555),
+    Ruin::Mixed(0xAAAA_AAAA_AAAA_AAAA),
+    Ruin::Mixed(0x0F0F_3C3C_9696_A5A5),
+];
+
+/// Makes a call. If it is one of the keeper, adds what it returns to a text.
+fn push_answer(
+    alloc: Global,
+    text: &mut String,
+    fixture: &mut Fixture<TornFile>,
+    call: Call,
+) -> Result<(), Fail> {
+    let answer = fixture.answer(alloc, call)?;
+    if matches!(call, Call::Turn | Call::Settle) {
+        text.push_str(answer.as_str())?;
+        text.push(' ')?;
+    }
+    Ok(())
+}
+
+/// Makes calls, and returns what the turns and the settle return, as text.
+fn answers(alloc: Global, fixture: &mut Fixture<TornFile>, calls: &[Call]) -> Result<String, Fail> {
+    let mut text = String::new(alloc);
+    for call in calls {
+        push_answer(alloc, &mut text, fixture, *call)?;
+    }
+    Ok(text)
+}
+
+/// Returns the number of frames in these bytes. Fails if they do not give what as many of the first frames give.
+fn count_in(alloc: Global, bytes: &[u8]) -> Result<usize, Fail> {
+    let (text, count) = read_text(alloc, bytes)?;
+    match STATES.get(count) {
+        Some((state, _end)) if text.as_str() == *state => Ok(count),
+        _ => Err(Fail::new(format_args!("{count} frames give {text}"))),
+    }
+}
+
+/// Returns the least and the greatest number of frames that a crash leaves of a file.
+fn counts_left(alloc: Global, file: &TornFile) -> Result<(usize, usize), Fail> {
+    let mut least = STATES.len();
+    let mut greatest = 0;
+    for &ruin in &RUINS {
+        let count = count_in(alloc, &file.after_crash(alloc, ruin)?)?;
+        least = least.min(count);
+        greatest = greatest.max(count);
+    }
+    for place in 0..file.bytes().len() {
+        let ruin = Ruin::Spoilt { place, byte: 1 };
+        let count = count_in(alloc, &file.after_crash(alloc, ruin)?)?;
+        least = least.min(count);
+        greatest = greatest.max(count);
+    }
+    Ok((least, greatest))
+}
+
+/// Returns the end of what the first frames give.
+fn end_of(count: usize) -> Option<u64> {
+    STATES.get(count).map(|(_state, end)| *end)
+}
+
+#[test]
+fn a_crash_leaves_what_is_stored(rt: HostRuntime) -> Result<(), Fail> {
+    let alloc = rt.alloc();
+    for (failing, wanted, wanted_end, read, wanted_left) in &MOMENTS {
+        let mut fixture = failing_at(alloc, *failing)?;
+        let said = answers(alloc, &mut fixture, &CALLS)?;
+        assert_eq!(rt; said.as_str(), *wanted, "at {failing}");
+        let keeper = fixture.keeper();
+        let stored_end = keeper.stored_end();
+        assert_eq!(rt; stored_end, *wanted_end, "at {failing}");
+        let file = keeper.log().device();
+        assert_eq!(rt; count_in(alloc, file.bytes())?, *read, "at {failing}");
+        let left = counts_left(alloc, file)?;
+        assert_eq!(rt; left, *wanted_left, "at {failing}");
+        assert!(rt; Some(stored_end) <= end_of(left.0), "at {failing}");
+    }
+    Ok(())
+}
