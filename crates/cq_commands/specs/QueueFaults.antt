@@ -13,11 +13,11 @@ use Rattle.cq_tail.specs.declared.error.TakeFault.{TakeFault}
 use Rattle.cq_tail.specs.declared.error.TakeFault.TheVariants as take
 use Rattle.cq_files.specs.declared.opening.CycleImage.{CycleImage}
 use Rattle.cq_files.specs.declared.opening.SavedQueue.{SavedQueue}
-use Rattle.cq_files.specs.FolderFaults.{IsQueueFault, IsSaveFault}
+use Rattle.cq_files.specs.FolderFaults.{IsSaveFault}
+pub use Rattle.cq_files.specs.Openable.{HoldOpenable, HoldsBadContents, IsOpenFault}
 use Rattle.cq_commands.specs.Messages.{IsReadOut, IsReadStart}
-use Rattle.cq_files.specs.Queue.{CanBeOpened, HoldQueue, IsLawfulQueue, contents_in}
 use Rattle.cq_text.specs.declared.fault.ToolFault.{ToolFault}
-use Rattle.cq_text.specs.declared.fault.ToolFault.TheVariants.{OutOfMemory, Refused, WriteFault, BadIndex, BadContents, NoSuchName}
+use Rattle.cq_text.specs.declared.fault.ToolFault.TheVariants.{OutOfMemory, Refused, WriteFault, BadIndex, NoSuchName}
 use Rattle.cq_commands.specs.Saving.{TellsConfig}
 
 -- the fault of a take
@@ -42,23 +42,6 @@ abbrev pub IsRollFault : Settings → Option CycleImage → ℕ → ℕ → List
 IsRollFault settings last count cycle lines fault = (fault ≡ OutOfMemory)
     ⊎ (IsAbove last cycle × (settings.cycles ≤ count)
     × ((line : List ℕ) × (slice_get lines 0 ≡ Some line) × IsFirstLineFault line fault))
-
--- the files hold a queue that cannot be opened
-pub record HoldsBadContents (files : Files) : Type 0 where
-  pub queue : SavedQueue
-  pub lawful : IsLawfulQueue queue
-  pub held : HoldQueue queue files
-  pub bad : ¬ CanBeOpened queue.config (contents_in queue)
-
--- the files are those of the queue, and it can be opened
-pub record HoldOpenable (queue : SavedQueue) (files : Files) : Type 0 where
-  pub lawful : IsLawfulQueue queue
-  pub held : HoldQueue queue files
-  pub openable : CanBeOpened queue.config (contents_in queue)
-
--- why a folder's queue is not opened: the folder is at fault, or the queue cannot be opened
-abbrev pub IsOpenFault : Files → ToolFault → Type 0
-IsOpenFault files fault = ((fault ≡ BadContents) × HoldsBadContents files) ⊎ IsQueueFault files fault
 
 -- the word is no index
 abbrev pub IsNoIndex : List ℕ → Type 0

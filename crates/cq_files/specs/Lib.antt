@@ -1,6 +1,7 @@
 pub mod Queue
 pub mod Initialised
 pub mod FolderFaults
+pub mod Openable
 pub mod Saved
 pub mod CheckText
 pub mod Dumped

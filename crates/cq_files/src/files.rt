@@ -114,8 +114,12 @@ pub fn write_file<F: Folder>(
     }
 }
 
-/// Writes these whole files together. An error names the first of them.
-pub(crate) fn save_files<F: Folder>(
+/// Writes these whole files together. No other file changes.
+///
+/// Errors:
+/// - `FileFault` with the name of the first: the folder could not write them. All of them are written, or none.
+/// - `OutOfMemory`: out of memory. None is written.
+pub fn save_files<F: Folder>(
     alloc: Global,
     folder: &mut F,
     changes: &[NewFile],

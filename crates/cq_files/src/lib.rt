@@ -7,7 +7,9 @@
 //! | `check`, `dump`, `salvage` | print the state, the records, and the messages of images |
 //! | `migrate` | makes a folder of version 1 into one of version 2 |
 //! | `open_queue` | reads a folder's queue: `Retain`, `SavedQueue`, `CycleImage`, `ImageFile`, `SeenMessages` |
-//! | `save`, `write_file` | save images, and a file |
+//! | `can_be_opened`, `is_unread` | whether a queue can hold what was read |
+//! | `images_of` | the images of cycles, as files that are to be saved |
+//! | `save`, `save_files`, `write_file` | save images, some files together, and a file |
 //! | `print_outside` | writes the output of a command that has left the folder |
 //! | `has_name`, `MOST_FILE_BYTES` | whether a file has a name, and the limit of a file's bytes |
 //!
@@ -26,15 +28,17 @@ mod files;
 mod given;
 mod initialising;
 mod migrating;
+mod openable;
 mod opening;
 mod salvaging;
 mod saving;
 
 pub use checking::check;
 pub use dumping::dump;
-pub use files::{MOST_FILE_BYTES, has_name, print_outside, write_file};
+pub use files::{MOST_FILE_BYTES, has_name, print_outside, save_files, write_file};
 pub use initialising::init;
 pub use migrating::migrate;
+pub use openable::{can_be_opened, is_unread};
 pub use opening::{CycleImage, ImageFile, Retain, SavedQueue, SeenMessages, open_queue};
 pub use salvaging::salvage;
-pub use saving::save;
+pub use saving::{images_of, save};

@@ -9,7 +9,7 @@
 //! | `FolderFault`, `fault_of` | why a call failed, and the fault for an error of the system |
 //! | `MemoryFolder` | a folder in memory, whose files contracts see |
 //! | `FailingFolder` | a folder of which one call fails, for tests |
-//! | `CONFIG_FILE`, `IMAGE_ENDING`, `RECORD_FILE`, `PART_ENDING` | the names of a queue's files |
+//! | `CONFIG_FILE`, `IMAGE_ENDING`, `LOG_FILE`, `RECORD_FILE`, `PART_ENDING` | the names of a queue's files |
 #![tactic(auto)]
 
 mod failing;
@@ -19,5 +19,5 @@ mod storage;
 
 pub use failing::FailingFolder;
 pub use memory::MemoryFolder;
-pub use names::{CONFIG_FILE, IMAGE_ENDING, PART_ENDING, RECORD_FILE};
+pub use names::{CONFIG_FILE, IMAGE_ENDING, LOG_FILE, PART_ENDING, RECORD_FILE};
 pub use storage::{Access, Folder, FolderFault, NewFile, fault_of};

@@ -4,6 +4,9 @@ pub const CONFIG_FILE: &str = "queue.cqc";
 /// The ending of the names of images.
 pub const IMAGE_ENDING: &str = ".cqi";
 
+/// The log of a live queue.
+pub const LOG_FILE: &str = "queue.log";
+
 /// The file that holds the renames of a save until they are done.
 pub const RECORD_FILE: &str = "queue.save";
 

@@ -423,7 +423,7 @@ fn all_names_are_listed(rt: HostRuntime) -> Result<(), Fail> {
 }
 
 /// Two files are saved together; a file that no record can name is refused, and nothing of its save is left.
-static SAVED: [(Step, &str); 13] = [
+static SAVED: [(Step, &str); 16] = [
     (Step::Begin(Access::Alone), ""),
     (Step::Save(&[("1.cqi", "one"), ("queue.cqc", "two")]), ""),
     (Step::Save(&[("1.cqi", "three"), ("2.txt", "")]), "Device"),
@@ -431,7 +431,9 @@ static SAVED: [(Step, &str); 13] = [
         Step::Save(&[("1.cqi", "three"), ("../2.cqi", "")]),
         "Device",
     ),
+    (Step::Save(&[("1.cqi", "three"), ("3.log", "")]), "Device"),
     (Step::Save(&[]), ""),
+    (Step::Save(&[("2.cqi", "four"), ("queue.log", "")]), ""),
     (Step::End, ""),
     (Step::Read("1.cqi"), "outside"),
     (Step::Begin(Access::Shared), ""),
@@ -439,36 +441,45 @@ static SAVED: [(Step, &str); 13] = [
     (Step::Save(&[("1.cqi", "three")]), "outside"),
     (Step::Read("1.cqi"), "one"),
     (Step::Read("queue.cqc"), "two"),
-    (Step::Listed, "1.cqi queue.cqc "),
+    (Step::Read("queue.log"), ""),
+    (Step::Listed, "1.cqi 2.cqi queue.cqc queue.log "),
 ];
 
 /// A save was stopped between its renames: a reader sees all of it, and any command that is alone finishes it. A part
 /// that no record names is of a save that was stopped before, and is removed; a file of the user's stays.
-static STOPPED: [(Step, &str); 20] = [
+static STOPPED: [(Step, &str); 25] = [
     (Step::Put("1.cqi", "new one"), ""),
     (Step::Put("2.cqi", "old two"), ""),
     (Step::Put("2.cqi.9.part", "new two"), ""),
     (Step::Put("3.cqi.9.part", "new three"), ""),
     (Step::Put("4.cqi.8.part", "never saved"), ""),
+    (Step::Put("queue.log", "old log"), ""),
+    (Step::Put("queue.log.9.part", ""), ""),
+    (Step::Put("queue.log.8.part", "never saved"), ""),
     (Step::Put("movie.part", "the user's"), ""),
     (
-        Step::Put("queue.save", "cq save 1\n9\n1.cqi\n2.cqi\n3.cqi\nend\n"),
+        Step::Put(
+            "queue.save",
+            "cq save 1\n9\n1.cqi\n2.cqi\n3.cqi\nqueue.log\nend\n",
+        ),
         "",
     ),
     (Step::Begin(Access::Shared), ""),
     (Step::Read("1.cqi"), "new one"),
     (Step::Read("2.cqi"), "new two"),
     (Step::Read("3.cqi"), "new three"),
+    (Step::Read("queue.log"), ""),
     (
         Step::Names,
-        "1.cqi 2.cqi 2.cqi.9.part 3.cqi 3.cqi.9.part 4.cqi.8.part movie.part queue.save ",
+        "1.cqi 2.cqi 2.cqi.9.part 3.cqi 3.cqi.9.part 4.cqi.8.part movie.part queue.log queue.log.8.part queue.log.9.part queue.save ",
     ),
     (Step::End, ""),
     (Step::Begin(Access::Alone), ""),
-    (Step::Names, "1.cqi 2.cqi 3.cqi movie.part "),
+    (Step::Names, "1.cqi 2.cqi 3.cqi movie.part queue.log "),
     (Step::Read("1.cqi"), "new one"),
     (Step::Read("2.cqi"), "new two"),
     (Step::Read("3.cqi"), "new three"),
+    (Step::Read("queue.log"), ""),
     (Step::Read("4.cqi"), "Device"),
     (Step::End, ""),
 ];

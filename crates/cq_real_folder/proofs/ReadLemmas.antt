@@ -36,7 +36,10 @@ last_byte : (name : List ℕ) → IsFileName name → get_or name (length name -
 last_byte name (inl is, _, _) same =
     let last : get_or name (length name - 1) 0 ≡ 99 = ap (λ (bytes : List ℕ). get_or bytes (length bytes - 1) 0) is in
     omega (arith, last, same)
-last_byte name (inr is, _, _) same =
+last_byte name (inr (inl is), _, _) same =
+    let last : get_or name (length name - 1) 0 ≡ 103 = ap (λ (bytes : List ℕ). get_or bytes (length bytes - 1) 0) is in
+    omega (arith, last, same)
+last_byte name (inr (inr is), _, _) same =
     let front = take (length name - 4) name in
     let whole : name ≡ front ++ IMAGE_ENDING.now = (ends_is Decides-eqb name IMAGE_ENDING.now true (sym is)).0 refl in
     let place : length (front ++ IMAGE_ENDING.now) - 1 ≡ length front + 3 = omega (arith, length-append front IMAGE_ENDING.now) in

@@ -3,11 +3,12 @@ use Rattle.std.specs.Prelude.{◌≡◌, ◌⊎◌, ◌<◌, ◌^◌, ℕ, List,
 use Rattle.std.specs.Fmt.{decimal}
 use Rattle.std.specs.Global.{Global}
 use Rattle.std.specs.List.{ends_with, flat_map}
-use Rattle.cq_folder.specs.declared.names.TheConstants.{CONFIG_FILE, IMAGE_ENDING, PART_ENDING, RECORD_FILE}
+use Rattle.cq_folder.specs.declared.names.TheConstants.{CONFIG_FILE, IMAGE_ENDING, LOG_FILE, PART_ENDING, RECORD_FILE}
 
--- a file of a queue that a record can name: `queue.cqc` or an image by its name, in no other folder and on one line
+-- a file of a queue that a record can name: `queue.cqc`, `queue.log` or an image by its name, in no other folder and on one
+-- line
 abbrev pub IsFileName : List ℕ → Type 0
-IsFileName name = ((name ≡ CONFIG_FILE.now) ⊎ IsTrue (ends_with nat_eq name IMAGE_ENDING.now))
+IsFileName name = ((name ≡ CONFIG_FILE.now) ⊎ ((name ≡ LOG_FILE.now) ⊎ IsTrue (ends_with nat_eq name IMAGE_ENDING.now)))
     × (¬ Contains name 47) × (¬ Contains name 10)
 
 -- how a record begins: what it is, and the process, each on a line

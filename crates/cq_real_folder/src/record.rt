@@ -3,7 +3,7 @@ ghost use Rattle.std.specs.List.{list_any};
 ghost use Rattle.std.specs.Str.{bytes_eq};
 ghost use Rattle.cq_real_folder.specs.Record.{HasParts, IsFileName, IsPartName, IsRecord, name_text, part_name, record_text};
 
-use cq_folder::{CONFIG_FILE, IMAGE_ENDING, PART_ENDING, RECORD_FILE};
+use cq_folder::{CONFIG_FILE, IMAGE_ENDING, LOG_FILE, PART_ENDING, RECORD_FILE};
 use std::alloc::{AllocError, Global};
 
 /// The renames of a save: the part of each file, which a process wrote next to it, replaces the file.
@@ -111,7 +111,8 @@ fn names_on(alloc: Global, text: &str) -> Result<Option<Vec<String>>, AllocError
     Ok(Some(names))
 }
 
-/// Returns whether a record can name the file: by its name it is an image or `queue.cqc`, and in no other folder.
+/// Returns whether a record can name the file: by its name it is an image, `queue.cqc` or `queue.log`, and in no other
+/// folder.
 pub(crate) fn is_file_name(name: &str) -> bool
     ensures { IsTrue result ↔ IsFileName name.now }
 {
@@ -119,7 +120,7 @@ pub(crate) fn is_file_name(name: &str) -> bool
     if bytes.contains(&b'/') || bytes.contains(&b'\n') {
         return false;
     }
-    name == CONFIG_FILE || bytes.ends_with(IMAGE_ENDING.as_bytes())
+    name == CONFIG_FILE || name == LOG_FILE || bytes.ends_with(IMAGE_ENDING.as_bytes())
 }
 
 /// Returns the name of the part of a file that the process with this number writes.
