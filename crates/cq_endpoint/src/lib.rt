@@ -4,7 +4,7 @@
 //!
 //! | item | what it is for |
 //! |---|---|
-//! | `Endpoint` | `create` or `open` makes the first one, `split` another; it appends, reads, takes, closes and stops |
+//! | `Endpoint` | `create` or `open` makes the first one, `split` another, `of` one from a caller; it appends, reads, takes, closes and stops |
 //! | `AppendFault`, `PutFault`, `CompleteFault`, `NotWriting` | why nothing was appended, put, completed or rolled back |
 //! | `CloseFault` | why the queue was not closed |
 //! | `Next`, `ReadAt`, `NextInto`, `ReadAtInto`, `Direction` | what reads return, and which way they go |
@@ -12,7 +12,8 @@
 //! | `NotSeen` | why no cycle was dropped |
 //! | `laws` | what follows of a closed queue |
 //!
-//! No call waits for another endpoint. Calls have no preconditions, except that `meet` takes two endpoints of one queue.
+//! No call waits for another endpoint. Calls have no preconditions, except that `meet` takes two endpoints of one queue, and `of` a
+//! caller of the queue.
 //! What a call says is said by the definitions of `cq_append` and `cq_tail`, with a look at the seal where nothing was
 //! appended or found, and nothing else of the endpoint changes. Those crates also name the atomic steps.
 //!

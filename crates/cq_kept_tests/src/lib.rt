@@ -1,0 +1,15 @@
+//! Tests of queues that keep what comes to them in a log.
+//!
+//! They are proved apart from what they test, so that both proofs can run at the same time.
+#![tactic(auto)]
+
+#[cfg(test)]
+mod fault_tests;
+#[cfg(test)]
+mod file_tests;
+#[cfg(test)]
+mod images;
+#[cfg(test)]
+mod life;
+#[cfg(test)]
+mod life_tests;
