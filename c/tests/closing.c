@@ -69,6 +69,17 @@ static void *write_all(void *argument) {
     return NULL;
 }
 
+/* No message is at the cursor of an endpoint that has read all of a closed queue, and it stays after the last message. If a
+ * cycle began after that, and got no message, then none can ever be there. */
+static void check_at_cursor(linnetshelf_handle *end) {
+    uint32_t message[2];
+    uint64_t cursor = linnetshelf_cursor(end).index;
+    uint32_t status = linnetshelf_read_at(end, cursor, message, sizeof message).status;
+    linnetshelf_to_end(end);
+    uint64_t last = linnetshelf_cursor(end).index;
+    CHECK(status == (cursor >> 32 < last >> 32 ? STATUS(NEVER) : STATUS(FINISHED)));
+}
+
 /* Reads messages until none comes any more. */
 static void *read_all(void *argument) {
     struct worker *self = argument;
@@ -83,8 +94,7 @@ static void *read_all(void *argument) {
         CHECK(message[0] < WRITERS && message[1] == self->next[message[0] % WRITERS]++);
         self->count++;
     }
-    answer = linnetshelf_cursor(&self->endpoint);
-    CHECK(linnetshelf_read_at(&self->endpoint, answer.index, message, sizeof message).status == STATUS(FINISHED));
+    check_at_cursor(&self->endpoint);
     return NULL;
 }
 
@@ -206,9 +216,24 @@ static void run_round(void) {
     linnetshelf_destroy(queue);
 }
 
+/* A queue is closed in a cycle that has no message. */
+static void close_empty_cycle(void) {
+    linnetshelf_handle queue = {0};
+    uint32_t message[2] = {0, 0};
+    CHECK(linnetshelf_create(&SETTINGS, "worker", 6, 0, &queue) == STATUS(DONE));
+    CHECK(linnetshelf_append(&queue, 0, message, sizeof message).status == STATUS(DONE));
+    CHECK(linnetshelf_advance(&queue, DAY).index == 1);
+    CHECK(linnetshelf_close(&queue) == STATUS(DONE));
+    CHECK(linnetshelf_next(&queue, message, sizeof message).status == STATUS(DONE));
+    CHECK(linnetshelf_next(&queue, message, sizeof message).status == STATUS(FINISHED));
+    check_at_cursor(&queue);
+    linnetshelf_destroy(queue);
+}
+
 int main(int count, char **words) {
     static const uint32_t places[] = {0, 1, 10, 100, 1000, 3000, 5000, UINT32_MAX};
     int rounds = count > 1 ? atoi(words[1]) : 80;
+    close_empty_cycle();
     for (int k = 0; k < rounds && failures == 0; k++) {
         close_after = places[k % 8];
         run_round();
