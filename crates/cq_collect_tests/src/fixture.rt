@@ -56,8 +56,6 @@ pub enum Call {
     Played,
     /// Takes a snapshot.
     Snapshot,
-    /// Stops the queue by the caller of the collector, and gives what it holds then. It is the last call.
-    Stop,
 }
 
 /// A queue with an appender, or the message that the appender has begun, a tailer, a collector, and what the notes of the
@@ -193,7 +191,7 @@ impl Fixture {
         Ok(lists_text(alloc, lists.as_slice())?)
     }
 
-    /// Stops the queue, and gives what it holds then.
+    /// Stops the queue by the caller of the collector, and gives what it holds then.
     pub(crate) fn stop(self, alloc: Global) -> Result<String, Fail> {
         let Fixture {
             queue,
@@ -207,7 +205,7 @@ impl Fixture {
         contents_text(alloc, &recover(alloc, &stopped)?)
     }
 
-    /// What a call returns that does not stop the queue.
+    /// What a call returns.
     pub(crate) fn answer(&mut self, alloc: Global, call: Call) -> Result<String, Fail> {
         match call {
             Call::Append(moment, text) => self.append(alloc, moment, text),
@@ -224,7 +222,6 @@ impl Fixture {
             Call::Renew => self.renew(alloc),
             Call::Played => contents_text(alloc, &self.held),
             Call::Snapshot => self.snapshot(alloc),
-            Call::Stop => misplaced("call after it"),
         }
     }
 }

@@ -21,8 +21,8 @@ static REFUSED: [Life; 1] = [(
         (Call::DropBefore(5), "floor 5"),
         (Call::TurnAgain, "d, name 0 at 1, floor 5, end 21474836482"),
         (Call::Played, "0[a;b;] 5[c;d;] at [1, 0] floor 5"),
-        (Call::Stop, "0[a;b;] 5[c;d;] at [1, 0] floor 5"),
     ],
+    "0[a;b;] 5[c;d;] at [1, 0] floor 5",
 )];
 
 #[test]

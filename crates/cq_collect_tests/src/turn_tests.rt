@@ -20,8 +20,8 @@ static MESSAGES: [Life; 5] = [
             (Call::Turn, "end 3"),
             (Call::Played, "0[a;b;c;] at [0, 0]"),
             (Call::Snapshot, "0[a;b;c;] "),
-            (Call::Stop, "0[a;b;c;] at [0, 0]"),
         ],
+        "0[a;b;c;] at [0, 0]",
     ),
     // The first turn may come late. Cycles without messages are noted, the last one too.
     (
@@ -37,8 +37,8 @@ static MESSAGES: [Life; 5] = [
             (Call::Advance(9 * DAY), "cycle 9"),
             (Call::Turn, "cycle 9, end 38654705664"),
             (Call::Played, "0[a;] 1[] 5[b;] 9[] at [0, 0]"),
-            (Call::Stop, "0[a;] 1[] 5[b;] 9[] at [0, 0]"),
         ],
+        "0[a;] 1[] 5[b;] 9[] at [0, 0]",
     ),
     // A turn goes on in the cycle where the last one ended, and then in those after it.
     (
@@ -52,8 +52,8 @@ static MESSAGES: [Life; 5] = [
             (Call::Append(5 * DAY, "d"), "21474836481"),
             (Call::Turn, "d, end 21474836482"),
             (Call::Played, "0[a;b;] 5[c;d;] at [0, 0]"),
-            (Call::Stop, "0[a;b;] 5[c;d;] at [0, 0]"),
         ],
+        "0[a;b;] 5[c;d;] at [0, 0]",
     ),
     // A message that is being written is in no note, nor one that was given up.
     (
@@ -72,8 +72,8 @@ static MESSAGES: [Life; 5] = [
             (Call::Turn, "end 2"),
             (Call::Append(0, "d"), "2"),
             (Call::Turn, "d, end 3"),
-            (Call::Stop, "0[a;bb;d;] at [0, 0]"),
         ],
+        "0[a;bb;d;] at [0, 0]",
     ),
     // A queue that was opened again is collected from its first cycle on, and by a new collector once more.
     (
@@ -92,8 +92,8 @@ static MESSAGES: [Life; 5] = [
             ),
             (Call::Turn, "end 38654705666"),
             (Call::Played, "0[hello;ab;] 5[] 9[z;y;] at [1, 0]"),
-            (Call::Stop, "0[hello;ab;] 5[] 9[z;y;] at [1, 0]"),
         ],
+        "0[hello;ab;] 5[] 9[z;y;] at [1, 0]",
     ),
 ];
 
@@ -117,8 +117,8 @@ static MOVES: [Life; 3] = [
             (Call::Seek("one", 3, 0), "Done"),
             (Call::Turn, "name 0 at 0, end 3"),
             (Call::Played, "0[a;b;c;] at [0, 3]"),
-            (Call::Stop, "0[a;b;c;] at [0, 3]"),
         ],
+        "0[a;b;c;] at [0, 3]",
     ),
     // The floor is noted last. Cycles that were dropped are collected like others.
     (
@@ -145,8 +145,8 @@ static MOVES: [Life; 3] = [
                 "0[a;] 5[b;] 9[c;] at [38654705665, 0] floor 9",
             ),
             (Call::Snapshot, "0[a;] 5[b;] 9[c;] "),
-            (Call::Stop, "0[a;] 5[b;] 9[c;] at [38654705665, 0] floor 9"),
         ],
+        "0[a;] 5[b;] 9[c;] at [38654705665, 0] floor 9",
     ),
     // A name that moved away and back since the last turn is where it was.
     (
@@ -159,8 +159,8 @@ static MOVES: [Life; 3] = [
             (Call::Seek("two", 12884901889, 0), "Done"),
             (Call::Seek("two", 0, 12884901889), "Done"),
             (Call::Turn, "end 12884901889"),
-            (Call::Stop, "3[a;] at [0, 12884901889]"),
         ],
+        "3[a;] at [0, 12884901889]",
     ),
 ];
 
@@ -181,8 +181,8 @@ static LOOKS: [Life; 1] = [(
         (Call::Look, "name 1 at 1, floor 5, end 21474836481"),
         (Call::Append(5 * DAY, "c"), "21474836481"),
         (Call::Turn, "c, name 1 at 1, floor 5, end 21474836482"),
-        (Call::Stop, "0[a;] 5[b;c;] at [0, 1] floor 5"),
     ],
+    "0[a;] 5[b;c;] at [0, 1] floor 5",
 )];
 
 #[test]
