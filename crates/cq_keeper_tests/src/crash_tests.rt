@@ -1,7 +1,8 @@
 //! What is read after a crash at each moment, whatever it made of what was not synced.
 use crate::fixture::{Call, Fixture, failing_at};
 use crate::reading::read_text;
-use cq_fixtures::DAY;
+use cq_fixtures::{DAY, expect_answer};
+use cq_keeper::Keeper;
 use cq_log_tests::{Ruin, TornFile};
 use std::alloc::Global;
 use std::test::Fail;
@@ -141,26 +142,39 @@ fn counts_left(alloc: Global, file: &TornFile) -> Result<(usize, usize), Fail> {
     Ok((least, greatest))
 }
 
-/// Returns the end of what the first frames give.
-fn end_of(count: usize) -> Option<u64> {
-    STATES.get(count).map(|(_state, end)| *end)
+/// Fails if a crash leaves frames that do not give all that is stored.
+fn expect_stored(least: usize, stored_end: u64) -> Result<(), Fail> {
+    match STATES.get(least) {
+        Some((_state, end)) if stored_end <= *end => Ok(()),
+        _ => Err(Fail::new(format_args!("{least} frames are left of {stored_end}"))),
+    }
+}
+
+/// Returns the end below which all is stored, the number of frames that are read, and the least and the greatest number of frames
+/// that a crash leaves.
+fn left_text(alloc: Global, keeper: &Keeper<TornFile>) -> Result<String, Fail> {
+    let stored_end = keeper.stored_end();
+    let file = keeper.log().device();
+    let read = count_in(alloc, file.bytes())?;
+    let left = counts_left(alloc, file)?;
+    expect_stored(left.0, stored_end)?;
+    Ok(format!(in alloc; "{stored_end}, {read}, {left:?}")?)
+}
+
+/// Makes all calls. Returns what the turns and the settle return, and what is left then.
+fn said(alloc: Global, fixture: &mut Fixture<TornFile>) -> Result<String, Fail> {
+    let answers = answers(alloc, fixture, &CALLS)?;
+    let left = left_text(alloc, fixture.keeper())?;
+    Ok(format!(in alloc; "{answers}, {left}")?)
 }
 
 #[test]
 fn a_crash_leaves_what_is_stored(rt: HostRuntime) -> Result<(), Fail> {
     let alloc = rt.alloc();
-    for (failing, wanted, wanted_end, read, wanted_left) in &MOMENTS {
-        let mut fixture = failing_at(alloc, *failing)?;
-        let said = answers(alloc, &mut fixture, &CALLS)?;
-        assert_eq!(rt; said.as_str(), *wanted, "at {failing}");
-        let keeper = fixture.keeper();
-        let stored_end = keeper.stored_end();
-        assert_eq!(rt; stored_end, *wanted_end, "at {failing}");
-        let file = keeper.log().device();
-        assert_eq!(rt; count_in(alloc, file.bytes())?, *read, "at {failing}");
-        let left = counts_left(alloc, file)?;
-        assert_eq!(rt; left, *wanted_left, "at {failing}");
-        assert!(rt; Some(stored_end) <= end_of(left.0), "at {failing}");
+    for &(failing, answers, stored_end, read, left) in &MOMENTS {
+        let want = format!(in alloc; "{answers}, {stored_end}, {read}, {left:?}")?;
+        let said = said(alloc, &mut failing_at(alloc, failing)?)?;
+        expect_answer("moment", failing as usize, said.as_str(), want.as_str())?;
     }
     Ok(())
 }

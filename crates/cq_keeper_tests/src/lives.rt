@@ -1,27 +1,45 @@
 //! Queues from their start on, each with a keeper: calls in turn, what they return, and what is read of the file after each.
-use crate::fixture::{Call, failing_at};
+use crate::fixture::{Call, Fixture, failing_at};
 use crate::reading::read_text;
 use cq_fixtures::expect_answer;
+use cq_log_tests::TornFile;
 use std::alloc::Global;
 use std::test::Fail;
 
 /// Calls in turn, each with what it returns, what is read of the file then, and the end below which all is stored.
 pub type Life = &'static [(Call, &'static str, &'static str, u64)];
 
+/// Makes a call. Returns what it returns, what is read of the file then, and the end below which all is stored.
+fn said(alloc: Global, fixture: &mut Fixture<TornFile>, call: Call) -> Result<String, Fail> {
+    let answer = fixture.answer(alloc, call)?;
+    let keeper = fixture.keeper();
+    let (text, _count) = read_text(alloc, keeper.log().device().bytes())?;
+    Ok(format!(in alloc; "{answer}, {text}, {}", keeper.stored_end())?)
+}
+
 /// Makes the calls of a life in turn. Fails if one of them does not return or leave what is wanted.
-fn expect_life(alloc: Global, number: usize, life: Life) -> Result<(), Fail> {
-    let name = format!(in alloc; "life {number}")?;
-    let mut fixture = failing_at(alloc, 0)?;
-    for (place, (call, want, kept, stored_end)) in life.iter().enumerate() {
-        let answer = fixture.answer(alloc, *call)?;
-        expect_answer(name.as_str(), place, answer.as_str(), want)?;
-        let keeper = fixture.keeper();
-        let (text, _count) = read_text(alloc, keeper.log().device().bytes())?;
-        let found = format!(in alloc; "{text}, {}", keeper.stored_end())?;
-        let wanted = format!(in alloc; "{kept}, {stored_end}")?;
-        expect_answer(name.as_str(), place, found.as_str(), wanted.as_str())?;
+fn expect_calls(
+    alloc: Global,
+    row: &str,
+    fixture: &mut Fixture<TornFile>,
+    life: Life,
+) -> Result<(), Fail> {
+    for (place, &(call, answer, kept, stored_end)) in life.iter().enumerate() {
+        let want = format!(in alloc; "{answer}, {kept}, {stored_end}")?;
+        expect_answer(
+            row,
+            place,
+            said(alloc, fixture, call)?.as_str(),
+            want.as_str(),
+        )?;
     }
     Ok(())
+}
+
+/// Does the same with a new queue.
+fn expect_life(alloc: Global, number: usize, life: Life) -> Result<(), Fail> {
+    let row = format!(in alloc; "life {number}")?;
+    expect_calls(alloc, row.as_str(), &mut failing_at(alloc, 0)?, life)
 }
 
 /// Makes the calls of these lives.

@@ -1,9 +1,11 @@
 //! What turns keep, and what a read of the file finds after each.
-use crate::fixture::{Call, failing_at};
+use crate::fixture::{Call, failing_at, make_calls};
 use crate::lives::{Life, expect_lives};
 use crate::reading::read_text;
-use cq_fixtures::DAY;
-use cq_keeper::Parts;
+use cq_fixtures::{DAY, expect_text};
+use cq_keeper::{Keeper, Parts};
+use cq_log_tests::TornFile;
+use std::alloc::Global;
 use std::test::Fail;
 
 /// Calls of queues, each with a keeper.
@@ -79,20 +81,34 @@ fn what_came_waits_and_is_stored(rt: HostRuntime) -> Result<(), Fail> {
     expect_lives(rt.alloc(), &LIVES)
 }
 
+/// Returns a keeper that has put a message and then one more, each in a turn.
+fn keeper_of_two(alloc: Global) -> Result<Keeper<TornFile>, Fail> {
+    let mut fixture = failing_at(alloc, 0)?;
+    let calls = [
+        Call::Append(0, "a"),
+        Call::Turn,
+        Call::Append(0, "b"),
+        Call::Turn,
+    ];
+    make_calls(alloc, &mut fixture, &calls)?;
+    Ok(fixture.into_keeper())
+}
+
+/// Takes a keeper apart. Returns its ends, whether no frame waits in its log, and what is read of the file.
+fn parts_text(alloc: Global, keeper: Keeper<TornFile>) -> Result<String, Fail> {
+    let ends = (keeper.stored_end(), keeper.end());
+    let Parts { collector: _, log } = keeper.into_parts();
+    let is_settled = log.is_settled();
+    let file = log.into_device();
+    let (text, count) = read_text(alloc, file.bytes())?;
+    Ok(format!(in alloc; "{ends:?}, {is_settled}, {text}, {count}")?)
+}
+
 #[test]
 fn a_frame_waits_in_the_log_that_is_given_back(rt: HostRuntime) -> Result<(), Fail> {
     let alloc = rt.alloc();
-    let mut fixture = failing_at(alloc, 0)?;
-    fixture.answer(alloc, Call::Append(0, "a"))?;
-    fixture.answer(alloc, Call::Turn)?;
-    fixture.answer(alloc, Call::Append(0, "b"))?;
-    fixture.answer(alloc, Call::Turn)?;
-    let keeper = fixture.into_keeper();
-    assert_eq!(rt; (keeper.stored_end(), keeper.end()), (1, 2));
-    let Parts { collector: _, log } = keeper.into_parts();
-    assert!(rt; !log.is_settled());
-    let file = log.into_device();
-    let (text, count) = read_text(alloc, file.bytes())?;
-    assert_eq!(rt; (text.as_str(), count), ("0[a;] at [0]", 1));
-    Ok(())
+    expect_text(
+        parts_text(alloc, keeper_of_two(alloc)?)?,
+        "(1, 2), false, 0[a;] at [0], 1",
+    )
 }
