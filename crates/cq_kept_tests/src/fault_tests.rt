@@ -1,8 +1,8 @@
 //! Queues that are not opened, and devices that fail.
 use crate::images::{images, replayed_text};
-use crate::life::{Call, Life};
-use cq_fixtures::{contents_of, expect_answer};
-use cq_kept::{NotOpened, OpenFault};
+use crate::life::{Call, answer, opened};
+use cq_fixtures::{contents_of, expect, expect_answer};
+use cq_kept::{NotOpened, OpenFault, Opened};
 use cq_log_tests::TornFile;
 use std::alloc::Global;
 use std::test::Fail;
@@ -35,23 +35,26 @@ static FAULTS: [(u64, &str, &str); 15] = [
     (0, "ok ok", ONE_MORE),
 ];
 
-/// Opens a queue, appends a message, makes a turn and settles it. Returns the answers, and what a read of the log gives then.
+/// Returns why a queue was not opened, and what a read of the log gives.
+fn refused(alloc: Global, error: &NotOpened<TornFile>) -> Result<(String, String), Fail> {
+    let read = replayed_text(alloc, error.device.bytes())?;
+    Ok((format!(in alloc; "{:?}", error.fault)?, read))
+}
+
+/// Appends a message, makes a turn and settles it. Returns the last two answers, and what a read of the log gives then.
+fn kept(alloc: Global, life: &mut Opened<TornFile>) -> Result<(String, String), Fail> {
+    answer(alloc, life, Call::Append(0, "d"))?;
+    let turn = answer(alloc, life, Call::Turn)?;
+    let settle = answer(alloc, life, Call::Settle)?;
+    let read = replayed_text(alloc, life.kept.keeper().log().device().bytes())?;
+    Ok((format!(in alloc; "{turn} {settle}")?, read))
+}
+
+/// Opens a queue, and makes those calls if it is opened. Returns the answers, and what a read of the log gives then.
 fn answers(alloc: Global, failing: u64) -> Result<(String, String), Fail> {
-    match Life::begin(alloc, &images(alloc)?, TornFile::new(alloc, failing))? {
-        Err(NotOpened { fault, device }) => {
-            Ok((
-                format!(in alloc; "{fault:?}")?,
-                replayed_text(alloc, device.bytes())?,
-            ))
-        }
-        Ok(life) => {
-            let mut life = life;
-            life.answer(alloc, Call::Append(0, "d"))?;
-            let turn = life.answer(alloc, Call::Turn)?;
-            let settle = life.answer(alloc, Call::Settle)?;
-            let read = replayed_text(alloc, life.kept.keeper().log().device().bytes())?;
-            Ok((format!(in alloc; "{turn} {settle}")?, read))
-        }
+    match &mut opened(alloc, &images(alloc)?, failing)? {
+        Err(error) => refused(alloc, error),
+        Ok(life) => kept(alloc, life),
     }
 }
 
@@ -67,17 +70,24 @@ fn a_fault_of_the_device_loses_nothing_stored(rt: HostRuntime) -> Result<(), Fai
     Ok(())
 }
 
+/// The cycles of contents that no queue holds: "reader" is past their end.
+static CYCLES: [(u32, &[&str]); 1] = [(5, &["ab"])];
+
+/// Whether no queue was opened for its contents, and no call was made of the device.
+fn has_bad_contents(opened: &Result<Opened<TornFile>, NotOpened<TornFile>>) -> bool {
+    match opened {
+        Ok(_) => false,
+        Err(NotOpened { fault, device }) => {
+            matches!(fault, OpenFault::BadContents) && device.bytes().is_empty()
+        }
+    }
+}
+
 /// Contents that no queue holds are refused, and no call is made of the device.
 #[test]
 fn contents_that_no_queue_holds_are_refused(rt: HostRuntime) -> Result<(), Fail> {
     let alloc = rt.alloc();
-    let contents = contents_of(alloc, &[(5, &["ab"])], &[u64::MAX])?;
-    match Life::begin(alloc, &contents, TornFile::new(alloc, 0))? {
-        Ok(_) => Err(Fail::new(format_args!("a queue holds them"))),
-        Err(NotOpened { fault, device }) => {
-            assert!(rt; matches!(fault, OpenFault::BadContents));
-            assert!(rt; device.bytes().is_empty());
-            Ok(())
-        }
-    }
+    let contents = contents_of(alloc, &CYCLES, &[u64::MAX])?;
+    let opened = opened(alloc, &contents, 0)?;
+    expect(has_bad_contents(&opened), "no queue holds them")
 }

@@ -1,9 +1,11 @@
 //! A queue with a log in a real file, which is opened again.
-use crate::images::replayed;
-use crate::life::{Call, Life};
+use crate::images::{config, images, replayed};
+use crate::life::{Call, answer};
 use cq_fixtures::{contents_text, expect_text};
-use cq_kept::NotOpened;
+use cq_kept::{KeptQueue, Opened};
 use cq_log_file::{Found, LogFile};
+use cq_model::Contents;
+use std::alloc::Global;
 use std::test::Fail;
 use std::{env, fs, process};
 
@@ -16,14 +18,21 @@ fn new_folder(rt: &HostRuntime) -> Result<String, Fail> {
     Ok(path)
 }
 
-/// What was stored in a file is there when its queue was dropped, and a queue that is opened with it goes on. What was put and not
-/// stored is not there.
-#[test]
-fn a_queue_goes_on_from_its_file(rt: HostRuntime) -> Result<(), Fail> {
+/// Opens a queue that holds these contents, with a log in a new file.
+fn opened(rt: &HostRuntime, contents: &Contents, path: &str) -> Result<Opened<LogFile>, Fail> {
     let alloc = rt.alloc();
-    let folder = new_folder(&rt)?;
-    let path = format!(in alloc; "{folder}/queue.log")?;
-    let mut life = Life::of_images(alloc, LogFile::create(&rt, path.as_str())?)?;
+    let config = config(alloc)?;
+    let device = LogFile::create(rt, path)?;
+    match KeptQueue::open(alloc, config, contents, device) {
+        Ok(life) => Ok(life),
+        Err(error) => Err(Fail::from(error.fault)),
+    }
+}
+
+/// Makes calls of a new queue, and drops it.
+fn make_calls(rt: &HostRuntime, path: &str) -> Result<(), Fail> {
+    let alloc = rt.alloc();
+    let mut life = opened(rt, &images(alloc)?, path)?;
     for call in [
         Call::Append(0, "d"),
         Call::Take,
@@ -32,26 +41,47 @@ fn a_queue_goes_on_from_its_file(rt: HostRuntime) -> Result<(), Fail> {
         Call::Append(0, "e"),
         Call::Turn,
     ] {
-        life.answer(alloc, call)?;
+        answer(alloc, &mut life, call)?;
     }
-    drop(life);
-    let Found { file, bytes } = LogFile::open(&rt, path.as_str())?;
-    drop(file);
-    let contents = replayed(alloc, &bytes)?;
+    Ok(())
+}
+
+/// Returns what the log in a file gives.
+fn found(rt: &HostRuntime, path: &str) -> Result<Contents, Fail> {
+    let Found { file: _, bytes } = LogFile::open(rt, path)?;
+    replayed(rt.alloc(), &bytes)
+}
+
+/// Appends a message and takes one. Returns both answers.
+fn said(alloc: Global, life: &mut Opened<LogFile>) -> Result<String, Fail> {
+    let appended = answer(alloc, life, Call::Append(0, "f"))?;
+    let taken = answer(alloc, life, Call::Take)?;
+    Ok(format!(in alloc; "{appended}, {taken}")?)
+}
+
+/// Returns what is said of a queue that holds these contents.
+fn said_next(rt: &HostRuntime, contents: &Contents, path: &str) -> Result<String, Fail> {
+    said(rt.alloc(), &mut opened(rt, contents, path)?)
+}
+
+/// What was stored in a file is there when its queue was dropped, and a queue that is opened with it goes on. What was put and not
+/// stored is not there.
+#[test]
+fn a_queue_goes_on_from_its_file(rt: HostRuntime) -> Result<(), Fail> {
+    let alloc = rt.alloc();
+    let folder = new_folder(&rt)?;
+    let path = format!(in alloc; "{folder}/queue.log")?;
+    make_calls(&rt, path.as_str())?;
+    let contents = found(&rt, path.as_str())?;
     expect_text(
         contents_text(alloc, &contents)?,
         "5[ab;c;d;] at [21474836482]",
     )?;
     let next = format!(in alloc; "{folder}/next.log")?;
-    match Life::begin(alloc, &contents, LogFile::create(&rt, next.as_str())?)? {
-        Err(NotOpened { fault, device: _ }) => Err(Fail::from(fault)),
-        Ok(life) => {
-            let mut life = life;
-            expect_text(life.answer(alloc, Call::Append(0, "f"))?, "21474836483")?;
-            expect_text(life.answer(alloc, Call::Take)?, "21474836482 d")?;
-            drop(life);
-            fs::remove_dir_all(&rt, folder.as_str())?;
-            Ok(())
-        }
-    }
+    expect_text(
+        said_next(&rt, &contents, next.as_str())?,
+        "21474836483, 21474836482 d",
+    )?;
+    fs::remove_dir_all(&rt, folder.as_str())?;
+    Ok(())
 }

@@ -1,8 +1,10 @@
 //! What a log has after each call, and after a crash.
 use crate::images::replayed_text;
-use crate::life::{Call, Life};
-use cq_fixtures::{DAY, expect_answer, expect_text};
+use crate::life::{Call, answer, of_images};
+use cq_fixtures::{DAY, expect_answer};
+use cq_kept::Opened;
 use cq_log_tests::{Ruin, TornFile};
+use std::alloc::Global;
 use std::test::Fail;
 
 /// A call, its answer, the end below which messages are stored, and what a read of the log gives.
@@ -47,16 +49,45 @@ static STEPS: [Step; 12] = [
     ),
 ];
 
+/// Makes a call. Returns its answer, the end below which messages are stored, and what a read of the log gives.
+fn said(alloc: Global, life: &mut Opened<TornFile>, call: Call) -> Result<String, Fail> {
+    let answer = answer(alloc, life, call)?;
+    let read = replayed_text(alloc, life.kept.keeper().log().device().bytes())?;
+    Ok(format!(in alloc; "{answer}, {}, {read}", life.kept.stored_end())?)
+}
+
+/// Makes the calls. Fails if one of them does not answer or leave what is wanted.
+fn expect_steps(alloc: Global, life: &mut Opened<TornFile>) -> Result<(), Fail> {
+    for (i, &(call, answer, stored_end, read)) in STEPS.iter().enumerate() {
+        let want = format!(in alloc; "{answer}, {stored_end}, {read}")?;
+        expect_answer("life", i, said(alloc, life, call)?.as_str(), want.as_str())?;
+    }
+    Ok(())
+}
+
 /// After each call a log has what was stored, and gives it when it is played on the images.
 #[test]
 fn a_log_gives_what_was_stored(rt: HostRuntime) -> Result<(), Fail> {
     let alloc = rt.alloc();
-    let mut life = Life::of_images(alloc, TornFile::new(alloc, 0))?;
-    for (i, &(call, answer, stored_end, read)) in STEPS.iter().enumerate() {
-        expect_answer("life", i, life.answer(alloc, call)?.as_str(), answer)?;
-        assert_eq!(rt; life.kept.stored_end(), stored_end);
-        let log = life.kept.keeper().log().device().bytes();
-        expect_answer("read", i, replayed_text(alloc, log)?.as_str(), read)?;
+    expect_steps(alloc, &mut of_images(alloc)?)
+}
+
+/// Makes a call, and returns what a crash leaves then.
+fn left_by(
+    alloc: Global,
+    life: &mut Opened<TornFile>,
+    call: Call,
+    ruin: Ruin,
+) -> Result<String, Fail> {
+    answer(alloc, life, call)?;
+    let left = life.kept.keeper().log().device().after_crash(alloc, ruin)?;
+    replayed_text(alloc, &left)
+}
+
+/// Makes the calls. Fails if a crash after one of them does not leave what is wanted.
+fn expect_left(alloc: Global, life: &mut Opened<TornFile>, ruin: Ruin) -> Result<(), Fail> {
+    for (i, &(call, _, _, read)) in STEPS.iter().enumerate() {
+        expect_answer("crash", i, left_by(alloc, life, call, ruin)?.as_str(), read)?;
     }
     Ok(())
 }
@@ -70,12 +101,7 @@ fn a_crash_leaves_what_was_stored(rt: HostRuntime) -> Result<(), Fail> {
         Ruin::Filled(1),
         Ruin::Mixed(0x5555_aaaa_1234_9876),
     ] {
-        let mut life = Life::of_images(alloc, TornFile::new(alloc, 0))?;
-        for &(call, _, _, read) in &STEPS {
-            life.answer(alloc, call)?;
-            let left = life.kept.keeper().log().device().after_crash(alloc, ruin)?;
-            expect_text(replayed_text(alloc, &left)?, read)?;
-        }
+        expect_left(alloc, &mut of_images(alloc)?, ruin)?;
     }
     Ok(())
 }
