@@ -1,0 +1,151 @@
+//! Queues that are not opened, and what is left of the files.
+use crate::folders::{images_text, make, put_log};
+use crate::life::{folder_with_a, opened, stored};
+use crate::torn_place::Matter;
+use cq_fixtures::{expect_answer, expect_text};
+use cq_folder::{Folder, MemoryFolder};
+use std::alloc::Global;
+use std::test::Fail;
+
+/// What is the matter with the place of a log of one turn, the fault, what the images hold then, and how many turns the next opening
+/// plays.
+type Row = (Matter, &'static str, &'static str, usize);
+
+const KEPT: &str = "0[a;] at [0]";
+
+const FOLDED: &str = "0[a;b;] at [0]";
+
+const UNBEGUN: &str =
+    "the log could not be begun: the file could not be read, written, cut or synced";
+
+static ROWS: [Row; 15] = [
+    // No file changed.
+    (
+        Matter::Locked,
+        "a queue is live in this folder: wait until it is closed, or close it",
+        KEPT,
+        1,
+    ),
+    (
+        Matter::Denied,
+        "the log is not opened: this process may not read and write the file: let it do so in the permissions of the file and the folder",
+        KEPT,
+        1,
+    ),
+    (
+        Matter::LockedScarcely,
+        "out of memory: nothing was lost, so open the queue again with more memory",
+        KEPT,
+        1,
+    ),
+    // The log was folded.
+    (
+        Matter::Moved,
+        "the log is not opened: the file was removed or replaced while it was opened: open it again",
+        FOLDED,
+        0,
+    ),
+    (
+        Matter::LockedLater,
+        "the log is not opened: the file is in use: wait until the queue that uses it is closed, or close it",
+        FOLDED,
+        0,
+    ),
+    (
+        Matter::OpenedScarcely,
+        "out of memory: nothing was lost, so open the queue again with more memory",
+        FOLDED,
+        0,
+    ),
+    (
+        Matter::Changed,
+        "the log was changed while the queue was opened: open the queue again",
+        FOLDED,
+        0,
+    ),
+    // The first gate and its sync, the head with the next gate and its sync, its own gate and its sync.
+    (Matter::Failing(1), UNBEGUN, FOLDED, 0),
+    (Matter::Failing(2), UNBEGUN, FOLDED, 0),
+    (Matter::Failing(3), UNBEGUN, FOLDED, 0),
+    (Matter::Failing(4), UNBEGUN, FOLDED, 0),
+    (Matter::Failing(5), UNBEGUN, FOLDED, 0),
+    (Matter::Failing(6), UNBEGUN, FOLDED, 0),
+    (Matter::Failing(7), UNBEGUN, FOLDED, 0),
+    (Matter::Failing(8), UNBEGUN, FOLDED, 0),
+];
+
+/// The fault of an opening. The folder is left then.
+fn fault_text(alloc: Global, folder: &mut MemoryFolder, matter: Matter) -> Result<String, Fail> {
+    match opened(alloc, folder, matter) {
+        Ok(_) => Err(Fail::new(format_args!("no fault"))),
+        Err(fault) => {
+            if folder.access().is_some() {
+                return Err(Fail::new(format_args!("the folder is not left")));
+            }
+            Ok(format!(in alloc; "{fault}")?)
+        }
+    }
+}
+
+/// A log of one turn, for a queue that holds "a".
+fn log_of_one_turn(alloc: Global) -> Result<Vec<u8>, Fail> {
+    let mut folder = folder_with_a(alloc)?;
+    let mut live = opened(alloc, &mut folder, Matter::Nothing)?;
+    stored(alloc, &mut live, b"b")
+}
+
+/// Opens a queue with such a log, which fails, and then again.
+fn expect_row(alloc: Global, log: &[u8], number: usize, row: &Row) -> Result<(), Fail> {
+    let mut folder = folder_with_a(alloc)?;
+    put_log(alloc, &mut folder, log)?;
+    let fault = fault_text(alloc, &mut folder, row.0)?;
+    expect_answer("fault", number, fault.as_str(), row.1)?;
+    let images = images_text(alloc, &mut folder)?;
+    expect_answer("images", number, images.as_str(), row.2)?;
+    if opened(alloc, &mut folder, Matter::Nothing)?.turns != row.3 {
+        return Err(Fail::new(format_args!("row {number}: other turns")));
+    }
+    Ok(())
+}
+
+/// Each fault of the place and of its log leaves the files as they were, or folded.
+#[test]
+fn a_fault_of_the_place_loses_nothing(rt: HostRuntime) -> Result<(), Fail> {
+    let log = log_of_one_turn(rt.alloc())?;
+    for (number, row) in ROWS.iter().enumerate() {
+        expect_row(rt.alloc(), &log, number, row)?;
+    }
+    Ok(())
+}
+
+/// A log at fault is not folded.
+#[test]
+fn a_log_at_fault_is_left(rt: HostRuntime) -> Result<(), Fail> {
+    let alloc = rt.alloc();
+    let mut folder = folder_with_a(alloc)?;
+    put_log(alloc, &mut folder, b"\x01\x07\0\0\0no head\0")?;
+    for _ in 0..2 {
+        expect_text(
+            fault_text(alloc, &mut folder, Matter::Nothing)?,
+            "the file is no log of a queue: read the log with the version that wrote it, or move it away to open the images alone",
+        )?;
+        expect_text(images_text(alloc, &mut folder)?, KEPT)?;
+    }
+    Ok(())
+}
+
+/// A queue in which no cycle has begun is not opened.
+#[test]
+fn a_queue_without_a_cycle_is_refused(rt: HostRuntime) -> Result<(), Fail> {
+    let alloc = rt.alloc();
+    let mut folder = MemoryFolder::new(alloc);
+    expect_text(
+        fault_text(alloc, &mut folder, Matter::Nothing)?,
+        "no queue here",
+    )?;
+    make(alloc, &mut folder)?;
+    expect_text(
+        fault_text(alloc, &mut folder, Matter::Nothing)?,
+        "no cycle has begun in this queue: write a first message, and open the queue again",
+    )
+}

@@ -1,0 +1,23 @@
+//! Tests of queues that are opened in a folder, and closed:
+//!
+//! - what they go on from, and what they leave;
+//! - each fault, and what the files are then;
+//! - a folder of the system, with a crash in between.
+//!
+//! They are proved apart from what they test, so that both proofs can run at the same time.
+#![tactic(auto)]
+
+#[cfg(test)]
+mod close_tests;
+#[cfg(test)]
+mod fault_tests;
+#[cfg(test)]
+mod folders;
+#[cfg(test)]
+mod life;
+#[cfg(test)]
+mod open_tests;
+#[cfg(test)]
+mod real_tests;
+#[cfg(test)]
+mod torn_place;

@@ -1,0 +1,61 @@
+//! Live queues in a folder in memory.
+use crate::folders::{make, write_a};
+use crate::torn_place::{Matter, TornPlace};
+use cq_endpoint::{Endpoint, Taken};
+use cq_fixtures::message_or_none;
+use cq_folder::MemoryFolder;
+use cq_live::{Live, LiveFault, open};
+use cq_log_tests::TornFile;
+use std::alloc::Global;
+use std::test::Fail;
+
+/// A folder with a queue that holds the message "a".
+pub(crate) fn folder_with_a(alloc: Global) -> Result<MemoryFolder, Fail> {
+    let mut folder = MemoryFolder::new(alloc);
+    make(alloc, &mut folder)?;
+    write_a(alloc, &mut folder)?;
+    Ok(folder)
+}
+
+/// Opens the queue of a folder.
+pub(crate) fn opened(
+    alloc: Global,
+    folder: &mut MemoryFolder,
+    matter: Matter,
+) -> Result<Live<TornFile>, LiveFault> {
+    let mut place = TornPlace::new(matter);
+    open(alloc, folder, &mut place)
+}
+
+/// What "reader" takes.
+fn taken(alloc: Global, endpoint: &mut Endpoint) -> Result<String, Fail> {
+    let found = match endpoint.take(alloc, "reader")? {
+        Taken::Taken(index, message) => Some((index, message)),
+        Taken::NotYet | Taken::Finished | Taken::Moved(_) => None,
+    };
+    message_or_none(alloc, &found)
+}
+
+/// What an opening says: how many turns were played, and what "reader" takes in two takes.
+pub(crate) fn opened_text(
+    alloc: Global,
+    turns: usize,
+    endpoint: &mut Endpoint,
+) -> Result<String, Fail> {
+    let first = taken(alloc, endpoint)?;
+    let second = taken(alloc, endpoint)?;
+    Ok(format!(in alloc; "{turns} turns: {first}, {second}")?)
+}
+
+/// Appends a message and stores it. Returns the bytes of the log then.
+pub(crate) fn stored(
+    alloc: Global,
+    live: &mut Live<TornFile>,
+    bytes: &[u8],
+) -> Result<Vec<u8>, Fail> {
+    live.endpoint.append(0, bytes)?;
+    live.kept.turn(alloc)?;
+    live.kept.settle()?;
+    let log = live.kept.keeper().log().device().bytes();
+    Ok(log.to_vec(alloc)?)
+}
