@@ -8,7 +8,8 @@ it:
 console  A line that begins with `$ ` is a command, and the lines up to the next one are what it prints, on standard
          output and standard error together. The blocks of a document are run in order in one new folder, where `./cq` is
          the program. `$ echo $?` prints the status of the command before it.
-rust     The lines are in a file of crates/cq_callers/src, one after the other, except for spaces at their start.
+rust     The lines are in a file of crates/cq_callers/src or crates/cq_live_tests/src, one after the other, except for spaces at
+         their start.
 c        The lines are in c/example.c in the same way. c/run compiles and runs that file.
 
 Blocks with another word or none are skipped: what builds or proves is in a block `sh`, or in one without a word.
@@ -24,7 +25,7 @@ import tempfile
 
 TOP = pathlib.Path(__file__).resolve().parent.parent
 DOCUMENTS = ["README.md", "docs/CLI.md", "docs/GUIDE.md", "docs/CALLING.md"]
-SOURCES = {"rust": "crates/cq_callers/src/*.rt", "c": "c/example.c"}
+SOURCES = {"rust": ["crates/cq_callers/src/*.rt", "crates/cq_live_tests/src/*.rt"], "c": ["c/example.c"]}
 
 
 def blocks_of(text):
@@ -64,10 +65,11 @@ def run(command, folder, status):
     return done.stdout.decode(errors="replace"), done.returncode
 
 
-def is_in(lines, pattern):
-    """Whether these lines are in a file of this pattern, one after the other, except for spaces at their start."""
+def is_in(lines, patterns):
+    """Whether these lines are in a file of these patterns, one after the other, except for spaces at their start."""
     wanted = "\n".join(line.strip() for line in lines)
-    texts = ("\n".join(line.strip() for line in path.read_text().splitlines()) for path in TOP.glob(pattern))
+    paths = (path for pattern in patterns for path in TOP.glob(pattern))
+    texts = ("\n".join(line.strip() for line in path.read_text().splitlines()) for path in paths)
     return any(f"\n{wanted}\n" in f"\n{text}\n" for text in texts)
 
 
@@ -80,7 +82,7 @@ def try_document(name, program):
             if word in SOURCES:
                 count += 1
                 if not is_in(lines, SOURCES[word]):
-                    wrong.append(f"{name}:{first}: these lines are not in {SOURCES[word]}")
+                    wrong.append(f"{name}:{first}: these lines are not in {' or '.join(SOURCES[word])}")
             elif word == "console":
                 for number, command, wanted in commands_of(first, lines):
                     count += 1

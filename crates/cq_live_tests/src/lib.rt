@@ -10,6 +10,8 @@
 #[cfg(test)]
 mod close_tests;
 #[cfg(test)]
+mod example;
+#[cfg(test)]
 mod fault_tests;
 #[cfg(test)]
 mod folders;

@@ -1,4 +1,5 @@
 //! A live queue in a folder of the system, with a crash in between.
+use crate::example::{append_stored, opened};
 use crate::folders::{images_text, make, write_a};
 use crate::life::opened_text;
 use cq_fixtures::{contents_text, expect_text};
@@ -33,7 +34,7 @@ fn opened_at(rt: &HostRuntime, path: &str) -> Result<Result<Live<LogFile>, LiveF
 
 /// What is said of an opening, and the queue.
 fn said_at(rt: &HostRuntime, path: &str, want: &str) -> Result<Live<LogFile>, Fail> {
-    let mut live = opened_at(rt, path)??;
+    let mut live = opened(rt, path)?;
     let turns = live.turns;
     expect_text(opened_text(rt.alloc(), turns, &mut live.endpoint)?, want)?;
     Ok(live)
@@ -104,6 +105,8 @@ fn a_live_queue_survives_a_crash(rt: HostRuntime) -> Result<(), Fail> {
     go_on(&rt, path.as_str())?;
     expect_text(images_at(&rt, path.as_str())?, "0[a;b;d;] at [2]")?;
     drop(said_at(&rt, path.as_str(), "0 turns: 2 d, none")?);
+    assert_eq!(rt; append_stored(&rt, path.as_str(), 0, b"e")?.value(), 3);
+    drop(said_at(&rt, path.as_str(), "1 turns: 2 d, 3 e")?);
     fs::remove_dir_all(&rt, path.as_str())?;
     Ok(())
 }
