@@ -62,15 +62,24 @@ fn expect_in_use(rt: &HostRuntime, path: &str) -> Result<(), Fail> {
     Err(Fail::new(format_args!("the log changed")))
 }
 
-/// A queue is live, and its process ends without a close: one message was stored, and another was put to the log alone.
-fn crash(rt: &HostRuntime, path: &str) -> Result<(), Fail> {
-    let alloc = rt.alloc();
-    let mut live = said_at(rt, path, "0 turns: 0 a, none")?;
-    live.endpoint.append(0, b"b")?;
+/// Appends a message, and puts it to the log.
+fn put(alloc: Global, live: &mut Live<LogFile>, bytes: &[u8]) -> Result<(), Fail> {
+    live.endpoint.append(0, bytes)?;
     live.kept.turn(alloc)?;
+    Ok(())
+}
+
+/// One message is stored, and another is put to the log alone.
+fn put_two(alloc: Global, live: &mut Live<LogFile>) -> Result<(), Fail> {
+    put(alloc, live, b"b")?;
     live.kept.settle()?;
-    live.endpoint.append(0, b"c")?;
-    live.kept.turn(alloc)?;
+    put(alloc, live, b"c")
+}
+
+/// A queue is live, and its process ends without a close.
+fn crash(rt: &HostRuntime, path: &str) -> Result<(), Fail> {
+    let mut live = said_at(rt, path, "0 turns: 0 a, none")?;
+    put_two(rt.alloc(), &mut live)?;
     expect_in_use(rt, path)
 }
 
