@@ -9,7 +9,7 @@ use cq_cycle::{Index, Roll};
 use cq_fixtures::{Cycles, contents_of, contents_text, lists_text, shown_text};
 use cq_layout::Shape;
 use cq_model::{Config, Contents};
-use cq_shown::recover;
+use cq_shown::{Stopped, recover};
 use cq_tail::Tailer;
 use cq_words::{Caller, Queue};
 use std::alloc::{AllocError, Global};
@@ -107,11 +107,11 @@ impl Fixture {
     fn of(alloc: Global, queue: Queue, caller: Caller) -> Result<Fixture, Fail>
         requires { IsOf queue caller }
     {
+        let held = nothing(alloc)?;
         let mut caller = caller;
+        let collector = Collector::new(alloc, &queue, queue.split(&mut caller))?;
         let appender = Appender::new(queue.split(&mut caller));
         let tailer = Tailer::new(queue.split(&mut caller));
-        let collector = Collector::new(alloc, &queue, caller)?;
-        let held = nothing(alloc)?;
         Ok(Fixture {
             queue,
             appender: Some(appender),
@@ -191,8 +191,8 @@ impl Fixture {
         Ok(lists_text(alloc, lists.as_slice())?)
     }
 
-    /// Stops the queue by the caller of the collector, and gives what it holds then.
-    pub(crate) fn stop(self, alloc: Global) -> Result<String, Fail> {
+    /// The queue, stopped by the caller of the collector.
+    fn stopped(self) -> Stopped {
         let Fixture {
             queue,
             appender: _,
@@ -201,8 +201,12 @@ impl Fixture {
             collector,
             held: _,
         } = self;
-        let stopped = queue.stop(collector.into_caller());
-        contents_text(alloc, &recover(alloc, &stopped)?)
+        queue.stop(collector.into_caller())
+    }
+
+    /// Stops the queue, and gives what it holds then.
+    pub(crate) fn stop(self, alloc: Global) -> Result<String, Fail> {
+        contents_text(alloc, &recover(alloc, &self.stopped())?)
     }
 
     /// What a call returns.

@@ -20,19 +20,30 @@ fn expect_answers(
     Ok(())
 }
 
-/// Makes the calls of a life in turn, and stops it. Fails if one of them does not return what is wanted, or if it does not end so.
-fn expect_life(alloc: Global, number: usize, life: &Life) -> Result<(), Fail> {
-    let row = format!(in alloc; "life {number}")?;
-    let &(beginning, calls, end) = life;
+/// A queue that begins so, after these calls.
+fn after_calls(
+    alloc: Global,
+    row: &str,
+    beginning: Beginning,
+    calls: &[(Call, &str)],
+) -> Result<Fixture, Fail> {
     let mut fixture = Fixture::begun(alloc, beginning)?;
-    expect_answers(alloc, row.as_str(), &mut fixture, calls)?;
-    expect_end(row.as_str(), fixture.stop(alloc)?.as_str(), end)
+    expect_answers(alloc, row, &mut fixture, calls)?;
+    Ok(fixture)
+}
+
+/// Makes the calls of a life in turn, and stops it. Fails if one of them does not return what is wanted, or if it does not end so.
+fn expect_life(alloc: Global, row: &str, life: &Life) -> Result<(), Fail> {
+    let &(beginning, calls, end) = life;
+    let fixture = after_calls(alloc, row, beginning, calls)?;
+    expect_end(row, fixture.stop(alloc)?.as_str(), end)
 }
 
 /// Makes the calls of these lives.
 pub fn expect_lives(alloc: Global, lives: &[Life]) -> Result<(), Fail> {
     for (number, life) in lives.iter().enumerate() {
-        expect_life(alloc, number, life)?;
+        let row = format!(in alloc; "life {number}")?;
+        expect_life(alloc, row.as_str(), life)?;
     }
     Ok(())
 }

@@ -70,9 +70,6 @@ fn a_fault_of_the_device_loses_nothing_stored(rt: HostRuntime) -> Result<(), Fai
     Ok(())
 }
 
-/// The cycles of contents that no queue holds: "reader" is past their end.
-static CYCLES: [(u32, &[&str]); 1] = [(5, &["ab"])];
-
 /// Whether no queue was opened for its contents, and no call was made of the device.
 fn has_bad_contents(opened: &Result<Opened<TornFile>, NotOpened<TornFile>>) -> bool {
     match opened {
@@ -87,7 +84,7 @@ fn has_bad_contents(opened: &Result<Opened<TornFile>, NotOpened<TornFile>>) -> b
 #[test]
 fn contents_that_no_queue_holds_are_refused(rt: HostRuntime) -> Result<(), Fail> {
     let alloc = rt.alloc();
-    let contents = contents_of(alloc, &CYCLES, &[u64::MAX])?;
+    let contents = contents_of(alloc, &[(5, &["ab"])], &[u64::MAX])?;
     let opened = opened(alloc, &contents, 0)?;
     expect(has_bad_contents(&opened), "no queue holds them")
 }

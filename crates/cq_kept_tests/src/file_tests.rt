@@ -1,6 +1,7 @@
 //! A queue with a log in a real file, which is opened again.
 use crate::images::{config, images, replayed};
-use crate::life::{Call, answer};
+use crate::life::{Call, answer, append, take};
+use cq_endpoint::Endpoint;
 use cq_fixtures::{contents_text, expect_text};
 use cq_kept::{KeptQueue, Opened};
 use cq_log_file::{Found, LogFile};
@@ -29,21 +30,29 @@ fn opened(rt: &HostRuntime, contents: &Contents, path: &str) -> Result<Opened<Lo
     }
 }
 
-/// Makes calls of a new queue, and drops it.
-fn make_calls(rt: &HostRuntime, path: &str) -> Result<(), Fail> {
-    let alloc = rt.alloc();
-    let mut life = opened(rt, &images(alloc)?, path)?;
-    for call in [
-        Call::Append(0, "d"),
-        Call::Take,
-        Call::Turn,
-        Call::Settle,
-        Call::Append(0, "e"),
-        Call::Turn,
-    ] {
-        answer(alloc, &mut life, call)?;
+/// Calls of a queue: the second message is not stored.
+static CALLS: [Call; 6] = [
+    Call::Append(0, "d"),
+    Call::Take,
+    Call::Turn,
+    Call::Settle,
+    Call::Append(0, "e"),
+    Call::Turn,
+];
+
+/// Makes those calls.
+fn make_calls(alloc: Global, life: &mut Opened<LogFile>) -> Result<(), Fail> {
+    for &call in &CALLS {
+        answer(alloc, life, call)?;
     }
     Ok(())
+}
+
+/// Makes those calls of a queue that holds what the images do, and drops it.
+fn make_first(rt: &HostRuntime, path: &str) -> Result<(), Fail> {
+    let alloc = rt.alloc();
+    let mut life = opened(rt, &images(alloc)?, path)?;
+    make_calls(alloc, &mut life)
 }
 
 /// Returns what the log in a file gives.
@@ -53,15 +62,16 @@ fn found(rt: &HostRuntime, path: &str) -> Result<Contents, Fail> {
 }
 
 /// Appends a message and takes one. Returns both answers.
-fn said(alloc: Global, life: &mut Opened<LogFile>) -> Result<String, Fail> {
-    let appended = answer(alloc, life, Call::Append(0, "f"))?;
-    let taken = answer(alloc, life, Call::Take)?;
+fn said(alloc: Global, endpoint: &mut Endpoint) -> Result<String, Fail> {
+    let appended = append(alloc, endpoint, 0, "f")?;
+    let taken = take(alloc, endpoint)?;
     Ok(format!(in alloc; "{appended}, {taken}")?)
 }
 
 /// Returns what is said of a queue that holds these contents.
 fn said_next(rt: &HostRuntime, contents: &Contents, path: &str) -> Result<String, Fail> {
-    said(rt.alloc(), &mut opened(rt, contents, path)?)
+    let mut life = opened(rt, contents, path)?;
+    said(rt.alloc(), &mut life.endpoint)
 }
 
 /// What was stored in a file is there when its queue was dropped, and a queue that is opened with it goes on. What was put and not
@@ -71,7 +81,7 @@ fn a_queue_goes_on_from_its_file(rt: HostRuntime) -> Result<(), Fail> {
     let alloc = rt.alloc();
     let folder = new_folder(&rt)?;
     let path = format!(in alloc; "{folder}/queue.log")?;
-    make_calls(&rt, path.as_str())?;
+    make_first(&rt, path.as_str())?;
     let contents = found(&rt, path.as_str())?;
     expect_text(
         contents_text(alloc, &contents)?,

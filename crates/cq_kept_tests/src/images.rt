@@ -15,12 +15,9 @@ pub(crate) fn config(alloc: Global) -> Result<Config, Fail> {
     small_config(alloc, 4)
 }
 
-/// The cycles of the images. (A list of lists that is written in a call makes its proof long.)
-static CYCLES: [(u32, &[&str]); 1] = [(5, &["ab", "c"])];
-
 /// Returns what the images hold: cycle 5 with two messages, of which "reader" has taken the first.
 pub(crate) fn images(alloc: Global) -> Result<Contents, AllocError> {
-    contents_of(alloc, &CYCLES, &[21_474_836_481])
+    contents_of(alloc, &[(5, &["ab", "c"])], &[21_474_836_481])
 }
 
 /// Returns whether a log can go on from this.

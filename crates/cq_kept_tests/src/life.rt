@@ -45,11 +45,18 @@ pub(crate) fn of_images(alloc: Global) -> Result<Opened<TornFile>, Fail> {
     }
 }
 
-fn append(alloc: Global, endpoint: &mut Endpoint, moment: u64, text: &str) -> Result<String, Fail> {
+/// Appends a text at a moment, and returns the answer.
+pub(crate) fn append(
+    alloc: Global,
+    endpoint: &mut Endpoint,
+    moment: u64,
+    text: &str,
+) -> Result<String, Fail> {
     index_text(alloc, &endpoint.append(moment, text.as_bytes()))
 }
 
-fn take(alloc: Global, endpoint: &mut Endpoint) -> Result<String, Fail> {
+/// Takes a message by "reader", and returns the answer.
+pub(crate) fn take(alloc: Global, endpoint: &mut Endpoint) -> Result<String, Fail> {
     let found = match endpoint.take(alloc, "reader")? {
         Taken::Taken(index, message) => Some((index, message)),
         Taken::NotYet | Taken::Finished | Taken::Moved(_) => None,
