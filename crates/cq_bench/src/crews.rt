@@ -71,6 +71,51 @@ impl Crew {
         format!(in alloc; "{appenders}to{tailers}")
     }
 
+    /// Returns what an appender does.
+    fn append_job(self, shared: &mut SharedQueue, share: Share) -> Result<Job, AllocError> {
+        Ok(Job::Append(shared.appender()?, self.appending, share.each))
+    }
+
+    /// Returns what a tailer does.
+    fn read_job(
+        self,
+        alloc: Global,
+        shared: &mut SharedQueue,
+        share: Share,
+    ) -> Result<Job, AllocError> {
+        // If there is no appender, a message that is not there will not come.
+        let looks = if self.appenders == 0 { 1 } else { MOST_TRIES };
+        let target = Target::new(alloc, self.reading)?;
+        Ok(Job::Read(shared.tailer()?, target, share.all, looks))
+    }
+
+    /// Adds what the appenders do on a new queue.
+    fn push_appends(
+        self,
+        shared: &mut SharedQueue,
+        share: Share,
+        jobs: &mut Vec<Job>,
+    ) -> Result<(), AllocError> {
+        for _ in 0..self.appenders {
+            push(jobs, self.append_job(shared, share)?)?;
+        }
+        Ok(())
+    }
+
+    /// Adds what the tailers do on a new queue.
+    fn push_reads(
+        self,
+        alloc: Global,
+        shared: &mut SharedQueue,
+        share: Share,
+        jobs: &mut Vec<Job>,
+    ) -> Result<(), AllocError> {
+        for _ in 0..self.tailers {
+            push(jobs, self.read_job(alloc, shared, share)?)?;
+        }
+        Ok(())
+    }
+
     /// Returns what the threads do on a new queue.
     fn jobs(
         self,
@@ -79,17 +124,15 @@ impl Crew {
         share: Share,
     ) -> Result<Vec<Job>, AllocError> {
         let mut jobs = Vec::new(alloc);
-        for _ in 0..self.appenders {
-            jobs.push(Job::Append(shared.appender()?, self.appending, share.each))?;
-        }
-        // If there is no appender, a message that is not there will not come.
-        let looks = if self.appenders == 0 { 1 } else { MOST_TRIES };
-        for _ in 0..self.tailers {
-            let target = Target::new(alloc, self.reading)?;
-            jobs.push(Job::Read(shared.tailer()?, target, share.all, looks))?;
-        }
+        self.push_appends(shared, share, &mut jobs)?;
+        self.push_reads(alloc, shared, share, &mut jobs)?;
         Ok(jobs)
     }
+}
+
+/// Adds what one thread does.
+fn push(jobs: &mut Vec<Job>, job: Job) -> Result<(), AllocError> {
+    Ok(jobs.push(job)?)
 }
 
 /// Measures the time of a crew on a new queue.

@@ -238,6 +238,85 @@ fn shelf_times<R: AllocGlobal + Clock>(
     Ok(times)
 }
 
+/// A queue without a shelf: an endpoint that appends, and one that reads.
+#[derive(Drop)]
+struct Ends {
+    writer: Endpoint,
+    reader: Endpoint,
+}
+
+/// Makes a queue of this shape.
+fn new_ends<R: AllocGlobal + Clock>(
+    rt: &R,
+    shape: Shape,
+    times: &mut Times,
+) -> Result<Ends, BenchFault> {
+    let start = now(rt)?;
+    let config = config_of(rt.alloc(), shape)?;
+    let mut writer = Endpoint::create(rt.alloc(), config, MOMENT)?;
+    let reader = writer.split()?;
+    let end = now(rt);
+    let ends = Ends { writer, reader };
+    times.add_making(start, end?);
+    Ok(ends)
+}
+
+/// Appends a load to a queue, and reads it.
+fn move_by_queue<R: Clock>(
+    rt: &R,
+    ends: &mut Ends,
+    load: &Load,
+    room: &mut [u8],
+    times: &mut Times,
+) -> Result<(), BenchFault> {
+    let start = now(rt)?;
+    append_to_queue(&mut ends.writer, load)?;
+    let middle = now(rt)?;
+    read_from_queue(&mut ends.reader, room, load.count)?;
+    times.add_calls(start, middle, now(rt)?);
+    Ok(())
+}
+
+/// Appends and reads this many loads.
+fn move_all_by_queue<R: Clock>(
+    rt: &R,
+    ends: &mut Ends,
+    loads: u32,
+    load: &Load,
+    room: &mut [u8],
+    times: &mut Times,
+) -> Result<(), BenchFault> {
+    for _ in 0..loads {
+        move_by_queue(rt, ends, load, room, times)?;
+    }
+    Ok(())
+}
+
+/// Frees a queue.
+fn free_ends<R: Clock>(rt: &R, ends: Ends, times: &mut Times) -> Result<(), BenchFault> {
+    let Ends { writer, reader } = ends;
+    let start = now(rt);
+    drop(writer);
+    drop(reader);
+    let end = now(rt)?;
+    times.add_freeing(start?, end);
+    Ok(())
+}
+
+/// Measures one queue of this shape: it is made, takes this many loads, and is freed.
+fn add_queue<R: AllocGlobal + Clock>(
+    rt: &R,
+    shape: Shape,
+    loads: u32,
+    load: &Load,
+    room: &mut [u8],
+    times: &mut Times,
+) -> Result<(), BenchFault> {
+    let mut ends = new_ends(rt, shape, times)?;
+    move_all_by_queue(rt, &mut ends, loads, load, room, times)?;
+    free_ends(rt, ends, times)
+}
+
 /// Measures queues without a shelf. Each is made once the one before it was freed.
 fn queues_times<R: AllocGlobal + Clock>(
     rt: &R,
@@ -247,22 +326,7 @@ fn queues_times<R: AllocGlobal + Clock>(
 ) -> Result<Times, BenchFault> {
     let mut times = Times::ZERO;
     for _ in 0..queues.count {
-        let start = now(rt)?;
-        let config = config_of(rt.alloc(), queues.shape)?;
-        let mut writer = Endpoint::create(rt.alloc(), config, MOMENT)?;
-        let mut reader = writer.split()?;
-        times.add_making(start, now(rt)?);
-        for _ in 0..queues.loads {
-            let start = now(rt)?;
-            append_to_queue(&mut writer, load)?;
-            let middle = now(rt)?;
-            read_from_queue(&mut reader, room, load.count)?;
-            times.add_calls(start, middle, now(rt)?);
-        }
-        let start = now(rt)?;
-        drop(writer);
-        drop(reader);
-        times.add_freeing(start, now(rt)?);
+        add_queue(rt, queues.shape, queues.loads, load, room, &mut times)?;
     }
     Ok(times)
 }
@@ -285,8 +349,8 @@ impl Turns {
         Ok(self.times.push(time)?)
     }
 
-    /// The best rate and the middle one, if this many messages took each of the times.
-    fn spread(mut self, count: u64) -> Result<Spread, BenchFault> {
+    /// The best rate and the middle one, if this many messages took each of the times. It sorts the times.
+    fn spread(&mut self, count: u64) -> Result<Spread, BenchFault> {
         self.times.sort_unstable();
         let times = self.times.as_slice();
         match (times.first(), times.get(times.len() / 2)) {
@@ -309,33 +373,90 @@ struct Rates {
     made: Spread,
 }
 
-/// Measures each way in turn.
+/// The times of each way, in all repetitions.
+#[derive(Drop)]
+struct Ways {
+    shelf: Turns,
+    queues: Turns,
+    large: Turns,
+    made: Turns,
+}
+
+impl Ways {
+    /// No time was measured yet.
+    fn new(alloc: Global) -> Ways {
+        Ways {
+            shelf: Turns::new(alloc),
+            queues: Turns::new(alloc),
+            large: Turns::new(alloc),
+            made: Turns::new(alloc),
+        }
+    }
+
+    /// Adds the times of one repetition.
+    fn push(
+        &mut self,
+        measured: Measured,
+        shelf: Times,
+        queues: Times,
+        large: Times,
+    ) -> Result<(), AllocError> {
+        self.shelf.push(shelf.whole(measured))?;
+        self.queues.push(queues.whole(measured))?;
+        self.large.push(large.whole(measured))?;
+        self.made.push(large.calls(measured))
+    }
+
+    /// The rates, if this many messages took each of the times.
+    fn rates(&mut self, count: u64) -> Result<Rates, BenchFault> {
+        Ok(Rates {
+            shelf: self.shelf.spread(count)?,
+            queues: self.queues.spread(count)?,
+            large: self.large.spread(count)?,
+            made: self.made.spread(count)?,
+        })
+    }
+}
+
+/// Measures each way in turn, once.
+fn add_turn<R: AllocGlobal + Clock>(
+    rt: &R,
+    measured: Measured,
+    plan: &Plan,
+    room: &mut [u8],
+    ways: &mut Ways,
+) -> Result<(), BenchFault> {
+    let shelf = shelf_times(rt, plan, room)?;
+    let queues = queues_times(rt, plan.small, &plan.load, room)?;
+    let large = queues_times(rt, plan.large, &plan.load, room)?;
+    Ok(ways.push(measured, shelf, queues, large)?)
+}
+
+/// Measures each way in turn, this many times.
+fn add_turns<R: AllocGlobal + Clock>(
+    rt: &R,
+    repetitions: u32,
+    measured: Measured,
+    plan: &Plan,
+    ways: &mut Ways,
+) -> Result<(), BenchFault> {
+    let mut room = Vec::from_elem(rt.alloc(), 0u8, plan.load.bytes.len())?;
+    for _ in 0..repetitions {
+        add_turn(rt, measured, plan, room.as_mut_slice(), ways)?;
+    }
+    Ok(())
+}
+
+/// Measures each way in turn, and returns the rates.
 fn rates_of<R: AllocGlobal + Clock>(
     rt: &R,
     repetitions: u32,
     measured: Measured,
     plan: &Plan,
 ) -> Result<Rates, BenchFault> {
-    let mut room = Vec::from_elem(rt.alloc(), 0u8, plan.load.bytes.len())?;
-    let mut shelf = Turns::new(rt.alloc());
-    let mut queues = Turns::new(rt.alloc());
-    let mut large = Turns::new(rt.alloc());
-    let mut made = Turns::new(rt.alloc());
-    for _ in 0..repetitions {
-        let room = room.as_mut_slice();
-        shelf.push(shelf_times(rt, plan, room)?.whole(measured))?;
-        queues.push(queues_times(rt, plan.small, &plan.load, room)?.whole(measured))?;
-        let times = queues_times(rt, plan.large, &plan.load, room)?;
-        large.push(times.whole(measured))?;
-        made.push(times.calls(measured))?;
-    }
-    let all = plan.all();
-    Ok(Rates {
-        shelf: shelf.spread(all)?,
-        queues: queues.spread(all)?,
-        large: large.spread(all)?,
-        made: made.spread(all)?,
-    })
+    let mut ways = Ways::new(rt.alloc());
+    add_turns(rt, repetitions, measured, plan, &mut ways)?;
+    ways.rates(plan.all())
 }
 
 /// Prints the lines of messages of this length.
