@@ -117,6 +117,13 @@ struct Load {
     bytes: Vec<u8>,
 }
 
+/// The loads that one queue takes.
+#[derive(Clone, Copy)]
+struct Loads<'a> {
+    load: &'a Load,
+    count: u32,
+}
+
 /// Queues without a shelf, one after the other.
 #[derive(Clone, Copy)]
 struct Queues {
@@ -277,17 +284,16 @@ fn move_by_queue<R: Clock>(
     Ok(())
 }
 
-/// Appends and reads this many loads.
+/// Appends and reads these loads, one after the other.
 fn move_all_by_queue<R: Clock>(
     rt: &R,
     ends: &mut Ends,
-    loads: u32,
-    load: &Load,
+    loads: Loads,
     room: &mut [u8],
     times: &mut Times,
 ) -> Result<(), BenchFault> {
-    for _ in 0..loads {
-        move_by_queue(rt, ends, load, room, times)?;
+    for _ in 0..loads.count {
+        move_by_queue(rt, ends, loads.load, room, times)?;
     }
     Ok(())
 }
@@ -303,17 +309,16 @@ fn free_ends<R: Clock>(rt: &R, ends: Ends, times: &mut Times) -> Result<(), Benc
     Ok(())
 }
 
-/// Measures one queue of this shape: it is made, takes this many loads, and is freed.
+/// Measures one queue of this shape: it is made, takes these loads, and is freed.
 fn add_queue<R: AllocGlobal + Clock>(
     rt: &R,
     shape: Shape,
-    loads: u32,
-    load: &Load,
+    loads: Loads,
     room: &mut [u8],
     times: &mut Times,
 ) -> Result<(), BenchFault> {
     let mut ends = new_ends(rt, shape, times)?;
-    move_all_by_queue(rt, &mut ends, loads, load, room, times)?;
+    move_all_by_queue(rt, &mut ends, loads, room, times)?;
     free_ends(rt, ends, times)
 }
 
@@ -324,9 +329,13 @@ fn queues_times<R: AllocGlobal + Clock>(
     load: &Load,
     room: &mut [u8],
 ) -> Result<Times, BenchFault> {
+    let loads = Loads {
+        load,
+        count: queues.loads,
+    };
     let mut times = Times::ZERO;
     for _ in 0..queues.count {
-        add_queue(rt, queues.shape, queues.loads, load, room, &mut times)?;
+        add_queue(rt, queues.shape, loads, room, &mut times)?;
     }
     Ok(times)
 }
