@@ -134,7 +134,10 @@ WANT = b"cq: want of memory\n"
 
 # The threads of these allocate in an order that depends on scheduling, and report of a call without memory that it
 # gave no message.
-THREADS = ["filling_tests", "growing_tests", "many_tests", "parts_tests", "sharing_tests", "thread_tests"]
+THREADS = [
+    "filling_tests", "growing_tests", "many_tests", "parts_tests", "sharing_tests", "thread_tests",
+    "waiting_tests::threads_end_the_wait_of_others",
+]  # fmt: skip
 
 # The tests that read one message into a buffer, and all of them.
 BUFFERS = [
@@ -277,7 +280,8 @@ def try_tests(crates, shim, room):
     for crate in crates:
         program = os.path.join(HERE, "crates", crate, "out", f"{crate}_tests")
         listed = subprocess.run([program, "--list"], capture_output=True, text=True, check=True).stdout
-        tests = [test for test in re.findall(r"^(\S+): test$", listed, re.M) if test.split("::")[0] not in THREADS]
+        tests = re.findall(r"^(\S+): test$", listed, re.M)
+        tests = [test for test in tests if not {test, test.split("::")[0]} & {*THREADS}]
         every, every_wrong = collections.Counter(), []
         for test in tests:
             ends, wrong = try_test(program, shim, room, test)
