@@ -17,6 +17,8 @@ mod fault_tests;
 #[cfg(test)]
 mod fold_tests;
 #[cfg(test)]
+mod logged_tests;
+#[cfg(test)]
 mod logs;
 #[cfg(test)]
 mod memory_tests;

@@ -1,5 +1,5 @@
-//! Starts the program `cq` several times, over a folder of the system with a queue. All that each start prints, its
-//! errors and its status go to standard output.
+//! Starts the program `cq` several times, over a folder of the system with a queue, and over two that have a log too. All that each
+//! start prints, its errors and its status go to standard output.
 #![tactic(auto)]
 
 use std::alloc::AllocError;
@@ -11,7 +11,7 @@ use std::rt::Files;
 use std::thread::Threads;
 
 /// The words of each start, after the program's name.
-const STARTS: [&[&str]; 21] = [
+const STARTS: [&[&str]; 30] = [
     &["read", "."],
     &["take", ".", "reader"],
     &["migrate", "."],
@@ -30,6 +30,15 @@ const STARTS: [&[&str]; 21] = [
     &["read", "nowhere"],
     &["dump", ".", "20241006.cqi"],
     &["salvage", ".", "20241005.cqi"],
+    &["read", "logged"],
+    &["check", "logged"],
+    &["take", "logged", "reader"],
+    &["check", "logged"],
+    &["write", "logged", "1728086400000"],
+    &["read", "logged", "--back"],
+    &["read", "other"],
+    &["drop", "other", "1"],
+    &["init", "other", "daily", "0", "64", "8", "1", "4"],
     &["take", "."],
     &["race", "10"],
     &["race", "1001"],

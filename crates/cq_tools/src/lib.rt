@@ -13,6 +13,7 @@
 //! | `Gate`, `OpenGate` | what `race` calls before and after each call of a worker |
 #![tactic(auto)]
 
+mod fault;
 mod starting;
 
 pub use cq_command_line::{ParseFault, parse};

@@ -3,7 +3,10 @@
 ghost use Rattle.std.specs.Prelude.{◌≡◌};
 ghost use Rattle.cq_orders.specs.OrderFolder.{IsRace};
 
+use crate::fault::StartFault;
 use cq_command_line::{ParseFault, parse};
+use cq_folder::LOG_FILE;
+use cq_logged::{LoggedFolder, SystemLock};
 use cq_orders::Order;
 use cq_race::{OpenGate, race};
 use cq_real_folder::RealFolder;
@@ -38,7 +41,7 @@ where
             let _ = eprintln!(errors; "error: an argument is not UTF-8 text");
             return NOT_UNDERSTOOD;
         }
-        Err(_) => return fault(errors, ToolFault::OutOfMemory),
+        Err(_) => return fault(errors, StartFault::Tool(ToolFault::OutOfMemory)),
     };
     let order = match parse(rt.alloc(), words.as_slice()) {
         Ok(order) => order,
@@ -46,7 +49,9 @@ where
             let _ = eprint!(errors; "{error}");
             return NOT_UNDERSTOOD;
         }
-        Err(ParseFault::OutOfMemory) => return fault(errors, ToolFault::OutOfMemory),
+        Err(ParseFault::OutOfMemory) => {
+            return fault(errors, StartFault::Tool(ToolFault::OutOfMemory));
+        }
     };
     match run(rt, process, &order) {
         Ok(()) => DONE,
@@ -55,7 +60,7 @@ where
 }
 
 /// Prints the error, and returns the exit status.
-fn fault<E: Eprint>(errors: &E, fault: ToolFault) -> u8
+fn fault<E: Eprint>(errors: &E, fault: StartFault) -> u8
     ensures { result ≡ FAULT }
 {
     let _ = eprintln!(errors; "cq: {fault}");
@@ -67,29 +72,36 @@ fn run<R: AllocGlobal + Files<File = File> + Input + Print + Threads + Sync + Cl
     rt: &R,
     process: u32,
     order: &Order,
-) -> Result<(), ToolFault> {
+) -> Result<(), StartFault> {
     match order {
-        Order::Race { messages } => race(rt, *messages, &OpenGate, &mut io::writer(rt)),
+        Order::Race { messages } => Ok(race(rt, *messages, &OpenGate, &mut io::writer(rt))?),
         _ => run_alone(rt, process, order),
     }
 }
 
-/// Runs an order for one caller.
+/// Runs an order for one caller, over a folder that is seen with what its log gives.
 fn run_alone<R: AllocGlobal + Files<File = File> + Input + Print + Clone + Drop>(
     rt: &R,
     process: u32,
     order: &Order,
-) -> Result<(), ToolFault>
+) -> Result<(), StartFault>
     requires { ¬ IsRace order.now }
 {
     let alloc = rt.alloc();
     let path = String::from_str(alloc, order.folder().unwrap_or(""))?;
-    let mut folder = RealFolder::new(rt, path, process);
-    cq_commands::run(
+    let lock = SystemLock::new(rt, format!(in alloc; "{path}/{LOG_FILE}")?);
+    let mut folder = LoggedFolder::new(alloc, RealFolder::new(rt, path, process), lock);
+    let done = cq_commands::run(
         alloc,
         order,
         &mut folder,
         &mut rt.reader(),
         &mut io::writer(rt),
-    )
+    );
+    let (_folder, cause) = folder.into_parts();
+    match (done, cause) {
+        (Ok(()), _) => Ok(()),
+        (Err(_), Some(cause)) => Err(StartFault::Log(cause)),
+        (Err(fault), None) => Err(StartFault::Tool(fault)),
+    }
 }

@@ -1,0 +1,49 @@
+//! The lock of a log in a folder of the system.
+use crate::{LogLock, LogUse};
+use cq_log_file::{FileCalls, OpenFault, SystemFile};
+use std::fs::File;
+use std::rt::Files;
+
+/// The lock of a log in a folder of the system (ours).
+#[derive(Drop)]
+pub struct SystemLock<'a, R: Files<File = File>> {
+    rt: &'a R,
+    /// The path of the log.
+    path: String,
+    found: LogUse,
+}
+
+impl<'a, R: Files<File = File>> SystemLock<'a, R> {
+    /// Makes the lock of the log at this path, which is that of `queue.log` in the folder of the queue.
+    pub fn new(rt: &'a R, path: String) -> SystemLock<'a, R> {
+        SystemLock {
+            rt,
+            path,
+            found: LogUse::Free,
+        }
+    }
+
+    /// Locks the log, if there is one, and lets it go.
+    fn try_lock(&self) -> Result<(), OpenFault> {
+        let mut file = match SystemFile::open(self.rt, self.path.as_str()) {
+            Ok(file) => file,
+            Err(OpenFault::Missing) => return Ok(()),
+            Err(fault) => return Err(fault),
+        };
+        file.lock()?;
+        Ok(())
+    }
+}
+
+impl<R: Files<File = File>> LogLock for SystemLock<'_, R> {
+    ghost found = { λ lock. lock.found };
+
+    fn look(&mut self) -> LogUse {
+        self.found = match self.try_lock() {
+            Ok(()) => LogUse::Free,
+            Err(OpenFault::Locked) => LogUse::InUse,
+            Err(fault) => LogUse::Failed(fault),
+        };
+        self.found
+    }
+}
