@@ -71,7 +71,7 @@ static ROWS: [&[Row]; 4] = [
         (
             LIVE,
             Text("queue.cqc"),
-            "cq 2\nroll daily\nepoch 0\ncells 64\ncount 8\nspacing 1\ncycles 4\nfloor 0\nname reader 1\n",
+            "cq 2\nroll daily\nepoch 0\ncells 64\ncount 8\nspacing 1\ncycles 4\nname reader 1\n",
         ),
         (
             LIVE,
