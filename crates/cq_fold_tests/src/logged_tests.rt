@@ -1,13 +1,16 @@
 //! Commands over a folder that is seen with what its log gives.
 use crate::logs::Frame::{Head, Turn};
 use crate::logs::Line::{Cycle, Message, Name};
+use crate::real_tests::new_folder;
 use crate::steps::Step::{self, Check, Log, Names, Put, Queue, Read, Take, Text, Write};
-use crate::steps::said_at;
+use crate::steps::{Steps, said_at};
 use cq_fixtures::{DAY, expect_answer};
 use cq_folder::MemoryFolder;
-use cq_log_file::OpenFault;
-use cq_logged::{LogLock, LogUse, LoggedFolder};
+use cq_log_file::{LogFile, OpenFault};
+use cq_logged::{LogFault, LogLock, LogUse, LoggedFolder, SystemLock};
+use cq_real_folder::RealFolder;
 use std::alloc::Global;
+use std::fs;
 use std::test::Fail;
 
 /// A lock of which each look finds this.
@@ -159,6 +162,14 @@ static ROWS: [&[Row]; 4] = [
     ],
 ];
 
+/// What is said, and then why the log kept the step out.
+fn with_cause(alloc: Global, said: String, cause: Option<LogFault>) -> Result<String, Fail> {
+    match cause {
+        None => Ok(said),
+        Some(cause) => Ok(format!(in alloc; "{said}: {cause}")?),
+    }
+}
+
 /// Takes a step over a folder that is seen with what its log gives. Returns the folder, and what is said.
 fn said_through(
     alloc: Global,
@@ -168,10 +179,8 @@ fn said_through(
 ) -> Result<(MemoryFolder, String), Fail> {
     let mut logged = LoggedFolder::new(alloc, folder, FixedLock { found });
     let said = said_at(alloc, &mut logged, step)?;
-    match logged.into_parts() {
-        (folder, None) => Ok((folder, said)),
-        (folder, Some(cause)) => Ok((folder, format!(in alloc; "{said}: {cause}")?)),
-    }
+    let (folder, cause) = logged.into_parts();
+    Ok((folder, with_cause(alloc, said, cause)?))
 }
 
 /// Takes a step over a folder. Returns the folder, and what is said.
@@ -208,5 +217,68 @@ fn commands_see_what_the_log_gives(rt: HostRuntime) -> Result<(), Fail> {
         let name = format!(in rt.alloc(); "table {number}")?;
         expect_rows(rt.alloc(), name.as_str(), rows)?;
     }
+    Ok(())
+}
+
+/// A folder of the system with a log of two turns.
+static MADE: Steps = &[
+    (Queue, ""),
+    (Write(0, b"a\n"), "0000000000000000\n"),
+    (TWO_TURNS, ""),
+];
+
+/// While another has the lock of the log.
+static LOCKED: Steps = &[
+    (
+        Read,
+        "0000000000000000 a\n0000000000000001 b\n0000000100000000 c\n",
+    ),
+    (
+        Take,
+        "cq: folder fault: a queue is live in this folder: wait until it is closed, or close it",
+    ),
+];
+
+/// Once nobody has it.
+static UNLOCKED: Steps = &[
+    (Take, "0000000000000001 b\n"),
+    (Names, "19700101.cqi 19700102.cqi queue.cqc queue.log "),
+    (Text("queue.log"), ""),
+];
+
+/// Takes a step over a folder of the system that is seen with its log, and returns what is said.
+fn said_there(rt: &HostRuntime, path: &str, step: Step) -> Result<String, Fail> {
+    let alloc = rt.alloc();
+    let folder = RealFolder::new(rt, String::from_str(alloc, path)?, 7);
+    let lock = SystemLock::new(rt, format!(in alloc; "{path}/queue.log")?);
+    let mut logged = LoggedFolder::new(alloc, folder, lock);
+    let said = said_at(alloc, &mut logged, step)?;
+    let (_folder, cause) = logged.into_parts();
+    with_cause(alloc, said, cause)
+}
+
+/// Takes these steps over a folder of the system. Fails if something else than wanted is said at one of them.
+fn expect_there(rt: &HostRuntime, path: &str, name: &str, steps: Steps) -> Result<(), Fail> {
+    for (place, &(step, want)) in steps.iter().enumerate() {
+        let said = said_there(rt, path, step)?;
+        expect_answer(name, place, said.as_str(), want)?;
+    }
+    Ok(())
+}
+
+/// Takes steps over a folder of the system while its log is locked.
+fn expect_locked(rt: &HostRuntime, path: &str) -> Result<(), Fail> {
+    let log = format!(in rt.alloc(); "{path}/queue.log")?;
+    let _held = LogFile::open(rt, log.as_str())?;
+    expect_there(rt, path, "locked", LOCKED)
+}
+
+#[test]
+fn a_lock_of_the_system_keeps_out_what_may_write(rt: HostRuntime) -> Result<(), Fail> {
+    let path = new_folder(&rt)?;
+    expect_there(&rt, path.as_str(), "made", MADE)?;
+    expect_locked(&rt, path.as_str())?;
+    expect_there(&rt, path.as_str(), "unlocked", UNLOCKED)?;
+    fs::remove_dir_all(&rt, path.as_str())?;
     Ok(())
 }

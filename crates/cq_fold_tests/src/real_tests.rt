@@ -72,13 +72,19 @@ fn put<R: Files + AllocGlobal>(rt: &R, path: &str, name: &str, text: &str) -> Re
     Ok(())
 }
 
+/// Makes a new folder for temporary files, and returns its path.
+pub(crate) fn new_folder(rt: &HostRuntime) -> Result<String, Fail> {
+    let within = env::temp_dir(rt)?;
+    let id = process::id(rt.process());
+    let path = format!(in rt.alloc(); "{}/cq_fold_{id}", within.display())?;
+    fs::create_dir(rt, path.as_str())?;
+    Ok(path)
+}
+
 #[test]
 fn a_log_in_a_folder_of_the_system_is_folded(rt: HostRuntime) -> Result<(), Fail> {
     let alloc = rt.alloc();
-    let within = env::temp_dir(&rt)?;
-    let id = process::id(rt.process());
-    let path = format!(in alloc; "{}/cq_fold_{id}", within.display())?;
-    fs::create_dir(&rt, path.as_str())?;
+    let path = new_folder(&rt)?;
     let mut folder = RealFolder::new(&rt, String::from_str(alloc, path.as_str())?, 7);
     expect_steps(alloc, "a folder of the system", &mut folder, REAL)?;
     folder.end();
