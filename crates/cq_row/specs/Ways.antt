@@ -1,7 +1,7 @@
 -- How an endpoint goes from one queue of a shelf to another.
 use Rattle.std.specs.Prelude.{Bool, true, false, ◌≡◌, ◌<◌, ℕ, ◌+◌, suc}
 use Rattle.std.specs.Arc.{arc_value}
-use Rattle.cq_endpoint.specs.Endpoints.{EndpointFacts, endpoint_of}
+use Rattle.cq_endpoint.specs.Endpoints.{EndpointFacts, child, endpoint_of, split_once}
 use Rattle.cq_row.specs.declared.place.Place.{Place}
 use Rattle.cq_row.specs.declared.place.Step.{Step}
 use Rattle.cq_row.specs.declared.place.Step.TheVariants as step
@@ -22,6 +22,13 @@ pub record Enters (row : Row) (n : ℕ) (p : Place) : Type 0 where
   pub row_is : arc_value p.row ≡ row
   pub number : p.number ≡ n
   pub fresh : IsFresh p.endpoint
+
+-- a place from which this one was split off: that is at the same queue, by an endpoint that was split off the one here once, and
+-- nothing else changed here
+pub record HasSplit (old new made : Place) : Type 0 where
+  pub row_is : arc_value made.row ≡ arc_value old.row
+  pub made_is : made ≡ record old { row = made.row; endpoint = endpoint_of old.endpoint.queue (child old.endpoint.parent) }
+  pub rest : new ≡ record old { endpoint = record old.endpoint { parent = split_once old.endpoint.parent } }
 
 -- where a step to the next queue led
 abbrev pub GoesOn : Place → Step → Place → Type 0

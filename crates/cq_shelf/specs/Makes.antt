@@ -5,13 +5,8 @@ use Rattle.cq_row.specs.Rows.{Declares, IsNameAt}
 use Rattle.cq_row.specs.Ways.{Enters}
 use Rattle.cq_row.specs.declared.fault.ShelfFault.{ShelfFault}
 use Rattle.cq_row.specs.declared.fault.ShelfFault.TheVariants.{Busy, NoSuchName, OutOfMemory}
-use Rattle.cq_row.specs.declared.place.Place.{Place}
 use Rattle.cq_row.specs.declared.row.Row.{Row}
 use Rattle.cq_shelf.specs.declared.taker.ShelfTaker.{ShelfTaker}
-
--- an endpoint from which another was split off: nothing of its place changed but the caller from which others are split off
-abbrev pub HasSplit : Place → Place → Type 0
-HasSplit old new = new ≡ record old { endpoint = record old.endpoint { parent = new.endpoint.parent } }
 
 -- a taker of this row by this name that has made no call yet
 pub record TakesBy (row : Row) (name : List ℕ) (t : ShelfTaker) : Type 0 where

@@ -126,9 +126,13 @@ TakenIn number (Ok (shelf_taken.Moved at)) = at.queue ≡ number
 TakenIn number (Ok (shelf_taken.Missed n)) = ⊤
 TakenIn number (Err e) = ⊤
 
+-- nothing of a taker changed but its place
+abbrev pub IsSameTaker : ShelfTaker → ShelfTaker → Type 0
+IsSameTaker old new = new ≡ record old { place = new.place }
+
 -- what `take` says
 abbrev pub TakenOn : ShelfTaker → ShelfTaker → Result ShelfTaken ShelfFault → Type 0
-TakenOn old new result = (new.name ≡ old.name)
+TakenOn old new result = IsSameTaker old new
     × Asks (takes_by (string_bytes old.name)) (here old.place []) (here new.place []) (taken_reply result)
     × TakenIn new.place.number result
 
@@ -163,13 +167,13 @@ TakenIntoIn number (Err e) = ⊤
 
 -- what `take_into` says
 abbrev pub TakenIntoOn : ShelfTaker → List ℕ → ShelfTaker → List ℕ → Result ShelfTakenInto ShelfFault → Type 0
-TakenIntoOn old room new full result = (new.name ≡ old.name)
+TakenIntoOn old room new full result = IsSameTaker old new
     × Asks (takes_into (string_bytes old.name)) (here old.place room) (here new.place full) (taken_into_reply result)
     × TakenIntoIn new.place.number result
 
 -- what `position` says of a taker: where the name is in the queue at which the taker is
-abbrev pub PositionOn : List ℕ → Place → Place → Result Position ShelfFault → Type 0
-PositionOn name old new (Ok at) = (at.queue ≡ new.number)
-    × Does (λ e f. TellsPosition e.queue e.tailer f.tailer name at.index × ChangesTailer e f) old new
-PositionOn name old new (Err e) = (e ≡ NoSuchName)
-    × Does (λ e f. NameFails e.queue e.tailer f.tailer name × ChangesTailer e f) old new
+abbrev pub PositionOn : ShelfTaker → ShelfTaker → Result Position ShelfFault → Type 0
+PositionOn old new (Ok at) = IsSameTaker old new × (at.queue ≡ new.place.number)
+    × Does (λ e f. TellsPosition e.queue e.tailer f.tailer (string_bytes old.name) at.index × ChangesTailer e f) old.place new.place
+PositionOn old new (Err e) = IsSameTaker old new × (e ≡ NoSuchName)
+    × Does (λ e f. NameFails e.queue e.tailer f.tailer (string_bytes old.name) × ChangesTailer e f) old.place new.place

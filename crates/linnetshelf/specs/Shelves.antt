@@ -9,14 +9,14 @@ use Rattle.cq_handle.specs.declared.held.ShelfUser.TheVariants as user
 use Rattle.cq_model.specs.Settings as model
 use Rattle.cq_row.specs.Faults.{IsRowFault}
 use Rattle.cq_row.specs.Rows.{IsFirstPlace}
-use Rattle.cq_row.specs.Ways.{Enters}
+use Rattle.cq_row.specs.Ways.{HasSplit}
 use Rattle.cq_row.specs.declared.fault.ShelfFault.{ShelfFault}
 use Rattle.cq_row.specs.declared.fault.ShelfFault.TheVariants.{NoSuchName, OutOfMemory}
 use Rattle.cq_row.specs.declared.place.Place.{Place}
 use Rattle.cq_row.specs.declared.place.Position.{Position}
 use Rattle.cq_row.specs.declared.row.AtLimit.{AtLimit}
 use Rattle.cq_row.specs.declared.row.AtLimit.TheVariants as limit
-use Rattle.cq_shelf.specs.Makes.{HasSplit, IsTakerFault, TakesBy}
+use Rattle.cq_shelf.specs.Makes.{IsTakerFault, TakesBy}
 use Rattle.cq_shelf.specs.Reads.{PositionOn}
 use Rattle.cq_shelf.specs.Seeks.{EndsNot, MovesOn, ReadsAtIntoOn, StaysThere, ToEnd, ToStart, turned}
 use Rattle.cq_shelf.specs.Ways.{Comes}
@@ -55,8 +55,7 @@ TellsPlace (user.Writer old) new answer = (answer ≡ shelf_plain status.WrongKi
 TellsPlace (user.Reader old) (user.Reader new) answer =
     (answer ≡ placed (position_of old.place.number old.place.endpoint.tailer.cursor) 0) × (new ≡ old)
 TellsPlace (user.Reader old) _ answer = ⊥
-TellsPlace (user.Taker old) (user.Taker new) answer =
-    Tells (PositionOn (string_bytes old.name) old.place new.place) place_answer answer
+TellsPlace (user.Taker old) (user.Taker new) answer = Tells (PositionOn old new) place_answer answer
 TellsPlace (user.Taker old) _ answer = ⊥
 
 -- the number of the queue of a writer or a reader was told; of a taker nothing
@@ -78,12 +77,10 @@ pub record GivesUser (Made : Result ShelfUser ShelfFault → Type 0) (old new : 
 
 -- another user of the kind of this one was split off it
 abbrev pub SplitsUser : ShelfUser → ShelfUser → Result ShelfUser ShelfFault → Type 0
-SplitsUser (user.Writer old) (user.Writer new) (Ok (user.Writer made)) =
-    Enters (arc_value old.place.row) old.place.number made.place × HasSplit old.place new.place
-SplitsUser (user.Writer old) (user.Writer new) (Err fault) = (fault ≡ OutOfMemory) × HasSplit old.place new.place
-SplitsUser (user.Reader old) (user.Reader new) (Ok (user.Reader made)) =
-    Enters (arc_value old.place.row) old.place.number made.place × HasSplit old.place new.place
-SplitsUser (user.Reader old) (user.Reader new) (Err fault) = (fault ≡ OutOfMemory) × HasSplit old.place new.place
+SplitsUser (user.Writer old) (user.Writer new) (Ok (user.Writer made)) = HasSplit old.place new.place made.place
+SplitsUser (user.Writer old) (user.Writer new) (Err fault) = (fault ≡ OutOfMemory) × (new.place ≡ old.place)
+SplitsUser (user.Reader old) (user.Reader new) (Ok (user.Reader made)) = HasSplit old.place new.place made.place
+SplitsUser (user.Reader old) (user.Reader new) (Err fault) = (fault ≡ OutOfMemory) × (new.place ≡ old.place)
 SplitsUser (user.Taker old) (user.Taker new) (Ok (user.Taker made)) =
     TakesBy (arc_value old.place.row) (string_bytes old.name) made × (new ≡ old)
 SplitsUser (user.Taker old) (user.Taker new) (Err fault) =
@@ -92,9 +89,8 @@ SplitsUser _ _ _ = ⊥
 
 -- a reader was made at the queue of a writer
 abbrev pub MakesReader : ShelfWriter → ShelfWriter → Result ShelfUser ShelfFault → Type 0
-MakesReader old new (Ok (user.Reader made)) =
-    Enters (arc_value old.place.row) old.place.number made.place × HasSplit old.place new.place
-MakesReader old new (Err fault) = (fault ≡ OutOfMemory) × HasSplit old.place new.place
+MakesReader old new (Ok (user.Reader made)) = HasSplit old.place new.place made.place
+MakesReader old new (Err fault) = (fault ≡ OutOfMemory) × (new.place ≡ old.place)
 MakesReader _ _ _ = ⊥
 
 -- why no taker was made by this name: it is no text, or the shelf refused it
