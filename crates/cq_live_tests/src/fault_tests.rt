@@ -1,9 +1,11 @@
 //! Queues that are not opened, and what is left of the files.
 use crate::folders::{images_text, make, put_log};
-use crate::life::{folder_with_a, opened, stored};
+use crate::life::{expect_turns, folder_with_a, opened, stored};
 use crate::torn_place::Matter;
-use cq_fixtures::{expect_answer, expect_text};
+use cq_fixtures::{expect, expect_answer, expect_text};
 use cq_folder::{Folder, MemoryFolder};
+use cq_live::{Live, LiveFault};
+use cq_log_tests::TornFile;
 use std::alloc::Global;
 use std::test::Fail;
 
@@ -74,38 +76,60 @@ static ROWS: [Row; 15] = [
     (Matter::Failing(8), UNBEGUN, FOLDED, 0),
 ];
 
+/// Why an opening failed.
+fn not_opened_text(
+    alloc: Global,
+    opened: &Result<Live<TornFile>, LiveFault>,
+) -> Result<String, Fail> {
+    match opened {
+        Ok(_) => Err(Fail::new(format_args!("no fault"))),
+        Err(fault) => Ok(format!(in alloc; "{fault}")?),
+    }
+}
+
+/// Why an opening fails.
+fn opening_text(alloc: Global, folder: &mut MemoryFolder, matter: Matter) -> Result<String, Fail> {
+    not_opened_text(alloc, &opened(alloc, folder, matter))
+}
+
 /// The fault of an opening. The folder is left then.
 fn fault_text(alloc: Global, folder: &mut MemoryFolder, matter: Matter) -> Result<String, Fail> {
-    match opened(alloc, folder, matter) {
-        Ok(_) => Err(Fail::new(format_args!("no fault"))),
-        Err(fault) => {
-            if folder.access().is_some() {
-                return Err(Fail::new(format_args!("the folder is not left")));
-            }
-            Ok(format!(in alloc; "{fault}")?)
-        }
-    }
+    let fault = opening_text(alloc, folder, matter)?;
+    expect(folder.access().is_none(), "the folder is left")?;
+    Ok(fault)
+}
+
+/// The log of a queue that was opened in a folder, and stored a message in one turn.
+fn log_in(alloc: Global, folder: &mut MemoryFolder) -> Result<Vec<u8>, Fail> {
+    let mut live = opened(alloc, folder, Matter::Nothing)?;
+    stored(alloc, &mut live, b"b")
 }
 
 /// A log of one turn, for a queue that holds "a".
 fn log_of_one_turn(alloc: Global) -> Result<Vec<u8>, Fail> {
     let mut folder = folder_with_a(alloc)?;
-    let mut live = opened(alloc, &mut folder, Matter::Nothing)?;
-    stored(alloc, &mut live, b"b")
+    log_in(alloc, &mut folder)
 }
 
 /// Opens a queue with such a log, which fails, and then again.
+fn expect_fault(
+    alloc: Global,
+    folder: &mut MemoryFolder,
+    number: usize,
+    row: &Row,
+) -> Result<(), Fail> {
+    let fault = fault_text(alloc, folder, row.0)?;
+    expect_answer("fault", number, fault.as_str(), row.1)?;
+    let images = images_text(alloc, folder)?;
+    expect_answer("images", number, images.as_str(), row.2)?;
+    expect_turns(alloc, folder, row.3)
+}
+
+/// The same in a new folder, which holds "a" and this log.
 fn expect_row(alloc: Global, log: &[u8], number: usize, row: &Row) -> Result<(), Fail> {
     let mut folder = folder_with_a(alloc)?;
     put_log(alloc, &mut folder, log)?;
-    let fault = fault_text(alloc, &mut folder, row.0)?;
-    expect_answer("fault", number, fault.as_str(), row.1)?;
-    let images = images_text(alloc, &mut folder)?;
-    expect_answer("images", number, images.as_str(), row.2)?;
-    if opened(alloc, &mut folder, Matter::Nothing)?.turns != row.3 {
-        return Err(Fail::new(format_args!("row {number}: other turns")));
-    }
-    Ok(())
+    expect_fault(alloc, &mut folder, number, row)
 }
 
 /// Each fault of the place and of its log leaves the files as they were, or folded.
@@ -118,6 +142,21 @@ fn a_fault_of_the_place_loses_nothing(rt: HostRuntime) -> Result<(), Fail> {
     Ok(())
 }
 
+/// Opens the queue of a folder where nothing is the matter with the place of the log. Fails if that does not fail with this fault.
+fn expect_refused(alloc: Global, folder: &mut MemoryFolder, want: &str) -> Result<(), Fail> {
+    expect_text(fault_text(alloc, folder, Matter::Nothing)?, want)
+}
+
+/// Opens the queue of a folder whose log is at fault. The images are as they were.
+fn expect_left(alloc: Global, folder: &mut MemoryFolder) -> Result<(), Fail> {
+    expect_refused(
+        alloc,
+        folder,
+        "the file is no log of a queue: read the log with the version that wrote it, or move it away to open the images alone",
+    )?;
+    expect_text(images_text(alloc, folder)?, KEPT)
+}
+
 /// A log at fault is not folded.
 #[test]
 fn a_log_at_fault_is_left(rt: HostRuntime) -> Result<(), Fail> {
@@ -125,11 +164,7 @@ fn a_log_at_fault_is_left(rt: HostRuntime) -> Result<(), Fail> {
     let mut folder = folder_with_a(alloc)?;
     put_log(alloc, &mut folder, b"\x01\x07\0\0\0no head\0")?;
     for _ in 0..2 {
-        expect_text(
-            fault_text(alloc, &mut folder, Matter::Nothing)?,
-            "the file is no log of a queue: read the log with the version that wrote it, or move it away to open the images alone",
-        )?;
-        expect_text(images_text(alloc, &mut folder)?, KEPT)?;
+        expect_left(alloc, &mut folder)?;
     }
     Ok(())
 }
@@ -139,13 +174,11 @@ fn a_log_at_fault_is_left(rt: HostRuntime) -> Result<(), Fail> {
 fn a_queue_without_a_cycle_is_refused(rt: HostRuntime) -> Result<(), Fail> {
     let alloc = rt.alloc();
     let mut folder = MemoryFolder::new(alloc);
-    expect_text(
-        fault_text(alloc, &mut folder, Matter::Nothing)?,
-        "no queue here",
-    )?;
+    expect_refused(alloc, &mut folder, "no queue here")?;
     make(alloc, &mut folder)?;
-    expect_text(
-        fault_text(alloc, &mut folder, Matter::Nothing)?,
+    expect_refused(
+        alloc,
+        &mut folder,
         "no cycle has begun in this queue: write a first message, and open the queue again",
     )
 }

@@ -4,6 +4,7 @@ use crate::torn_place::{Matter, TornPlace};
 use cq_endpoint::{Endpoint, Taken};
 use cq_fixtures::message_or_none;
 use cq_folder::MemoryFolder;
+use cq_kept::KeptQueue;
 use cq_live::{Live, LiveFault, open};
 use cq_log_tests::TornFile;
 use std::alloc::Global;
@@ -27,6 +28,18 @@ pub(crate) fn opened(
     open(alloc, folder, &mut place)
 }
 
+/// Opens the queue of a folder, and fails unless this many turns were played. Nothing is the matter with the place of its log.
+pub(crate) fn expect_turns(
+    alloc: Global,
+    folder: &mut MemoryFolder,
+    turns: usize,
+) -> Result<(), Fail> {
+    if opened(alloc, folder, Matter::Nothing)?.turns == turns {
+        return Ok(());
+    }
+    Err(Fail::new(format_args!("not {turns} turns")))
+}
+
 /// What "reader" takes.
 fn taken(alloc: Global, endpoint: &mut Endpoint) -> Result<String, Fail> {
     let found = match endpoint.take(alloc, "reader")? {
@@ -47,6 +60,13 @@ pub(crate) fn opened_text(
     Ok(format!(in alloc; "{turns} turns: {first}, {second}")?)
 }
 
+/// Stores what came. Returns the bytes of the log then.
+fn log_of(alloc: Global, kept: &mut KeptQueue<TornFile>) -> Result<Vec<u8>, Fail> {
+    kept.turn(alloc)?;
+    kept.settle()?;
+    Ok(kept.keeper().log().device().bytes().to_vec(alloc)?)
+}
+
 /// Appends a message and stores it. Returns the bytes of the log then.
 pub(crate) fn stored(
     alloc: Global,
@@ -54,8 +74,5 @@ pub(crate) fn stored(
     bytes: &[u8],
 ) -> Result<Vec<u8>, Fail> {
     live.endpoint.append(0, bytes)?;
-    live.kept.turn(alloc)?;
-    live.kept.settle()?;
-    let log = live.kept.keeper().log().device().bytes();
-    Ok(log.to_vec(alloc)?)
+    log_of(alloc, &mut live.kept)
 }

@@ -2,7 +2,7 @@
 use crate::example::{append_stored, opened};
 use crate::folders::{images_text, make, write_a};
 use crate::life::opened_text;
-use cq_fixtures::{contents_text, expect_text};
+use cq_fixtures::{contents_text, expect, expect_text};
 use cq_live::{Closed, Live, LiveFault, NotClosed, SystemPlace, close, open};
 use cq_log_file::LogFile;
 use cq_real_folder::RealFolder;
@@ -24,19 +24,33 @@ fn folder_at<'a>(rt: &'a HostRuntime, path: &str) -> Result<RealFolder<'a, HostR
     Ok(RealFolder::new(rt, String::from_str(rt.alloc(), path)?, 7))
 }
 
-/// Opens the queue of a folder.
-fn opened_at(rt: &HostRuntime, path: &str) -> Result<Result<Live<LogFile>, LiveFault>, Fail> {
-    let mut folder = folder_at(rt, path)?;
-    let log = format!(in rt.alloc(); "{path}/queue.log")?;
-    let mut place = SystemPlace::new(rt, log);
-    Ok(open(rt.alloc(), &mut folder, &mut place))
+/// The path of the log in a folder.
+fn log_path(alloc: Global, path: &str) -> Result<String, Fail> {
+    Ok(format!(in alloc; "{path}/queue.log")?)
 }
 
-/// What is said of an opening, and the queue.
+/// Whether an opening found the queue in use.
+fn found_in_use(opened: &Result<Live<LogFile>, LiveFault>) -> bool {
+    matches!(opened, Err(LiveFault::InUse))
+}
+
+/// Whether the queue of a folder is not opened, since it is in use.
+fn is_in_use(rt: &HostRuntime, path: &str) -> Result<bool, Fail> {
+    let log = log_path(rt.alloc(), path)?;
+    let mut folder = folder_at(rt, path)?;
+    let mut place = SystemPlace::new(rt, log);
+    Ok(found_in_use(&open(rt.alloc(), &mut folder, &mut place)))
+}
+
+/// Fails if an opening does not say what is wanted.
+fn expect_said(alloc: Global, live: &mut Live<LogFile>, want: &str) -> Result<(), Fail> {
+    expect_text(opened_text(alloc, live.turns, &mut live.endpoint)?, want)
+}
+
+/// Opens the queue of a folder. Fails if that does not say what is wanted.
 fn said_at(rt: &HostRuntime, path: &str, want: &str) -> Result<Live<LogFile>, Fail> {
     let mut live = opened(rt, path)?;
-    let turns = live.turns;
-    expect_text(opened_text(rt.alloc(), turns, &mut live.endpoint)?, want)?;
+    expect_said(rt.alloc(), &mut live, want)?;
     Ok(live)
 }
 
@@ -46,20 +60,22 @@ fn images_at(rt: &HostRuntime, path: &str) -> Result<String, Fail> {
     images_text(rt.alloc(), &mut folder)
 }
 
+/// The bytes of the log in a folder.
+fn log_at(rt: &HostRuntime, path: &str) -> Result<Vec<u8>, Fail> {
+    let log = log_path(rt.alloc(), path)?;
+    Ok(fs::read(rt, log.as_str())?)
+}
+
 /// Opens a folder whose queue is live: it is in use, and no file changes.
 fn expect_in_use(rt: &HostRuntime, path: &str) -> Result<(), Fail> {
-    let before = images_at(rt, path)?;
-    let log = format!(in rt.alloc(); "{path}/queue.log")?;
-    let bytes = fs::read(rt, log.as_str())?;
-    match opened_at(rt, path)? {
-        Err(LiveFault::InUse) => {}
-        _ => return Err(Fail::new(format_args!("not in use"))),
-    }
-    expect_text(images_at(rt, path)?, before.as_str())?;
-    if fs::read(rt, log.as_str())?.as_slice() == bytes.as_slice() {
-        return Ok(());
-    }
-    Err(Fail::new(format_args!("the log changed")))
+    let images = images_at(rt, path)?;
+    let log = log_at(rt, path)?;
+    expect(is_in_use(rt, path)?, "the queue is in use")?;
+    expect_text(images_at(rt, path)?, images.as_str())?;
+    expect(
+        log_at(rt, path)?.as_slice() == log.as_slice(),
+        "the log is as it was",
+    )
 }
 
 /// Appends a message, and puts it to the log.
@@ -76,15 +92,21 @@ fn put_two(alloc: Global, live: &mut Live<LogFile>) -> Result<(), Fail> {
     put(alloc, live, b"c")
 }
 
-/// A queue is live, and its process ends without a close.
-fn crash(rt: &HostRuntime, path: &str) -> Result<(), Fail> {
-    let mut live = said_at(rt, path, "0 turns: 0 a, none")?;
-    put_two(rt.alloc(), &mut live)?;
+/// What a queue does until its process ends without a close.
+fn live_on(rt: &HostRuntime, path: &str, live: &mut Live<LogFile>) -> Result<(), Fail> {
+    expect_said(rt.alloc(), live, "0 turns: 0 a, none")?;
+    put_two(rt.alloc(), live)?;
     expect_in_use(rt, path)
 }
 
-/// Closes a queue that is live in a folder.
-fn closed_text(alloc: Global, closed: Result<Closed, NotClosed<LogFile>>) -> Result<String, Fail> {
+/// A queue is live, and its process ends without a close.
+fn crash(rt: &HostRuntime, path: &str) -> Result<(), Fail> {
+    let mut live = opened(rt, path)?;
+    live_on(rt, path, &mut live)
+}
+
+/// What a closing says.
+fn closed_text(alloc: Global, closed: &Result<Closed, NotClosed<LogFile>>) -> Result<String, Fail> {
     match closed {
         Ok(closed) => {
             let held = contents_text(alloc, &closed.found.contents)?;
@@ -95,27 +117,64 @@ fn closed_text(alloc: Global, closed: Result<Closed, NotClosed<LogFile>>) -> Res
     }
 }
 
-/// The queue goes on from what was stored, and is closed.
-fn go_on(rt: &HostRuntime, path: &str) -> Result<(), Fail> {
+/// Closes a queue that is live in a folder, and whose endpoint is still there. Returns what that says.
+fn closing_text(
+    alloc: Global,
+    live: Live<LogFile>,
+    folder: &mut RealFolder<HostRuntime>,
+) -> Result<String, Fail> {
+    closed_text(alloc, &close(alloc, live.kept, folder))
+}
+
+/// The queue goes on from what was stored.
+fn goes_on(rt: &HostRuntime, path: &str) -> Result<Live<LogFile>, Fail> {
     let mut live = said_at(rt, path, "1 turns: 1 b, none")?;
     live.endpoint.append(0, b"d")?;
+    Ok(live)
+}
+
+/// The queue goes on from what was stored, and is closed.
+fn go_on(rt: &HostRuntime, path: &str) -> Result<(), Fail> {
     let mut folder = folder_at(rt, path)?;
-    let said = closed_text(rt.alloc(), close(rt.alloc(), live.kept, &mut folder))?;
+    let live = goes_on(rt, path)?;
+    let said = closing_text(rt.alloc(), live, &mut folder)?;
     expect_text(said, "0[a;b;d;] at [2], end 3")
+}
+
+/// Opens the queue of a folder, and lets it end without a close.
+fn expect_opened(rt: &HostRuntime, path: &str, want: &str) -> Result<(), Fail> {
+    let mut live = opened(rt, path)?;
+    expect_said(rt.alloc(), &mut live, want)
+}
+
+/// Makes the queue of a folder, with the message "a".
+fn make_with_a(rt: &HostRuntime, path: &str) -> Result<(), Fail> {
+    let mut folder = folder_at(rt, path)?;
+    make(rt.alloc(), &mut folder)?;
+    write_a(rt.alloc(), &mut folder)
+}
+
+/// The example appends a message to a queue that was closed. The next opening has it.
+fn expect_appended(rt: &HostRuntime, path: &str) -> Result<(), Fail> {
+    expect_opened(rt, path, "0 turns: 2 d, none")?;
+    let index = append_stored(rt, path, 0, b"e")?;
+    expect(index.value() == 3, "the message has the index 3")?;
+    expect_opened(rt, path, "1 turns: 2 d, 3 e")
+}
+
+/// Lives of the queue of a folder: one with a crash, one that is closed, and more.
+fn expect_lives(rt: &HostRuntime, path: &str) -> Result<(), Fail> {
+    crash(rt, path)?;
+    go_on(rt, path)?;
+    expect_text(images_at(rt, path)?, "0[a;b;d;] at [2]")?;
+    expect_appended(rt, path)
 }
 
 #[test]
 fn a_live_queue_survives_a_crash(rt: HostRuntime) -> Result<(), Fail> {
     let path = new_folder(&rt)?;
-    let mut folder = folder_at(&rt, path.as_str())?;
-    make(rt.alloc(), &mut folder)?;
-    write_a(rt.alloc(), &mut folder)?;
-    crash(&rt, path.as_str())?;
-    go_on(&rt, path.as_str())?;
-    expect_text(images_at(&rt, path.as_str())?, "0[a;b;d;] at [2]")?;
-    drop(said_at(&rt, path.as_str(), "0 turns: 2 d, none")?);
-    assert_eq!(rt; append_stored(&rt, path.as_str(), 0, b"e")?.value(), 3);
-    drop(said_at(&rt, path.as_str(), "1 turns: 2 d, 3 e")?);
+    make_with_a(&rt, path.as_str())?;
+    expect_lives(&rt, path.as_str())?;
     fs::remove_dir_all(&rt, path.as_str())?;
     Ok(())
 }
