@@ -3,9 +3,9 @@ use crate::logs::Frame::{Head, Turn};
 use crate::logs::Line::{Cycle, Message, Name};
 use crate::real_tests::new_folder;
 use crate::steps::Step::{self, Check, Log, Names, Put, Queue, Read, Take, Text, Write};
-use crate::steps::{Steps, said_at};
+use crate::steps::{Steps, folder_after, said_at};
 use cq_fixtures::{DAY, expect_answer};
-use cq_folder::MemoryFolder;
+use cq_folder::{FailingFolder, MemoryFolder};
 use cq_log_file::{LogFile, OpenFault};
 use cq_logged::{LogFault, LogLock, LogUse, LoggedFolder, SystemLock};
 use cq_real_folder::RealFolder;
@@ -142,8 +142,16 @@ static ROWS: [&[Row]; 4] = [
             "cq: folder fault: the file is no log of a queue: read the log with the version that wrote it, or move it away to open the images alone",
         ),
         (Sight::Plain, Put("19700101.cqi", b"a"), ""),
-        (LIVE, Read, "cq: 19700101.cqi: Cut at 0"),
-        (LIVE, Check, "19700101.cqi: Cut at 0\ncq: images at fault"),
+        (
+            LIVE,
+            Read,
+            "cq: 19700101.cqi: Cut at 0: the log is not shown: 19700101.cqi: Cut at 0",
+        ),
+        (
+            LIVE,
+            Check,
+            "19700101.cqi: Cut at 0\ncq: images at fault: the log is not shown: 19700101.cqi: Cut at 0",
+        ),
         (FREE, Take, "cq: folder fault: 19700101.cqi: Cut at 0"),
         (Sight::Plain, Text("queue.log"), "\u{1}\u{7}\0\0\0no head\0"),
     ],
@@ -153,9 +161,13 @@ static ROWS: [&[Row]; 4] = [
         (
             FREE,
             Queue,
-            "cq: folder fault: this folder has a log, queue.log, and no queue: move the log away, and try again",
+            "cq: folder fault: this folder has a log, queue.log, and no queue: restore queue.cqc and the images, or move the log away",
         ),
-        (LIVE, Read, "cq: no queue here"),
+        (
+            LIVE,
+            Read,
+            "cq: no queue here: the log is not shown: no queue here",
+        ),
         (Sight::Plain, Put("queue.log", b""), ""),
         (FREE, Queue, ""),
         (FREE, Read, ""),
@@ -217,6 +229,44 @@ fn commands_see_what_the_log_gives(rt: HostRuntime) -> Result<(), Fail> {
         let name = format!(in rt.alloc(); "table {number}")?;
         expect_rows(rt.alloc(), name.as_str(), rows)?;
     }
+    Ok(())
+}
+
+/// What `read` says over a folder with a log of two turns, of which the call with this number fails.
+fn said_failing(alloc: Global, number: u64) -> Result<String, Fail> {
+    let steps = [Queue, Write(0, b"a\n"), TWO_TURNS];
+    let folder = FailingFolder::new(folder_after(alloc, &steps)?, number);
+    let mut logged = LoggedFolder::new(
+        alloc,
+        folder,
+        FixedLock {
+            found: LogUse::InUse,
+        },
+    );
+    let said = said_at(alloc, &mut logged, Read)?;
+    let (_folder, cause) = logged.into_parts();
+    with_cause(alloc, said, cause)
+}
+
+/// A read of a folder with a log makes fewer calls of the folder.
+const MOST_CALLS: u64 = 24;
+
+/// What `read` says if no call fails.
+const ALL_THREE: &str = "0000000000000000 a\n0000000000000001 b\n0000000100000000 c\n";
+
+/// No message is left out where a call of the folder fails: either all are read, or the fault is said.
+#[test]
+fn a_call_that_fails_hides_no_message(rt: HostRuntime) -> Result<(), Fail> {
+    let mut faults = 0;
+    for number in 1..=MOST_CALLS {
+        let said = said_failing(rt.alloc(), number)?;
+        if said.as_str().starts_with("cq: f") {
+            faults += 1;
+        } else {
+            expect_answer("failing", number as usize, said.as_str(), ALL_THREE)?;
+        }
+    }
+    assert!(rt; 8 < faults && faults < MOST_CALLS);
     Ok(())
 }
 

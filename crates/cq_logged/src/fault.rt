@@ -14,11 +14,14 @@ pub enum LogFault {
     #[error("the log is not opened: {0}")]
     Lock(OpenFault),
     /// The folder has a log with bytes, and no queue.
-    #[error("this folder has a log, queue.log, and no queue: move the log away, and try again")]
+    #[error("this folder has a log, queue.log, and no queue: restore queue.cqc and the images, or move the log away")]
     NoQueue,
-    /// The log is at fault or goes on from other images, or it could not be folded.
+    /// The log is at fault or goes on from other images, or the queue of the images could not be opened, or the log could not be folded.
     #[error("{0}")]
     Fold(FoldFault),
+    /// A command that only reads sees the files without the log, since the queue of the images cannot be opened. It keeps none out.
+    #[error("the log is not shown: {0}")]
+    NotShown(ToolFault),
 }
 
 /// Why a command did not enter a folder.

@@ -1,4 +1,4 @@
-//! Starts the program `cq` several times, over a folder of the system with a queue, and over two that have a log too. All that each
+//! Starts the program `cq` several times, over a folder of the system with a queue, and over three that have a log too. All that each
 //! start prints, its errors and its status go to standard output.
 #![tactic(auto)]
 
@@ -11,7 +11,7 @@ use std::rt::Files;
 use std::thread::Threads;
 
 /// The words of each start, after the program's name.
-const STARTS: [&[&str]; 30] = [
+const STARTS: [&[&str]; 32] = [
     &["read", "."],
     &["take", ".", "reader"],
     &["migrate", "."],
@@ -36,6 +36,8 @@ const STARTS: [&[&str]; 30] = [
     &["check", "logged"],
     &["write", "logged", "1728086400000"],
     &["read", "logged", "--back"],
+    &["check", "broken"],
+    &["salvage", "broken", "20241004.cqi"],
     &["read", "other"],
     &["drop", "other", "1"],
     &["init", "other", "daily", "0", "64", "8", "1", "4"],

@@ -6,7 +6,7 @@ ghost use Rattle.cq_orders.specs.OrderFolder.{IsRace};
 use crate::fault::StartFault;
 use cq_command_line::{ParseFault, parse};
 use cq_folder::LOG_FILE;
-use cq_logged::{LoggedFolder, SystemLock};
+use cq_logged::{LogFault, LoggedFolder, SystemLock};
 use cq_orders::Order;
 use cq_race::{OpenGate, race};
 use cq_real_folder::RealFolder;
@@ -53,7 +53,7 @@ where
             return fault(errors, StartFault::Tool(ToolFault::OutOfMemory));
         }
     };
-    match run(rt, process, &order) {
+    match run(rt, errors, process, &order) {
         Ok(()) => DONE,
         Err(error) => fault(errors, error),
     }
@@ -68,23 +68,22 @@ fn fault<E: Eprint>(errors: &E, fault: StartFault) -> u8
 }
 
 /// Runs an order, over the folder that it names and the standard streams.
-fn run<R: AllocGlobal + Files<File = File> + Input + Print + Threads + Sync + Clone + Drop>(
-    rt: &R,
-    process: u32,
-    order: &Order,
-) -> Result<(), StartFault> {
+fn run<R, E>(rt: &R, errors: &E, process: u32, order: &Order) -> Result<(), StartFault>
+where
+    R: AllocGlobal + Files<File = File> + Input + Print + Threads + Sync + Clone + Drop,
+    E: Eprint,
+{
     match order {
         Order::Race { messages } => Ok(race(rt, *messages, &OpenGate, &mut io::writer(rt))?),
-        _ => run_alone(rt, process, order),
+        _ => run_alone(rt, errors, process, order),
     }
 }
 
-/// Runs an order for one caller, over a folder that is seen with what its log gives.
-fn run_alone<R: AllocGlobal + Files<File = File> + Input + Print + Clone + Drop>(
-    rt: &R,
-    process: u32,
-    order: &Order,
-) -> Result<(), StartFault>
+/// Runs an order for one caller, over a folder that is seen with what its log gives. If the log is not shown, `errors` says so.
+fn run_alone<R, E>(rt: &R, errors: &E, process: u32, order: &Order) -> Result<(), StartFault>
+where
+    R: AllocGlobal + Files<File = File> + Input + Print + Clone + Drop,
+    E: Eprint,
     requires { ¬ IsRace order.now }
 {
     let alloc = rt.alloc();
@@ -99,9 +98,12 @@ fn run_alone<R: AllocGlobal + Files<File = File> + Input + Print + Clone + Drop>
         &mut io::writer(rt),
     );
     let (_folder, cause) = folder.into_parts();
-    match (done, cause) {
-        (Ok(()), _) => Ok(()),
-        (Err(_), Some(cause)) => Err(StartFault::Log(cause)),
-        (Err(fault), None) => Err(StartFault::Tool(fault)),
+    match cause {
+        None => done.map_err(StartFault::Tool),
+        Some(LogFault::NotShown(fault)) => {
+            let _ = eprintln!(errors; "cq: {}", LogFault::NotShown(fault));
+            done.map_err(StartFault::Tool)
+        }
+        Some(cause) => done.map_err(|_| StartFault::Log(cause)),
     }
 }
