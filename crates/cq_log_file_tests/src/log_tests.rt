@@ -1,10 +1,14 @@
 //! A log in a file of the system, and what it leaves where a call of the system fails.
+ghost use Rattle.std.specs.Prelude.{◌≡◌, [], None};
+ghost use Rattle.cq_log.specs.Device.{Only};
 ghost use Rattle.cq_log.specs.Log.{IsSound};
 
 use crate::FailingFile;
 use crate::places::{new_folder, within};
+use cq_fixtures::expect_row;
 use cq_log::{Device, Log, read_frames};
 use cq_log_file::{LogFile, LogFileOf, OpenFault, SystemFile};
+use std::alloc::Global;
 use std::fs;
 use std::test::Fail;
 
@@ -66,29 +70,43 @@ fn put_all<D: Device>(log: &mut Log<D>) -> (usize, bool)
     }
 }
 
-/// Makes a log in a new file of which a call fails, and puts the frames. Returns the number of frames that are stored by its
-/// answers, whether a call failed, and whether the log has stopped. Out of memory ends it.
-fn put_at(rt: &HostRuntime, path: &str, failing: u64) -> Result<(usize, bool, bool), OpenFault> {
-    let file = FailingFile::new(SystemFile::create(rt, path)?, failing);
-    let file = match LogFileOf::begin_empty(file, rt.alloc()) {
-        Ok(file) => file,
-        Err(error) if matches!(error.fault, OpenFault::OutOfMemory) => return Err(error.fault),
-        Err(_) => return Ok((0, true, true)),
-    };
-    match Log::create(file) {
+/// Puts the frames to a log, and then one more. Returns the number of frames that are stored by the answers to the first ones,
+/// whether a call of these failed, and whether the log has stopped.
+fn put_and_stop<D: Device>(log: &mut Log<D>) -> (usize, bool, bool)
+    requires { IsSound D.seen D.may_leave D.fault log.old }
+{
+    let (stored, has_failed) = put_all(log);
+    (stored, has_failed, log.push(b"late").is_err())
+}
+
+/// Does the same with a new log on a device, whose file is empty.
+fn put_to<D: Device + Drop>(device: D) -> (usize, bool, bool)
+    requires usable { D.fault device ≡ None }
+    requires empty { D.seen device ≡ [] }
+    requires durable { Only [] (D.may_leave device) }
+{
+    match Log::create(device) {
         Ok(log) => {
             let mut log = log;
-            let (stored, has_failed) = put_all(&mut log);
-            Ok((stored, has_failed, log.push(b"late").is_err()))
+            put_and_stop(&mut log)
         }
+        Err(_) => (0, true, true),
+    }
+}
+
+/// Does the same in a new file of which a call fails. Out of memory ends it.
+fn put_at(rt: &HostRuntime, path: &str, failing: u64) -> Result<(usize, bool, bool), OpenFault> {
+    let file = FailingFile::new(SystemFile::create(rt, path)?, failing);
+    match LogFileOf::begin_empty(file, rt.alloc()) {
+        Ok(file) => Ok(put_to(file)),
+        Err(error) if matches!(error.fault, OpenFault::OutOfMemory) => Err(error.fault),
         Err(_) => Ok((0, true, true)),
     }
 }
 
-/// Returns the number of frames in a file; `None` if they are not the first of those that were put.
-fn count_at(rt: &HostRuntime, path: &str) -> Result<Option<usize>, Fail> {
-    let found = LogFile::open(rt, path)?;
-    let frames = read_frames(rt.alloc(), &found.bytes)?.frames;
+/// Returns the number of frames in these bytes; `None` if they are not the first of those that were put.
+fn count_in(alloc: Global, bytes: &[u8]) -> Result<Option<usize>, Fail> {
+    let frames = read_frames(alloc, bytes)?.frames;
     let are_first = frames
         .iter()
         .zip(FRAMES.iter())
@@ -96,17 +114,42 @@ fn count_at(rt: &HostRuntime, path: &str) -> Result<Option<usize>, Fail> {
     Ok((are_first && frames.len() <= FRAMES.len()).then_some(frames.len()))
 }
 
+/// Returns the number of frames in a file; `None` if they are not the first of those that were put.
+fn count_at(rt: &HostRuntime, path: &str) -> Result<Option<usize>, Fail> {
+    let found = LogFile::open(rt, path)?;
+    count_in(rt.alloc(), &found.bytes)
+}
+
+/// Puts the frames to a new file of which a call fails. Fails if the answers are not as wanted, or if other frames are read. The file
+/// is removed then.
+fn expect_stored(
+    rt: &HostRuntime,
+    path: &str,
+    failing: u64,
+    stored: usize,
+    read: usize,
+) -> Result<(), Fail> {
+    let has_failed = failing != 0;
+    let answers = put_at(rt, path, failing)?;
+    expect_row(answers == (stored, has_failed, has_failed), failing)?;
+    expect_row(count_at(rt, path)? == Some(read), failing)?;
+    fs::remove_file(rt, path)?;
+    Ok(())
+}
+
+/// Puts the frames again and again, each time to a new file at this path.
+fn expect_each_stored(rt: &HostRuntime, path: &str) -> Result<(), Fail> {
+    for &(failing, stored, read) in &FAILURES {
+        expect_stored(rt, path, failing, stored, read)?;
+    }
+    Ok(())
+}
+
 #[test]
 fn what_is_stored_is_there(rt: HostRuntime) -> Result<(), Fail> {
     let folder = new_folder(&rt, "log_frames")?;
     let path = within(&rt, &folder, "a")?;
-    for &(failing, stored, read) in &FAILURES {
-        let put = put_at(&rt, &path, failing)?;
-        let has_failed = failing != 0;
-        assert_eq!(rt; put, (stored, has_failed, has_failed), "at {failing}");
-        assert_eq!(rt; count_at(&rt, &path)?, Some(read), "at {failing}");
-        fs::remove_file(&rt, path.as_str())?;
-    }
+    expect_each_stored(&rt, &path)?;
     fs::remove_dir_all(&rt, folder.as_str())?;
     Ok(())
 }
