@@ -129,9 +129,11 @@ fn work<R: AllocGlobal + Clock + Print>(
 ) -> Result<Done, BenchFault> {
     match worker {
         Worker::Watch => watch(rt, settings, tally).map(|()| Done::Watched),
-        Worker::Write(writer, name) => write(rt.alloc(), tally, writer, name).map(Done::Wrote),
-        Worker::Read(reader) => read(tally, reader).map(Done::Read),
-        Worker::Take(taker) => take(rt.alloc(), tally, taker).map(Done::Took),
+        Worker::Write(mut writer, name) => {
+            write(rt.alloc(), tally, &mut writer, name).map(Done::Wrote)
+        }
+        Worker::Read(mut reader) => read(tally, &mut reader).map(Done::Read),
+        Worker::Take(mut taker) => take(rt.alloc(), tally, &mut taker).map(Done::Took),
     }
 }
 

@@ -31,12 +31,12 @@ fn number_of(message: &[u8]) -> Result<u64, BenchFault> {
 pub fn write(
     alloc: Global,
     tally: &Tally,
-    mut writer: ShelfWriter,
+    writer: &mut ShelfWriter,
     name: u64,
 ) -> Result<Account, BenchFault> {
-    let written = write_messages(alloc, tally, &mut writer, name);
+    let written = write_messages(alloc, tally, writer, name);
     if tally.is_last_writer() {
-        close(&mut writer)?;
+        close(writer)?;
     }
     written
 }
@@ -78,7 +78,7 @@ fn close(writer: &mut ShelfWriter) -> Result<(), BenchFault> {
 }
 
 /// Reads messages into a buffer until the shelf is closed, and returns them. They are each message of each writer, in order.
-pub fn read(tally: &Tally, mut reader: ShelfReader) -> Result<Account, BenchFault> {
+pub fn read(tally: &Tally, reader: &mut ShelfReader) -> Result<Account, BenchFault> {
     let mut read = Account::NONE;
     let mut order = Order::new();
     let mut room = [0u8; LENGTH];
@@ -102,7 +102,7 @@ pub fn read(tally: &Tally, mut reader: ShelfReader) -> Result<Account, BenchFaul
 }
 
 /// Takes messages as owned copies until the shelf is closed, and returns them. Those of each writer come in order.
-pub fn take(alloc: Global, tally: &Tally, mut taker: ShelfTaker) -> Result<Account, BenchFault> {
+pub fn take(alloc: Global, tally: &Tally, taker: &mut ShelfTaker) -> Result<Account, BenchFault> {
     let mut taken = Account::NONE;
     let mut order = Order::new();
     let mut tries = 0u32;
