@@ -4,6 +4,7 @@ use crate::logs::Line::{Cycle, Floor, Message, Name};
 use crate::steps::Step::{self, Cut, Fold, Log, Queue, Text, Write};
 use crate::steps::{folder_after, said_at};
 use cq_fixtures::{DAY, expect_text};
+use cq_folder::MemoryFolder;
 use std::alloc::Global;
 use std::test::Fail;
 
@@ -40,13 +41,18 @@ fn wanted(count: usize) -> &'static str {
     }
 }
 
-/// What is said of a fold of the first bytes of the log, and of the log after it.
+/// What is said of a fold of the first bytes of the log in a folder, and of the log after it.
+fn folded_in(alloc: Global, folder: &mut MemoryFolder, count: usize) -> Result<String, Fail> {
+    said_at(alloc, folder, Cut(count))?;
+    let mut text = said_at(alloc, folder, Fold)?;
+    text.push_str(said_at(alloc, folder, Text("queue.log"))?.as_str())?;
+    Ok(text)
+}
+
+/// The same in a new folder.
 fn folded(alloc: Global, count: usize) -> Result<String, Fail> {
     let mut folder = folder_after(alloc, STEPS)?;
-    said_at(alloc, &mut folder, Cut(count))?;
-    let mut text = said_at(alloc, &mut folder, Fold)?;
-    text.push_str(said_at(alloc, &mut folder, Text("queue.log"))?.as_str())?;
-    Ok(text)
+    folded_in(alloc, &mut folder, count)
 }
 
 #[test]

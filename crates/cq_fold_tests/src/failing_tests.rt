@@ -2,9 +2,8 @@
 use crate::logs::Frame::{Head, Turn};
 use crate::logs::Line::{Cycle, Message, Name};
 use crate::steps::Step::{self, Check, Fold, Log, Queue, Text, Write};
-use crate::steps::{files_text, fold_text, folder_after, said_at};
+use crate::steps::{files_text, folded, folder_after, said_at};
 use cq_fixtures::{DAY, expect_answer, expect_end};
-use cq_fold::fold;
 use cq_folder::{FailingFolder, MemoryFolder};
 use std::alloc::Global;
 use std::test::Fail;
@@ -82,54 +81,73 @@ fn expect_folded(
     expect_end("the images", checked.as_str(), row.checked)
 }
 
+/// Folds the log of a folder of which the call with this number fails. Fails if something else than wanted is said. Gives back the
+/// folder, of which no call fails then.
+fn fold_failing(
+    alloc: Global,
+    what: &str,
+    number: usize,
+    failing: FailingFolder<MemoryFolder>,
+    want: &str,
+) -> Result<MemoryFolder, Fail> {
+    let mut failing = failing;
+    let said = folded(alloc, &mut failing)?;
+    expect_answer(what, number, said.as_str(), want)?;
+    Ok(failing.into_inner())
+}
+
+/// Every file is as it was, and the next fold is as if no call had failed.
+fn expect_as_before(
+    alloc: Global,
+    row: &Row,
+    folder: &mut MemoryFolder,
+    before: &str,
+) -> Result<(), Fail> {
+    let after = files_text(alloc, folder)?;
+    expect_end("not done", after.as_str(), before)?;
+    expect_folded(alloc, row, folder, row.folded)
+}
+
 /// A call fails and does nothing: every file is as it was, and the next fold is as if none had failed.
 fn expect_not_done(alloc: Global, row: &Row, number: usize, fault: &str) -> Result<(), Fail> {
     let mut folder = folder_after(alloc, row.before)?;
     let before = files_text(alloc, &mut folder)?;
-    let mut failing = FailingFolder::new(folder, number as u64);
-    let answer = fold(alloc, &mut failing);
-    expect_answer(
-        "not done",
-        number,
-        fold_text(alloc, answer)?.as_str(),
-        fault,
-    )?;
-    let mut folder = failing.into_inner();
-    let after = files_text(alloc, &mut folder)?;
-    expect_end("not done", after.as_str(), before.as_str())?;
-    expect_folded(alloc, row, &mut folder, row.folded)
+    let failing = FailingFolder::new(folder, number as u64);
+    let mut folder = fold_failing(alloc, "not done", number, failing, fault)?;
+    expect_as_before(alloc, row, &mut folder, before.as_str())
 }
 
 /// The last call fails, and is done nevertheless: the next fold plays nothing, and gives the same.
 fn expect_done(alloc: Global, row: &Row, number: usize, fault: &str) -> Result<(), Fail> {
-    let folder = folder_after(alloc, row.before)?;
-    let mut failing = FailingFolder::written(folder, number as u64);
-    let answer = fold(alloc, &mut failing);
-    expect_answer("done", number, fold_text(alloc, answer)?.as_str(), fault)?;
-    let mut folder = failing.into_inner();
+    let failing = FailingFolder::written(folder_after(alloc, row.before)?, number as u64);
+    let mut folder = fold_failing(alloc, "done", number, failing, fault)?;
     expect_folded(alloc, row, &mut folder, row.again)
+}
+
+/// No call fails, since there is none with this number: the next fold plays nothing, and gives the same.
+fn expect_none_fails(alloc: Global, row: &Row, number: usize) -> Result<(), Fail> {
+    let failing = FailingFolder::new(folder_after(alloc, row.before)?, number as u64);
+    let mut folder = fold_failing(alloc, "none fails", number, failing, row.folded)?;
+    expect_folded(alloc, row, &mut folder, row.again)
+}
+
+/// Each call fails in turn, the last one also done, and then none.
+fn expect_row(alloc: Global, row: &Row) -> Result<(), Fail> {
+    let mut number: usize = 0;
+    for &fault in row.faults {
+        number = number.saturating_add(1);
+        expect_not_done(alloc, row, number, fault)?;
+    }
+    if let Some(&fault) = row.faults.last() {
+        expect_done(alloc, row, number, fault)?;
+    }
+    expect_none_fails(alloc, row, number.saturating_add(1))
 }
 
 #[test]
 fn a_call_that_fails_loses_nothing(rt: HostRuntime) -> Result<(), Fail> {
-    let alloc = rt.alloc();
     for row in &ROWS {
-        let mut number: usize = 0;
-        for &fault in row.faults {
-            number = number.saturating_add(1);
-            expect_not_done(alloc, row, number, fault)?;
-        }
-        if let Some(&fault) = row.faults.last() {
-            expect_done(alloc, row, number, fault)?;
-        }
-        // There is no further call.
-        let mut failing = FailingFolder::new(
-            folder_after(alloc, row.before)?,
-            (number as u64).saturating_add(1),
-        );
-        let answer = fold(alloc, &mut failing);
-        expect_end("none fails", fold_text(alloc, answer)?.as_str(), row.folded)?;
-        expect_folded(alloc, row, &mut failing.into_inner(), row.again)?;
+        expect_row(rt.alloc(), row)?;
     }
     Ok(())
 }

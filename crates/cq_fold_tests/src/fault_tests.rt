@@ -2,9 +2,8 @@
 use crate::logs::Frame::{Bytes, Head, Turn};
 use crate::logs::Line::{Cycle, Floor, Message, Name};
 use crate::steps::Step::{self, Log, Put, Queue, Write};
-use crate::steps::{files_text, fold_text, folder_after, said_at};
+use crate::steps::{files_text, folded, folder_after, said_at};
 use cq_fixtures::{DAY, expect_answer, expect_end};
-use cq_fold::fold;
 use cq_folder::{Access, Folder, FolderFault, MemoryFolder, NewFile};
 use std::alloc::Global;
 use std::test::Fail;
@@ -118,17 +117,32 @@ static FAULTS: [(&[Step], &str); 17] = [
     ),
 ];
 
+/// Folds the log of a folder. Fails if something else than this fault is said, or if a file changed.
+fn expect_fault(
+    alloc: Global,
+    row: &str,
+    folder: &mut MemoryFolder,
+    fault: &str,
+) -> Result<(), Fail> {
+    let before = files_text(alloc, folder)?;
+    let said = said_at(alloc, folder, Step::Fold)?;
+    expect_answer(row, 0, said.as_str(), fault)?;
+    let after = files_text(alloc, folder)?;
+    expect_end(row, after.as_str(), before.as_str())
+}
+
+/// The same with a new folder over which these steps were taken.
+fn expect_row(alloc: Global, row: &str, steps: &[Step], fault: &str) -> Result<(), Fail> {
+    let mut folder = folder_after(alloc, steps)?;
+    expect_fault(alloc, row, &mut folder, fault)
+}
+
 #[test]
 fn a_fault_leaves_every_file_as_it_was(rt: HostRuntime) -> Result<(), Fail> {
     let alloc = rt.alloc();
-    for (number, &(steps, want)) in FAULTS.iter().enumerate() {
+    for (number, &(steps, fault)) in FAULTS.iter().enumerate() {
         let row = format!(in alloc; "row {number}")?;
-        let mut folder = folder_after(alloc, steps)?;
-        let before = files_text(alloc, &mut folder)?;
-        let said = said_at(alloc, &mut folder, Step::Fold)?;
-        expect_answer(row.as_str(), 0, said.as_str(), want)?;
-        let after = files_text(alloc, &mut folder)?;
-        expect_end(row.as_str(), after.as_str(), before.as_str())?;
+        expect_row(alloc, row.as_str(), steps, fault)?;
     }
     Ok(())
 }
@@ -180,19 +194,21 @@ impl Folder for LongLogFolder {
     }
 }
 
-#[test]
-fn a_long_log_is_refused(rt: HostRuntime) -> Result<(), Fail> {
-    let alloc = rt.alloc();
-    let mut folder = LongLogFolder {
-        folder: folder_after(alloc, &[Queue, Write(0, b"a\n"), Log(&[Head])])?,
-    };
+/// Folds a long log. Fails if something else than its fault is said, or if a file changed.
+fn expect_too_long(alloc: Global, folder: &mut LongLogFolder) -> Result<(), Fail> {
     let before = files_text(alloc, &mut folder.folder)?;
-    let answer = fold(alloc, &mut folder);
+    let said = folded(alloc, folder)?;
     expect_end(
         "a long log",
-        fold_text(alloc, answer)?.as_str(),
+        said.as_str(),
         "fold: the log has more than 1073741824 bytes: keep it, and move it away to open the images alone",
     )?;
     let after = files_text(alloc, &mut folder.folder)?;
     expect_end("its files", after.as_str(), before.as_str())
+}
+
+#[test]
+fn a_long_log_is_refused(rt: HostRuntime) -> Result<(), Fail> {
+    let folder = folder_after(rt.alloc(), &[Queue, Write(0, b"a\n"), Log(&[Head])])?;
+    expect_too_long(rt.alloc(), &mut LongLogFolder { folder })
 }

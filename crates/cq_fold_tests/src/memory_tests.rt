@@ -12,19 +12,35 @@ use std::test::Fail;
 /// How often a log is folded where memory is refused.
 const TRIES: u32 = 16;
 
-/// Folds the log of a folder, whatever memory is refused to it. Where memory is refused no file may change.
-fn folded_at_last(
-    alloc: Global,
-    folder: &mut MemoryFolder,
-) -> Result<Result<Folded, FoldFault>, Fail> {
+/// What a fold gives, as text; `None` if memory was refused.
+fn text_if_done(alloc: Global, answer: &Result<Folded, FoldFault>) -> Result<Option<String>, Fail> {
+    match answer {
+        Err(FoldFault::OutOfMemory) => Ok(None),
+        _ => Ok(Some(fold_text(alloc, answer)?)),
+    }
+}
+
+/// Folds the log of a folder. Returns what that gives, as text; `None` if memory was refused.
+fn folded_if_done(alloc: Global, folder: &mut MemoryFolder) -> Result<Option<String>, Fail> {
+    text_if_done(alloc, &fold(alloc, folder))
+}
+
+/// Does the same. Where memory is refused no file may change.
+fn folded_once(alloc: Global, folder: &mut MemoryFolder) -> Result<Option<String>, Fail> {
+    let before = files_text(alloc, folder)?;
+    if let Some(text) = folded_if_done(alloc, folder)? {
+        return Ok(Some(text));
+    }
+    let after = files_text(alloc, folder)?;
+    expect_end("out of memory", after.as_str(), before.as_str())?;
+    Ok(None)
+}
+
+/// Folds the log of a folder, whatever memory is refused to it.
+fn folded_at_last(alloc: Global, folder: &mut MemoryFolder) -> Result<String, Fail> {
     for _ in 0..TRIES {
-        let before = files_text(alloc, folder)?;
-        match fold(alloc, folder) {
-            Err(FoldFault::OutOfMemory) => {
-                let after = files_text(alloc, folder)?;
-                expect_end("out of memory", after.as_str(), before.as_str())?;
-            }
-            answer => return Ok(answer),
+        if let Some(text) = folded_once(alloc, folder)? {
+            return Ok(text);
         }
     }
     Err(Fail::new(format_args!("out of memory")))
@@ -41,9 +57,8 @@ fn a_log_is_folded_as_a_whole_or_not_at_all(rt: HostRuntime) -> Result<(), Fail>
             Log(&[Head, Turn(&[Message("b"), Cycle(1), Message("c")])]),
         ],
     )?;
-    let answer = folded_at_last(alloc, &mut folder)?;
     expect_text(
-        fold_text(alloc, answer)?,
+        folded_at_last(alloc, &mut folder)?,
         "0[a;b;] 1[c;] at [0], 1 turns, 4 cycles",
     )
 }

@@ -72,6 +72,25 @@ fn put<R: Files + AllocGlobal>(rt: &R, path: &str, name: &str, text: &str) -> Re
     Ok(())
 }
 
+/// Puts the part and the record of a save that was stopped between its renames.
+fn put_stopped_save(rt: &HostRuntime, path: &str) -> Result<(), Fail> {
+    put(rt, path, "queue.log.9.part", "")?;
+    put(rt, path, "queue.save", "cq save 1\n9\nqueue.log\nend\n")
+}
+
+/// Takes steps over a folder of the system. In between saves are stopped.
+fn expect_all<F: Folder>(rt: &HostRuntime, path: &str, folder: &mut F) -> Result<(), Fail> {
+    let alloc = rt.alloc();
+    expect_steps(alloc, "a folder of the system", folder, REAL)?;
+    folder.end();
+    put_stopped_save(rt, path)?;
+    expect_steps(alloc, "a save that was stopped", folder, STOPPED)?;
+    expect_steps(alloc, "another log", folder, OTHER)?;
+    folder.end();
+    put(rt, path, "queue.log.9.part", "")?;
+    expect_steps(alloc, "a save that was never done", folder, NEVER_SAVED)
+}
+
 /// Makes a new folder for temporary files, and returns its path.
 pub(crate) fn new_folder(rt: &HostRuntime) -> Result<String, Fail> {
     let within = env::temp_dir(rt)?;
@@ -83,28 +102,9 @@ pub(crate) fn new_folder(rt: &HostRuntime) -> Result<String, Fail> {
 
 #[test]
 fn a_log_in_a_folder_of_the_system_is_folded(rt: HostRuntime) -> Result<(), Fail> {
-    let alloc = rt.alloc();
     let path = new_folder(&rt)?;
-    let mut folder = RealFolder::new(&rt, String::from_str(alloc, path.as_str())?, 7);
-    expect_steps(alloc, "a folder of the system", &mut folder, REAL)?;
-    folder.end();
-    put(&rt, path.as_str(), "queue.log.9.part", "")?;
-    put(
-        &rt,
-        path.as_str(),
-        "queue.save",
-        "cq save 1\n9\nqueue.log\nend\n",
-    )?;
-    expect_steps(alloc, "a save that was stopped", &mut folder, STOPPED)?;
-    expect_steps(alloc, "another log", &mut folder, OTHER)?;
-    folder.end();
-    put(&rt, path.as_str(), "queue.log.9.part", "")?;
-    expect_steps(
-        alloc,
-        "a save that was never done",
-        &mut folder,
-        NEVER_SAVED,
-    )?;
+    let mut folder = RealFolder::new(&rt, String::from_str(rt.alloc(), path.as_str())?, 7);
+    expect_all(&rt, path.as_str(), &mut folder)?;
     fs::remove_dir_all(&rt, path.as_str())?;
     Ok(())
 }

@@ -55,27 +55,30 @@ pub fn said_at<F: Folder>(alloc: Global, folder: &mut F, step: Step) -> Result<S
         Step::Put(file, bytes) => put(alloc, folder, file, bytes),
         Step::Text(file) => text_of(alloc, folder, file),
         Step::Names => names_of(alloc, folder),
-        Step::Fold => {
-            let answer = fold(alloc, folder);
-            fold_text(alloc, answer)
-        }
+        Step::Fold => folded(alloc, folder),
         Step::Write(..) | Step::Take | Step::Drop(_) | Step::Read | Step::Check => {
             printed(alloc, folder, step)
         }
     }
 }
 
-/// What `init` says.
-fn made<F: Folder>(alloc: Global, folder: &mut F) -> Result<String, Fail> {
-    let settings = InitSettings {
+/// The settings of a daily queue with epoch 0, 64 cells, four cycles and the name "reader".
+fn settings(alloc: Global) -> Result<InitSettings, Fail> {
+    let names = vec![in alloc; String::from_str(alloc, "reader")?]?;
+    Ok(InitSettings {
         roll: String::from_str(alloc, "daily")?,
         epoch: 0,
         cells: 64,
         index_count: 8,
         index_spacing: 1,
         cycles: 4,
-        names: vec![in alloc; String::from_str(alloc, "reader")?]?,
-    };
+        names,
+    })
+}
+
+/// What `init` says.
+fn made<F: Folder>(alloc: Global, folder: &mut F) -> Result<String, Fail> {
+    let settings = settings(alloc)?;
     said(alloc, init(alloc, folder, &settings), &[])
 }
 
@@ -116,7 +119,7 @@ fn said(alloc: Global, done: Result<(), ToolFault>, output: &[u8]) -> Result<Str
 }
 
 /// What a fold gives, as text.
-pub fn fold_text(alloc: Global, answer: Result<Folded, FoldFault>) -> Result<String, Fail> {
+pub fn fold_text(alloc: Global, answer: &Result<Folded, FoldFault>) -> Result<String, Fail> {
     match answer {
         Ok(folded) => {
             let cycles = folded.config.cycles();
@@ -125,6 +128,11 @@ pub fn fold_text(alloc: Global, answer: Result<Folded, FoldFault>) -> Result<Str
         }
         Err(fault) => Ok(format!(in alloc; "fold: {fault}")?),
     }
+}
+
+/// Folds the log of a folder. Returns what that gives, as text.
+pub fn folded<F: Folder>(alloc: Global, folder: &mut F) -> Result<String, Fail> {
+    fold_text(alloc, &fold(alloc, folder))
 }
 
 fn put<F: Folder>(alloc: Global, folder: &mut F, file: &str, bytes: &[u8]) -> Result<String, Fail> {
@@ -168,26 +176,48 @@ fn joined(alloc: Global, mut names: Vec<String>) -> Result<String, Fail> {
     Ok(text)
 }
 
-/// All files of a folder, each with its bytes.
-pub fn files_text<F: Folder>(alloc: Global, folder: &mut F) -> Result<String, Fail> {
+/// The names of the files of a folder, in their order.
+fn sorted_names<F: Folder>(alloc: Global, folder: &mut F) -> Result<Vec<String>, Fail> {
     folder.begin(alloc, Access::Shared)?;
     let mut names = folder.names(alloc)?;
     names.sort()?;
+    Ok(names)
+}
+
+/// A file of a folder, with its bytes.
+fn file_text<F: Folder>(alloc: Global, folder: &mut F, name: &str) -> Result<String, Fail> {
+    folder.begin(alloc, Access::Shared)?;
+    let bytes = folder.read(alloc, name, MOST_BYTES)?;
+    Ok(format!(in alloc; "{name} {bytes:?} ")?)
+}
+
+/// These files of a folder, each with its bytes.
+fn texts_of<F: Folder>(alloc: Global, folder: &mut F, names: &[String]) -> Result<String, Fail> {
     let mut text = String::new(alloc);
-    for name in &names {
-        folder.begin(alloc, Access::Shared)?;
-        let bytes = folder.read(alloc, name.as_str(), MOST_BYTES)?;
-        text.push_str(format!(in alloc; "{name} {bytes:?} ")?.as_str())?;
+    for name in names {
+        text.push_str(file_text(alloc, folder, name.as_str())?.as_str())?;
     }
     Ok(text)
+}
+
+/// All files of a folder, each with its bytes.
+pub fn files_text<F: Folder>(alloc: Global, folder: &mut F) -> Result<String, Fail> {
+    let names = sorted_names(alloc, folder)?;
+    texts_of(alloc, folder, &names)
+}
+
+/// Takes these steps over a folder in memory.
+fn take_steps(alloc: Global, folder: &mut MemoryFolder, steps: &[Step]) -> Result<(), Fail> {
+    for &step in steps {
+        said_at(alloc, folder, step)?;
+    }
+    Ok(())
 }
 
 /// A folder in memory over which these steps were taken.
 pub fn folder_after(alloc: Global, steps: &[Step]) -> Result<MemoryFolder, Fail> {
     let mut folder = MemoryFolder::new(alloc);
-    for &step in steps {
-        said_at(alloc, &mut folder, step)?;
-    }
+    take_steps(alloc, &mut folder, steps)?;
     Ok(folder)
 }
 
