@@ -2,7 +2,7 @@
 //!
 //! - what they go on from, and what they leave;
 //! - each fault, and what the files are then;
-//! - a folder of the system, with a crash in between.
+//! - a folder of the system, with a crash in between, and what commands see of it.
 //!
 //! They are proved apart from what they test, so that both proofs can run at the same time.
 #![tactic(auto)]
@@ -21,5 +21,7 @@ mod life;
 mod open_tests;
 #[cfg(test)]
 mod real_tests;
+#[cfg(test)]
+mod seen;
 #[cfg(test)]
 mod torn_place;

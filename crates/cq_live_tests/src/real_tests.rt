@@ -2,6 +2,7 @@
 use crate::example::{append_stored, opened};
 use crate::folders::{images_text, make, write_a};
 use crate::life::opened_text;
+use crate::seen::expect_seen;
 use cq_fixtures::{contents_text, expect, expect_text};
 use cq_live::{Closed, Live, LiveFault, NotClosed, SystemPlace, close, open};
 use cq_log_file::LogFile;
@@ -96,6 +97,7 @@ fn put_two(alloc: Global, live: &mut Live<LogFile>) -> Result<(), Fail> {
 fn live_on(rt: &HostRuntime, path: &str, live: &mut Live<LogFile>) -> Result<(), Fail> {
     expect_said(rt.alloc(), live, "0 turns: 0 a, none")?;
     put_two(rt.alloc(), live)?;
+    expect_seen(rt, path)?;
     expect_in_use(rt, path)
 }
 
