@@ -1,16 +1,13 @@
 //! Commands over a folder that is seen with what its log gives.
 use crate::logs::Frame::{Head, Turn};
 use crate::logs::Line::{Cycle, Message, Name};
-use crate::real_tests::new_folder;
 use crate::steps::Step::{self, Check, Log, Names, Put, Queue, Read, Take, Text, Write};
-use crate::steps::{Steps, folder_after, said_at};
+use crate::steps::{folder_after, said_at};
 use cq_fixtures::{DAY, expect_answer};
 use cq_folder::{FailingFolder, MemoryFolder};
-use cq_log_file::{LogFile, OpenFault};
-use cq_logged::{LogFault, LogLock, LogUse, LoggedFolder, SystemLock};
-use cq_real_folder::RealFolder;
+use cq_log_file::OpenFault;
+use cq_logged::{LogFault, LogLock, LogUse, LoggedFolder};
 use std::alloc::Global;
-use std::fs;
 use std::test::Fail;
 
 /// A lock of which each look finds this.
@@ -257,78 +254,15 @@ const ALL_THREE: &str = "0000000000000000 a\n0000000000000001 b\n000000010000000
 /// No message is left out where a call of the folder fails: either all are read, or the fault is said.
 #[test]
 fn a_call_that_fails_hides_no_message(rt: HostRuntime) -> Result<(), Fail> {
-    let mut faults = 0;
+    let mut faults: u64 = 0;
     for number in 1..=MOST_CALLS {
         let said = said_failing(rt.alloc(), number)?;
         if said.as_str().starts_with("cq: f") {
-            faults += 1;
+            faults = faults.saturating_add(1);
         } else {
             expect_answer("failing", number as usize, said.as_str(), ALL_THREE)?;
         }
     }
     assert!(rt; 8 < faults && faults < MOST_CALLS);
-    Ok(())
-}
-
-/// A folder of the system with a log of two turns.
-static MADE: Steps = &[
-    (Queue, ""),
-    (Write(0, b"a\n"), "0000000000000000\n"),
-    (TWO_TURNS, ""),
-];
-
-/// While another has the lock of the log.
-static LOCKED: Steps = &[
-    (
-        Read,
-        "0000000000000000 a\n0000000000000001 b\n0000000100000000 c\n",
-    ),
-    (
-        Take,
-        "cq: folder fault: a queue is live in this folder: wait until it is closed, or close it",
-    ),
-];
-
-/// Once nobody has it.
-static UNLOCKED: Steps = &[
-    (Take, "0000000000000001 b\n"),
-    (Names, "19700101.cqi 19700102.cqi queue.cqc queue.log "),
-    (Text("queue.log"), ""),
-];
-
-/// Takes a step over a folder of the system that is seen with its log, and returns what is said.
-fn said_there(rt: &HostRuntime, path: &str, step: Step) -> Result<String, Fail> {
-    let alloc = rt.alloc();
-    let folder = RealFolder::new(rt, String::from_str(alloc, path)?, 7);
-    let lock = SystemLock::new(rt, format!(in alloc; "{path}/queue.log")?);
-    let mut logged = LoggedFolder::new(alloc, folder, lock);
-    let said = said_at(alloc, &mut logged, step)?;
-    let (_folder, cause) = logged.into_parts();
-    with_cause(alloc, said, cause)
-}
-
-/// Takes these steps over a folder of the system. Fails if something else than wanted is said at one of them.
-fn expect_there(rt: &HostRuntime, path: &str, name: &str, steps: Steps) -> Result<(), Fail> {
-    for (place, &(step, want)) in steps.iter().enumerate() {
-        let said = said_there(rt, path, step)?;
-        expect_answer(name, place, said.as_str(), want)?;
-    }
-    Ok(())
-}
-
-/// Takes steps over a folder of the system while its log is locked.
-fn expect_locked(rt: &HostRuntime, path: &str) -> Result<(), Fail> {
-    let log = format!(in rt.alloc(); "{path}/queue.log")?;
-    let _held = LogFile::open(rt, log.as_str())?;
-    expect_there(rt, path, "locked", LOCKED)
-}
-
-#[test]
-fn a_lock_of_the_system_keeps_out_what_may_write(rt: HostRuntime) -> Result<(), Fail> {
-    let path = new_folder(&rt)?;
-    expect_there(&rt, path.as_str(), "made", MADE)?;
-    expect_locked(&rt, path.as_str())?;
-    expect_there(&rt, path.as_str(), "unlocked", UNLOCKED)?;
-    fs::remove_dir_all(&rt, path.as_str())?;
     Ok(())
 }

@@ -92,7 +92,7 @@ fn expect_all<F: Folder>(rt: &HostRuntime, path: &str, folder: &mut F) -> Result
 }
 
 /// Makes a new folder for temporary files, and returns its path.
-pub(crate) fn new_folder(rt: &HostRuntime) -> Result<String, Fail> {
+fn new_folder(rt: &HostRuntime) -> Result<String, Fail> {
     let within = env::temp_dir(rt)?;
     let id = process::id(rt.process());
     let path = format!(in rt.alloc(); "{}/cq_fold_{id}", within.display())?;
