@@ -1,5 +1,5 @@
 //! Queues that are not opened, and what is left of the files.
-use crate::folders::{images_text, make, put_log};
+use crate::folders::{images_text, put_log};
 use crate::life::{expect_turns, folder_with_a, opened, stored};
 use crate::torn_place::Matter;
 use cq_fixtures::{expect, expect_answer, expect_text};
@@ -169,16 +169,9 @@ fn a_log_at_fault_is_left(rt: HostRuntime) -> Result<(), Fail> {
     Ok(())
 }
 
-/// A queue in which no cycle has begun is not opened.
+/// A folder without a queue is not opened.
 #[test]
-fn a_queue_without_a_cycle_is_refused(rt: HostRuntime) -> Result<(), Fail> {
+fn a_folder_without_a_queue_is_refused(rt: HostRuntime) -> Result<(), Fail> {
     let alloc = rt.alloc();
-    let mut folder = MemoryFolder::new(alloc);
-    expect_refused(alloc, &mut folder, "no queue here")?;
-    make(alloc, &mut folder)?;
-    expect_refused(
-        alloc,
-        &mut folder,
-        "no cycle has begun in this queue: write a first message, and open the queue again",
-    )
+    expect_refused(alloc, &mut MemoryFolder::new(alloc), "no queue here")
 }

@@ -1,23 +1,49 @@
 //! Folders of queues, and what they hold.
-use cq_commands::{InitSettings, init, write};
+use cq_commands::{InitSettings, init, take, write};
 use cq_files::{Retain, open_queue};
 use cq_fixtures::contents_text;
 use cq_folder::{Access, Folder, LOG_FILE};
 use std::alloc::Global;
 use std::test::Fail;
 
-/// Makes the queue of a folder: daily, with epoch 0, 64 cells, four cycles and the name "reader".
-pub(crate) fn make<F: Folder>(alloc: Global, folder: &mut F) -> Result<(), Fail> {
+/// The most bytes of a file that is read.
+const MOST_BYTES: usize = 1 << 16;
+
+/// Makes the queue of a folder: daily, with epoch 0, 64 cells, this number of cycles and the name "reader".
+fn make_of<F: Folder>(alloc: Global, folder: &mut F, cycles: u64) -> Result<(), Fail> {
     let settings = InitSettings {
         roll: String::from_str(alloc, "daily")?,
         epoch: 0,
         cells: 64,
         index_count: 8,
         index_spacing: 1,
-        cycles: 4,
+        cycles,
         names: vec![in alloc; String::from_str(alloc, "reader")?]?,
     };
     init(alloc, folder, &settings)?;
+    Ok(())
+}
+
+/// Makes such a queue, of four cycles.
+pub(crate) fn make<F: Folder>(alloc: Global, folder: &mut F) -> Result<(), Fail> {
+    make_of(alloc, folder, 4)
+}
+
+/// Makes such a queue. Writes the message "a" to it this number of times, and takes the first ones.
+pub(crate) fn make_with<F: Folder>(
+    alloc: Global,
+    folder: &mut F,
+    cycles: u64,
+    written: usize,
+    taken: usize,
+) -> Result<(), Fail> {
+    make_of(alloc, folder, cycles)?;
+    for _ in 0..written {
+        write_a(alloc, folder)?;
+    }
+    for _ in 0..taken {
+        take(alloc, folder, "reader", &mut Vec::new(alloc))?;
+    }
     Ok(())
 }
 
@@ -42,4 +68,16 @@ pub(crate) fn put_log<F: Folder>(alloc: Global, folder: &mut F, bytes: &[u8]) ->
     folder.write(LOG_FILE, bytes)?;
     folder.end();
     Ok(())
+}
+
+/// The bytes of a file in a folder.
+pub(crate) fn bytes_of<F: Folder>(
+    alloc: Global,
+    folder: &mut F,
+    file: &str,
+) -> Result<Vec<u8>, Fail> {
+    folder.begin(alloc, Access::Shared)?;
+    let bytes = folder.read(alloc, file, MOST_BYTES)?;
+    folder.end();
+    Ok(bytes)
 }

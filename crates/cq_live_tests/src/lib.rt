@@ -1,12 +1,14 @@
 //! Tests of queues that are opened in a folder, and closed:
 //!
-//! - what they go on from, and what they leave;
+//! - what they go on from, the first cycle where none has begun, and what they leave;
 //! - each fault, and what the files are then;
 //! - a folder of the system, with a crash in between, and what commands see of it.
 //!
 //! They are proved apart from what they test, so that both proofs can run at the same time.
 #![tactic(auto)]
 
+#[cfg(test)]
+mod begin_tests;
 #[cfg(test)]
 mod close_tests;
 #[cfg(test)]

@@ -3,7 +3,7 @@ use crate::folders::{make, write_a};
 use crate::torn_place::{Matter, TornPlace};
 use cq_endpoint::{Endpoint, Taken};
 use cq_fixtures::message_or_none;
-use cq_folder::MemoryFolder;
+use cq_folder::{Folder, MemoryFolder};
 use cq_kept::KeptQueue;
 use cq_live::{Live, LiveFault, open};
 use cq_log_tests::TornFile;
@@ -18,14 +18,24 @@ pub(crate) fn folder_with_a(alloc: Global) -> Result<MemoryFolder, Fail> {
     Ok(folder)
 }
 
-/// Opens the queue of a folder.
-pub(crate) fn opened(
+/// Opens the queue of a folder at a moment.
+pub(crate) fn opened_at<F: Folder>(
     alloc: Global,
-    folder: &mut MemoryFolder,
+    folder: &mut F,
     matter: Matter,
+    moment: u64,
 ) -> Result<Live<TornFile>, LiveFault> {
     let mut place = TornPlace::new(matter);
-    open(alloc, folder, &mut place)
+    open(alloc, folder, &mut place, moment)
+}
+
+/// Opens the queue of a folder in which a cycle has begun. The moment lies in none, and is not used.
+pub(crate) fn opened<F: Folder>(
+    alloc: Global,
+    folder: &mut F,
+    matter: Matter,
+) -> Result<Live<TornFile>, LiveFault> {
+    opened_at(alloc, folder, matter, u64::MAX)
 }
 
 /// Opens the queue of a folder, and fails unless this many turns were played. Nothing is the matter with the place of its log.
@@ -41,7 +51,7 @@ pub(crate) fn expect_turns(
 }
 
 /// What "reader" takes.
-fn taken(alloc: Global, endpoint: &mut Endpoint) -> Result<String, Fail> {
+pub(crate) fn taken(alloc: Global, endpoint: &mut Endpoint) -> Result<String, Fail> {
     let found = match endpoint.take(alloc, "reader")? {
         Taken::Taken(index, message) => Some((index, message)),
         Taken::NotYet | Taken::Finished | Taken::Moved(_) => None,
@@ -67,12 +77,22 @@ fn log_of(alloc: Global, kept: &mut KeptQueue<TornFile>) -> Result<Vec<u8>, Fail
     Ok(kept.keeper().log().device().bytes().to_vec(alloc)?)
 }
 
-/// Appends a message and stores it. Returns the bytes of the log then.
+/// Appends a message at a moment and stores it. Returns the bytes of the log then.
+pub(crate) fn stored_at(
+    alloc: Global,
+    live: &mut Live<TornFile>,
+    moment: u64,
+    bytes: &[u8],
+) -> Result<Vec<u8>, Fail> {
+    live.endpoint.append(moment, bytes)?;
+    log_of(alloc, &mut live.kept)
+}
+
+/// The same at moment 0.
 pub(crate) fn stored(
     alloc: Global,
     live: &mut Live<TornFile>,
     bytes: &[u8],
 ) -> Result<Vec<u8>, Fail> {
-    live.endpoint.append(0, bytes)?;
-    log_of(alloc, &mut live.kept)
+    stored_at(alloc, live, 0, bytes)
 }

@@ -3,7 +3,7 @@ use crate::example::{append_stored, opened};
 use crate::folders::{images_text, make, write_a};
 use crate::life::opened_text;
 use crate::seen::expect_seen;
-use cq_fixtures::{contents_text, expect, expect_text};
+use cq_fixtures::{DAY, contents_text, expect, expect_text};
 use cq_live::{Closed, Live, LiveFault, NotClosed, SystemPlace, close, open};
 use cq_log_file::LogFile;
 use cq_real_folder::RealFolder;
@@ -12,10 +12,10 @@ use std::test::Fail;
 use std::{env, fs, process};
 
 /// Makes a new folder for temporary files, and returns its path.
-fn new_folder(rt: &HostRuntime) -> Result<String, Fail> {
+fn new_folder(rt: &HostRuntime, name: &str) -> Result<String, Fail> {
     let within = env::temp_dir(rt)?;
     let id = process::id(rt.process());
-    let path = format!(in rt.alloc(); "{}/cq_live_{id}", within.display())?;
+    let path = format!(in rt.alloc(); "{}/cq_live_{name}_{id}", within.display())?;
     fs::create_dir(rt, path.as_str())?;
     Ok(path)
 }
@@ -40,7 +40,7 @@ fn is_in_use(rt: &HostRuntime, path: &str) -> Result<bool, Fail> {
     let log = log_path(rt.alloc(), path)?;
     let mut folder = folder_at(rt, path)?;
     let mut place = SystemPlace::new(rt, log);
-    Ok(found_in_use(&open(rt.alloc(), &mut folder, &mut place)))
+    Ok(found_in_use(&open(rt.alloc(), &mut folder, &mut place, 0)))
 }
 
 /// Fails if an opening does not say what is wanted.
@@ -50,7 +50,7 @@ fn expect_said(alloc: Global, live: &mut Live<LogFile>, want: &str) -> Result<()
 
 /// Opens the queue of a folder. Fails if that does not say what is wanted.
 fn said_at(rt: &HostRuntime, path: &str, want: &str) -> Result<Live<LogFile>, Fail> {
-    let mut live = opened(rt, path)?;
+    let mut live = opened(rt, path, 0)?;
     expect_said(rt.alloc(), &mut live, want)?;
     Ok(live)
 }
@@ -103,7 +103,7 @@ fn live_on(rt: &HostRuntime, path: &str, live: &mut Live<LogFile>) -> Result<(),
 
 /// A queue is live, and its process ends without a close.
 fn crash(rt: &HostRuntime, path: &str) -> Result<(), Fail> {
-    let mut live = opened(rt, path)?;
+    let mut live = opened(rt, path, 0)?;
     live_on(rt, path, &mut live)
 }
 
@@ -145,7 +145,7 @@ fn go_on(rt: &HostRuntime, path: &str) -> Result<(), Fail> {
 
 /// Opens the queue of a folder, and lets it end without a close.
 fn expect_opened(rt: &HostRuntime, path: &str, want: &str) -> Result<(), Fail> {
-    let mut live = opened(rt, path)?;
+    let mut live = opened(rt, path, 0)?;
     expect_said(rt.alloc(), &mut live, want)
 }
 
@@ -174,9 +174,35 @@ fn expect_lives(rt: &HostRuntime, path: &str) -> Result<(), Fail> {
 
 #[test]
 fn a_live_queue_survives_a_crash(rt: HostRuntime) -> Result<(), Fail> {
-    let path = new_folder(&rt)?;
+    let path = new_folder(&rt, "crash")?;
     make_with_a(&rt, path.as_str())?;
     expect_lives(&rt, path.as_str())?;
+    fs::remove_dir_all(&rt, path.as_str())?;
+    Ok(())
+}
+
+/// Makes the queue of a folder, in which no cycle has begun.
+fn make_empty(rt: &HostRuntime, path: &str) -> Result<(), Fail> {
+    let mut folder = folder_at(rt, path)?;
+    make(rt.alloc(), &mut folder)
+}
+
+/// The example appends a message to a queue in which no cycle has begun. The next opening has it, and goes on with its cycle.
+fn expect_first(rt: &HostRuntime, path: &str) -> Result<(), Fail> {
+    let index = append_stored(rt, path, 2 * DAY, b"a")?;
+    expect(
+        index.value() == 2 << 32,
+        "the message is the first of cycle 2",
+    )?;
+    expect_opened(rt, path, "1 turns: 8589934592 a, none")?;
+    expect_text(images_at(rt, path)?, "2[a;] at [0]")
+}
+
+#[test]
+fn a_queue_begins_live(rt: HostRuntime) -> Result<(), Fail> {
+    let path = new_folder(&rt, "begin")?;
+    make_empty(&rt, path.as_str())?;
+    expect_first(&rt, path.as_str())?;
     fs::remove_dir_all(&rt, path.as_str())?;
     Ok(())
 }
