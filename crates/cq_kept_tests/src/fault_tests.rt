@@ -1,6 +1,6 @@
 //! Queues that are not opened, and devices that fail.
-use crate::images::{images, replayed_text};
 use crate::life::{Call, answer, opened};
+use crate::start::{images, replayed_text};
 use cq_fixtures::{contents_of, expect, expect_answer};
 use cq_kept::{NotOpened, OpenFault, Opened};
 use cq_log_tests::TornFile;

@@ -1,6 +1,6 @@
 //! A queue with a log in a real file, which is opened again.
-use crate::images::{config, images, replayed};
 use crate::life::{Call, answer, append, take};
+use crate::start::{config, images, replayed};
 use cq_endpoint::Endpoint;
 use cq_fixtures::{contents_text, expect_text};
 use cq_kept::{KeptQueue, Opened};

@@ -1,4 +1,4 @@
-//! Tests of queues that keep what comes to them in a log.
+//! Tests of queues that keep what comes to them in a log, and what such a queue is opened with.
 //!
 //! They are proved apart from what they test, so that both proofs can run at the same time.
 #![tactic(auto)]
@@ -8,8 +8,9 @@ mod fault_tests;
 #[cfg(test)]
 mod file_tests;
 #[cfg(test)]
-mod images;
-#[cfg(test)]
 mod life;
 #[cfg(test)]
 mod life_tests;
+mod start;
+
+pub use start::{config, images, replayed_text};

@@ -1,7 +1,7 @@
 //! A queue that keeps what comes to it, and its endpoint: calls of them, and what they return, as text.
 //!
 //! Each call is a function that borrows what it needs: a proof of one has no other's facts.
-use crate::images::{config, images};
+use crate::start::{config, images};
 use cq_endpoint::{Endpoint, Taken};
 use cq_fixtures::{done_text, index_text, message_or_none};
 use cq_kept::{KeptQueue, NotOpened, Opened};

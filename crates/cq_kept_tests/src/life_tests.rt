@@ -1,6 +1,6 @@
 //! What a log has after each call, and after a crash.
-use crate::images::replayed_text;
 use crate::life::{Call, answer, of_images};
+use crate::start::replayed_text;
 use cq_fixtures::{DAY, expect_answer};
 use cq_kept::Opened;
 use cq_log_tests::{Ruin, TornFile};

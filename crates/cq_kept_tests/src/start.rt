@@ -11,12 +11,12 @@ use std::alloc::{AllocError, Global};
 use std::test::Fail;
 
 /// Returns the configuration of the queue.
-pub(crate) fn config(alloc: Global) -> Result<Config, Fail> {
+pub fn config(alloc: Global) -> Result<Config, Fail> {
     small_config(alloc, 4)
 }
 
 /// Returns what the images hold: cycle 5 with two messages, of which "reader" has taken the first.
-pub(crate) fn images(alloc: Global) -> Result<Contents, AllocError> {
+pub fn images(alloc: Global) -> Result<Contents, AllocError> {
     contents_of(alloc, &[(5, &["ab", "c"])], &[21_474_836_481])
 }
 
@@ -38,6 +38,6 @@ pub(crate) fn replayed(alloc: Global, log: &[u8]) -> Result<Contents, Fail> {
 }
 
 /// Plays a log on the images, and returns what they hold then as text.
-pub(crate) fn replayed_text(alloc: Global, log: &[u8]) -> Result<String, Fail> {
+pub fn replayed_text(alloc: Global, log: &[u8]) -> Result<String, Fail> {
     contents_text(alloc, &replayed(alloc, log)?)
 }
