@@ -17,6 +17,7 @@ complete -c cq -n __fish_use_subcommand -a cycle -d 'Print the cycle of a moment
 complete -c cq -n __fish_use_subcommand -a race -d 'Let two appenders and two tailers share a new queue'
 complete -c cq -n __fish_use_subcommand -a init -d 'Make a queue in a folder'
 complete -c cq -n __fish_use_subcommand -a write -d 'Append each line of the input'
+complete -c cq -n __fish_use_subcommand -a log -d 'Keep a queue open, and append each line as it comes'
 complete -c cq -n __fish_use_subcommand -a read -d 'Print the messages in order'
 complete -c cq -n __fish_use_subcommand -a take -d 'Print the next message of a tailer, and move the tailer after it'
 complete -c cq -n __fish_use_subcommand -a drop -d 'Let reads skip old cycles'
@@ -27,7 +28,7 @@ complete -c cq -n __fish_use_subcommand -a migrate -d 'Make a folder of version 
 complete -c cq -n __fish_use_subcommand -a help -d 'Print the help of a command'
 complete -c cq -n '__fish_seen_subcommand_from read' -l back -d 'From the end on, towards the first message'
 complete -c cq -n '__fish_seen_subcommand_from read' -l from -x -d 'The index to begin at'
-for command in init write read take drop check dump salvage migrate
+for command in init write log read take drop check dump salvage migrate
     complete -c cq -n "__cq_arguments $command 0" -a '(__fish_complete_directories)'
 end
 complete -c cq -n '__cq_arguments cycle 0; or __cq_arguments init 1' -a 'daily hourly minutely'

@@ -10,7 +10,7 @@ use Rattle.cq_command_line.specs.declared.arguments.Argument.{Argument}
 use Rattle.cq_command_line.specs.declared.commands.Description.{Description}
 use Rattle.cq_command_line.specs.declared.arguments.Argument.TheVariants.{Word, Number, Between, Words, Flag, Option}
 use Rattle.cq_orders.specs.declared.order.Order.{Order}
-use Rattle.cq_orders.specs.declared.order.Order.TheVariants.{Echo, Cycle, Init, Write, Read, Take, Check, Dump, Salvage, Race, DropBefore, Migrate}
+use Rattle.cq_orders.specs.declared.order.Order.TheVariants.{Echo, Cycle, Init, Write, Log, Read, Take, Check, Dump, Salvage, Race, DropBefore, Migrate}
 
 -- the word that names the command
 abbrev pub word_of : Order → List ℕ
@@ -18,6 +18,7 @@ word_of Echo = codes "echo"
 word_of (Cycle roll epoch moment) = codes "cycle"
 word_of (Init folder settings) = codes "init"
 word_of (Write folder moment) = codes "write"
+word_of (Log folder) = codes "log"
 word_of (Read folder back begin) = codes "read"
 word_of (Take folder name) = codes "take"
 word_of (DropBefore folder cycle) = codes "drop"
@@ -105,6 +106,10 @@ init_command =
 abbrev pub write_command : App
 write_command = with_rule (with_rule (new_app (codes "write")) (word_rule (codes "DIR"))) (number_rule (codes "MOMENT"))
 
+-- the command `log`
+abbrev pub log_command : App
+log_command = with_rule (new_app (codes "log")) (word_rule (codes "DIR"))
+
 -- the command `read`
 abbrev pub read_command : App
 read_command =
@@ -141,7 +146,7 @@ plain_commands app = with_subcommand (with_subcommand (with_subcommand app echo_
 -- the commands on a queue that is stored in a folder
 abbrev pub queue_commands : App → App
 queue_commands app =
-    with_subcommand (with_subcommand (with_subcommand (with_subcommand (with_subcommand (with_subcommand (with_subcommand (with_subcommand (with_subcommand app init_command.top) write_command.top) read_command.top) take_command.top)
+    with_subcommand (with_subcommand (with_subcommand (with_subcommand (with_subcommand (with_subcommand (with_subcommand (with_subcommand (with_subcommand (with_subcommand app init_command.top) write_command.top) log_command.top) read_command.top) take_command.top)
     drop_command.top) check_command.top) dump_command.top) salvage_command.top) migrate_command.top
 
 -- the program with all its commands

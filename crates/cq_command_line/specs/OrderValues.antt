@@ -4,7 +4,7 @@ use Rattle.std.specs.Str.Parse.{IsNumeral, digits_value, without_leading_plus}
 use Rattle.clap.specs.Words.{Row, Text, all_of, first_of, one_of}
 use Rattle.cq_orders.specs.declared.settings.InitSettings.{InitSettings}
 use Rattle.cq_orders.specs.declared.order.Order.{Order}
-use Rattle.cq_orders.specs.declared.order.Order.TheVariants.{Echo, Cycle, Init, Write, Read, Take, Check, Dump, Salvage, Race, DropBefore, Migrate}
+use Rattle.cq_orders.specs.declared.order.Order.TheVariants.{Echo, Cycle, Init, Write, Log, Read, Take, Check, Dump, Salvage, Race, DropBefore, Migrate}
 
 -- the text is the word that was given under this name
 abbrev pub IsWord : {A : Type 0} → List Row → Text → String A → Type 0
@@ -45,6 +45,7 @@ TakesValues rows (Cycle roll epoch moment) =
     IsWord rows (codes "ROLL") roll × IsNumber rows (codes "EPOCH") epoch × IsNumber rows (codes "MOMENT") moment
 TakesValues rows (Init folder settings) = IsWord rows (codes "DIR") folder × AreSettings rows settings
 TakesValues rows (Write folder moment) = IsWord rows (codes "DIR") folder × IsNumber rows (codes "MOMENT") moment
+TakesValues rows (Log folder) = IsWord rows (codes "DIR") folder
 TakesValues rows (Read folder back begin) =
     IsWord rows (codes "DIR") folder × IsFlag rows (codes "back") back × IsOption rows (codes "from") begin
 TakesValues rows (Take folder name) = IsWord rows (codes "DIR") folder × IsWord rows (codes "NAME") name

@@ -20,7 +20,7 @@ pub(crate) fn command_line<'a>(alloc: Global) -> Result<Command<'a>, AllocError>
 
 /// The commands that need no folder, and those on a queue that is stored in a folder.
 const COMMANDS: &[Description] = &[
-    ECHO, CYCLE, RACE, INIT, WRITE, READ, TAKE, DROP, CHECK, DUMP, SALVAGE, MIGRATE,
+    ECHO, CYCLE, RACE, INIT, WRITE, LOG, READ, TAKE, DROP, CHECK, DUMP, SALVAGE, MIGRATE,
 ];
 
 const ECHO: Description = Description {
@@ -106,6 +106,17 @@ const WRITE: Description = Description {
              to 253,402,300,799,999, and in a cycle up to 2,147,483,646",
         ),
     ],
+};
+
+const LOG: Description = Description {
+    name: "log",
+    about: "Keeps a queue open: appends each line as it comes, and prints its index once it is stored",
+    after_help: "Input: until it ends, lines that are not empty, each in a cycle with room for it. A line has the time\n\
+     of the machine's clock. A first cycle begins at once. Its index is printed after a sync of\n\
+     queue.log in DIR: from then on the line survives a crash. At the end of the input the\n\
+     images are saved. After a crash the next command saves them from the log.\n\n\
+     Example:\n  printf 'hello\\nworld\\n' | cq log journal",
+    arguments: &[FOLDER],
 };
 
 const READ: Description = Description {

@@ -48,6 +48,7 @@ fn order_named(alloc: Global, name: &str, values: &ArgMatches<'_>) -> Result<Ord
         "cycle" => cycle_order(alloc, values),
         "init" => init_order(alloc, values),
         "write" => write_order(alloc, values),
+        "log" => log_order(alloc, values),
         "read" => read_order(alloc, values),
         "take" => take_order(alloc, values),
         "drop" => drop_order(alloc, values),
@@ -103,6 +104,15 @@ fn write_order(alloc: Global, values: &ArgMatches<'_>) -> Result<Order, OrderFau
     Ok(Order::Write {
         folder: word(alloc, values, "DIR")?,
         moment: number(values, "MOMENT")?,
+    })
+}
+
+fn log_order(alloc: Global, values: &ArgMatches<'_>) -> Result<Order, OrderFault>
+    ensures named { IfOk result (λ order. word_of order ≡ codes "log") }
+    ensures values { IfOk result (λ order. TakesValues (rows_of (found_of values.now)) order) }
+{
+    Ok(Order::Log {
+        folder: word(alloc, values, "DIR")?,
     })
 }
 

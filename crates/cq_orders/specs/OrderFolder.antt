@@ -1,7 +1,7 @@
--- The folder of an order, and which orders need threads.
+-- The folder of an order, and which orders go on for longer than one call.
 use Rattle.std.specs.Prelude.{⊤, ℕ, List, Option, None, Some, string_bytes}
 use Rattle.cq_orders.specs.declared.order.Order.{Order}
-use Rattle.cq_orders.specs.declared.order.Order.TheVariants.{Echo, Cycle, Init, Write, Read, Take, Check, Dump, Salvage, Race, DropBefore, Migrate}
+use Rattle.cq_orders.specs.declared.order.Order.TheVariants.{Echo, Cycle, Init, Write, Log, Read, Take, Check, Dump, Salvage, Race, DropBefore, Migrate}
 
 -- the path of the folder that an order is for
 abbrev pub folder_of : Order → Option (List ℕ)
@@ -9,6 +9,7 @@ folder_of Echo = None
 folder_of (Cycle roll epoch moment) = None
 folder_of (Init folder settings) = Some (string_bytes folder)
 folder_of (Write folder moment) = Some (string_bytes folder)
+folder_of (Log folder) = Some (string_bytes folder)
 folder_of (Read folder back from) = Some (string_bytes folder)
 folder_of (Take folder name) = Some (string_bytes folder)
 folder_of (DropBefore folder cycle) = Some (string_bytes folder)
@@ -22,3 +23,8 @@ folder_of (Race messages) = None
 abbrev pub IsRace : Order → Type 0
 IsRace (Race messages) = ⊤
 IsRace _ = ⊥
+
+-- the order keeps a queue open
+abbrev pub IsLog : Order → Type 0
+IsLog (Log folder) = ⊤
+IsLog _ = ⊥

@@ -31,6 +31,11 @@ pub enum Order {
         /// The moment of the lines, in milliseconds of Unix time.
         moment: u64,
     },
+    /// Append each line of the input as it comes, and print its index once it is stored.
+    Log {
+        /// The folder.
+        folder: String,
+    },
     /// Print the messages in order.
     Read {
         /// The folder.
@@ -95,6 +100,7 @@ impl Order {
             Order::Echo | Order::Cycle { .. } | Order::Race { .. } => None,
             Order::Init { folder, .. }
             | Order::Write { folder, .. }
+            | Order::Log { folder }
             | Order::Read { folder, .. }
             | Order::Take { folder, .. }
             | Order::DropBefore { folder, .. }

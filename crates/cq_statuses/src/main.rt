@@ -7,11 +7,11 @@ use std::fmt::Display;
 use std::fs::File;
 use std::io::{self, Stdout};
 use std::process::{self, ExitCode};
-use std::rt::Files;
+use std::rt::{Clock, Files};
 use std::thread::Threads;
 
 /// The words of each start, after the program's name.
-const STARTS: [&[&str]; 32] = [
+const STARTS: [&[&str]; 35] = [
     &["read", "."],
     &["take", ".", "reader"],
     &["migrate", "."],
@@ -41,6 +41,9 @@ const STARTS: [&[&str]; 32] = [
     &["read", "other"],
     &["drop", "other", "1"],
     &["init", "other", "daily", "0", "64", "8", "1", "4"],
+    &["log", "nowhere"],
+    &["log", "broken"],
+    &["log", "other"],
     &["take", "."],
     &["race", "10"],
     &["race", "1001"],
@@ -77,7 +80,7 @@ fn main(rt: HostRuntime) -> ExitCode {
 /// Starts the program with these words, and prints them and its status.
 fn start<R>(rt: &R, errors: &OnOutput, words: &[&str], process: u32) -> u8
 where
-    R: AllocGlobal + Files<File = File> + Input + Print + Threads + Sync + Clone + Drop,
+    R: AllocGlobal + Files<File = File> + Input + Print + Clock + Threads + Sync + Clone + Drop,
 {
     let _ = print!(rt; "cq");
     for word in words {

@@ -14,6 +14,7 @@
 #![tactic(auto)]
 
 mod fault;
+mod logging;
 mod starting;
 
 pub use cq_command_line::{ParseFault, parse};

@@ -1,19 +1,21 @@
 //! A start of the program: from its command line to its exit status.
 
 ghost use Rattle.std.specs.Prelude.{◌≡◌};
-ghost use Rattle.cq_orders.specs.OrderFolder.{IsRace};
+ghost use Rattle.cq_orders.specs.OrderFolder.{IsLog, IsRace};
 
 use crate::fault::StartFault;
+use crate::logging::log;
 use cq_command_line::{ParseFault, parse};
-use cq_folder::LOG_FILE;
+use cq_folder::{Folder, LOG_FILE};
 use cq_logged::{LogFault, LoggedFolder, SystemLock};
 use cq_orders::Order;
 use cq_race::{OpenGate, race};
 use cq_real_folder::RealFolder;
 use cq_text::ToolFault;
+use std::alloc::AllocError;
 use std::fs::File;
 use std::io::{self, ErrorKind};
-use std::rt::Files;
+use std::rt::{Clock, Files};
 use std::thread::Threads;
 
 /// The command was done.
@@ -32,7 +34,7 @@ pub const NOT_UNDERSTOOD: u8 = 2;
 /// come together is only tested.
 pub fn status<R, E>(rt: &R, errors: &E, words: io::Result<Vec<String>>, process: u32) -> u8
 where
-    R: AllocGlobal + Files<File = File> + Input + Print + Threads + Sync + Clone + Drop,
+    R: AllocGlobal + Files<File = File> + Input + Print + Clock + Threads + Sync + Clone + Drop,
     E: Eprint,
 {
     let words = match words {
@@ -70,11 +72,12 @@ fn fault<E: Eprint>(errors: &E, fault: StartFault) -> u8
 /// Runs an order, over the folder that it names and the standard streams.
 fn run<R, E>(rt: &R, errors: &E, process: u32, order: &Order) -> Result<(), StartFault>
 where
-    R: AllocGlobal + Files<File = File> + Input + Print + Threads + Sync + Clone + Drop,
+    R: AllocGlobal + Files<File = File> + Input + Print + Clock + Threads + Sync + Clone + Drop,
     E: Eprint,
 {
     match order {
         Order::Race { messages } => Ok(race(rt, *messages, &OpenGate, &mut io::writer(rt))?),
+        Order::Log { folder } => log(rt, process, folder.as_str()),
         _ => run_alone(rt, errors, process, order),
     }
 }
@@ -84,20 +87,53 @@ fn run_alone<R, E>(rt: &R, errors: &E, process: u32, order: &Order) -> Result<()
 where
     R: AllocGlobal + Files<File = File> + Input + Print + Clone + Drop,
     E: Eprint,
-    requires { ¬ IsRace order.now }
+    requires alone { ¬ IsRace order.now }
+    requires ends { ¬ IsLog order.now }
+{
+    let mut folder = logged_folder(rt, process, order.folder().unwrap_or(""))?;
+    let done = run_in(rt, order, &mut folder);
+    let (_folder, cause) = folder.into_parts();
+    end(errors, done, cause)
+}
+
+/// Returns the folder of this path, which is seen with what its log gives.
+fn logged_folder<'a, R>(
+    rt: &'a R,
+    process: u32,
+    path: &str,
+) -> Result<LoggedFolder<RealFolder<'a, R>, SystemLock<'a, R>>, AllocError>
+where
+    R: AllocGlobal + Files<File = File> + Clone + Drop,
 {
     let alloc = rt.alloc();
-    let path = String::from_str(alloc, order.folder().unwrap_or(""))?;
+    let path = String::from_str(alloc, path)?;
     let lock = SystemLock::new(rt, format!(in alloc; "{path}/{LOG_FILE}")?);
-    let mut folder = LoggedFolder::new(alloc, RealFolder::new(rt, path, process), lock);
-    let done = cq_commands::run(
-        alloc,
+    Ok(LoggedFolder::new(alloc, RealFolder::new(rt, path, process), lock))
+}
+
+/// Runs an order for one caller over a folder and the standard streams.
+fn run_in<R, F>(rt: &R, order: &Order, folder: &mut F) -> Result<(), ToolFault>
+where
+    R: AllocGlobal + Input + Print,
+    F: Folder,
+    requires alone { ¬ IsRace order.now }
+    requires ends { ¬ IsLog order.now }
+{
+    cq_commands::run(
+        rt.alloc(),
         order,
-        &mut folder,
+        folder,
         &mut rt.reader(),
         &mut io::writer(rt),
-    );
-    let (_folder, cause) = folder.into_parts();
+    )
+}
+
+/// Returns what an order came to, by why its log kept it out or was not shown. If the log is not shown, `errors` says so.
+fn end<E: Eprint>(
+    errors: &E,
+    done: Result<(), ToolFault>,
+    cause: Option<LogFault>,
+) -> Result<(), StartFault> {
     match cause {
         None => done.map_err(StartFault::Tool),
         Some(LogFault::NotShown(fault)) => {
