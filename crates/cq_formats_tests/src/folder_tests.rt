@@ -12,7 +12,7 @@ use std::test::Fail;
 static WRITES: [(&str, &[u8]); 4] = [("b", b"old"), ("a", b"old"), ("b", b""), ("a", b"abc")];
 
 /// Writes the files `a` and `b`, at last of three bytes and of none.
-fn write_two_files<F: Folder>(alloc: Global, folder: &mut F) -> Result<(), FolderFault> {
+fn write_two_files(alloc: Global, folder: &mut MemoryFolder) -> Result<(), FolderFault> {
     for &(name, bytes) in &WRITES {
         folder.begin(alloc, Access::Alone)?;
         folder.write(name, bytes)?;
@@ -81,7 +81,7 @@ static READS: [(&str, usize, &str); 5] = [
 
 /// Writes those two files. Fails if a folder then keeps other files, or if another call of it failed than the read of
 /// a file that is not there.
-fn expect_two_files<F: Folder>(alloc: Global, folder: &mut F) -> Result<(), Fail> {
+fn expect_two_files(alloc: Global, folder: &mut MemoryFolder) -> Result<(), Fail> {
     write_two_files(alloc, folder)?;
     folder.begin(alloc, Access::Shared)?;
     expect_text(names_text(alloc, folder)?, "a b ")?;
@@ -90,7 +90,7 @@ fn expect_two_files<F: Folder>(alloc: Global, folder: &mut F) -> Result<(), Fail
 }
 
 /// Fails if reads of those two files return other than wanted.
-fn expect_reads<F: Folder>(alloc: Global, folder: &mut F) -> Result<(), Fail> {
+fn expect_reads(alloc: Global, folder: &mut MemoryFolder) -> Result<(), Fail> {
     for &(name, limit, want) in &READS {
         folder.begin(alloc, Access::Shared)?;
         expect_text(read_text(alloc, folder, name, limit)?, want)?;
@@ -99,7 +99,7 @@ fn expect_reads<F: Folder>(alloc: Global, folder: &mut F) -> Result<(), Fail> {
 }
 
 /// Fails as `expect_two_files` does, and if there is a file without a name.
-fn expect_no_more_files<F: Folder>(alloc: Global, folder: &mut F) -> Result<(), Fail> {
+fn expect_no_more_files(alloc: Global, folder: &mut MemoryFolder) -> Result<(), Fail> {
     expect_two_files(alloc, folder)?;
     folder.begin(alloc, Access::Shared)?;
     expect_text(read_text(alloc, folder, "", 9)?, "Device")?;
@@ -138,7 +138,10 @@ pub fn save<F: Folder>(
 }
 
 /// What entering a folder returns, and then its list, a write, a read and a save, and how many calls failed, as text.
-fn calls_text<F: Folder>(alloc: Global, folder: &mut F) -> Result<String, AllocError> {
+fn calls_text(
+    alloc: Global,
+    folder: &mut FailingFolder<NotedFolder>,
+) -> Result<String, AllocError> {
     let mut text = String::new(alloc);
     push_calls(alloc, folder, &mut text)?;
     folder.end();
@@ -148,9 +151,9 @@ fn calls_text<F: Folder>(alloc: Global, folder: &mut F) -> Result<String, AllocE
 }
 
 /// Adds to a text what entering a folder returns, and what the calls of a command return that has entered.
-fn push_calls<F: Folder>(
+fn push_calls(
     alloc: Global,
-    folder: &mut F,
+    folder: &mut FailingFolder<NotedFolder>,
     text: &mut String,
 ) -> Result<(), AllocError> {
     let begun = folder.begin(alloc, Access::Alone);
@@ -186,27 +189,12 @@ fn list<F: Folder>(alloc: Global, folder: &mut F) -> Result<(), FolderFault>
 }
 
 /// What the files `a`, `b` and `c` hold, as text.
-fn three_text<F: Folder>(alloc: Global, folder: &mut F) -> Result<String, AllocError>
-    requires { IsSome (F.entered folder.old) }
-{
-    let mut text = read_text(alloc, folder, "a", 3)?;
-    push_held(alloc, folder, "b", &mut text)?;
-    push_held(alloc, folder, "c", &mut text)?;
-    Ok(text)
-}
-
-/// Adds what a file holds to a text, after a space.
-fn push_held<F: Folder>(
-    alloc: Global,
-    folder: &mut F,
-    name: &str,
-    text: &mut String,
-) -> Result<(), AllocError>
-    requires { IsSome (F.entered folder.old) }
-    ensures { F.entered folder.new ≡ F.entered folder.old }
-{
-    let held = read_text(alloc, folder, name, 3)?;
-    write!(text, " {held}")
+fn three_text(alloc: Global, folder: &mut NotedFolder) -> Result<String, Fail> {
+    folder.begin(alloc, Access::Shared)?;
+    let a = read_text(alloc, folder, "a", 3)?;
+    let b = read_text(alloc, folder, "b", 3)?;
+    let c = read_text(alloc, folder, "c", 3)?;
+    Ok(format!(in alloc; "{a} {b} {c}")?)
 }
 
 /// Fails if the calls of a folder return other than wanted, or if its files then hold something else.
@@ -220,7 +208,6 @@ fn expect_failing(
     let mut within = folder.into_inner();
     within.written?;
     expect_text(answers, calls)?;
-    within.begin(alloc, Access::Shared)?;
     expect_text(three_text(alloc, &mut within)?, held)
 }
 

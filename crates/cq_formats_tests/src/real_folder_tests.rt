@@ -4,10 +4,9 @@ ghost use Rattle.std.specs.Prelude.{IsSome};
 
 use crate::folder_tests::{in_order, names_text, save};
 use cq_fixtures::{expect_text, push_missed};
-use cq_folder::{Access, Folder};
+use cq_folder::{Access, Folder, FolderFault};
 use cq_real_folder::RealFolder;
 use std::alloc::{AllocError, Global};
-use std::fmt::Debug;
 use std::fs::{File, OpenFile, TryLockError};
 use std::rt::Files;
 use std::test::Fail;
@@ -61,7 +60,10 @@ fn expect_steps(
     steps: &'static [(Step, &'static str)],
 ) -> Result<(), Fail> {
     let path = temporary_path(rt, name)?;
-    expect_text(missed_in_new(rt, path.as_str(), steps)?, "")
+    fs::create_dir(rt, path.as_str())?;
+    let missed = missed(rt, path.as_str(), steps)?;
+    fs::remove_dir_all(rt, path.as_str())?;
+    expect_text(missed, "")
 }
 
 /// A path within the folder for temporary files.
@@ -71,87 +73,37 @@ fn temporary_path(rt: &HostRuntime, name: &str) -> Result<String, Fail> {
     Ok(format!(in rt.alloc(); "{}/cq_{name}_{id}", within.display())?)
 }
 
-/// What steps in a new folder at a path say other than their rows want, with their places.
-fn missed_in_new(
-    rt: &HostRuntime,
-    path: &str,
-    steps: &'static [(Step, &'static str)],
-) -> Result<String, Fail> {
-    fs::create_dir(rt, path)?;
-    let missed = missed(rt, path, steps)?;
-    fs::remove_dir_all(rt, path)?;
-    Ok(missed)
-}
-
-/// The same if the steps remove that folder.
-fn missed_in_gone(
-    rt: &HostRuntime,
-    path: &str,
-    steps: &'static [(Step, &'static str)],
-) -> Result<String, Fail> {
-    fs::create_dir(rt, path)?;
-    missed(rt, path, steps)
-}
-
-/// The same in the folder at a path, which is there or not.
-fn missed(
-    rt: &HostRuntime,
-    path: &str,
-    steps: &'static [(Step, &'static str)],
-) -> Result<String, Fail> {
+/// What steps in the folder at a path, which is there or not, say other than their rows want, with their places.
+fn missed(rt: &HostRuntime, path: &str, steps: &[(Step, &str)]) -> Result<String, Fail> {
     let mut folder = RealFolder::new(rt, String::from_str(rt.alloc(), path)?, 7);
     missed_by(rt, path, &mut folder, steps)
 }
 
 /// The same of a folder that is the one at a path.
-fn missed_by<R, F>(
-    rt: &R,
+fn missed_by(
+    rt: &HostRuntime,
     path: &str,
-    folder: &mut F,
+    folder: &mut RealFolder<'_, HostRuntime>,
     steps: &[(Step, &str)],
-) -> Result<String, Fail>
-where
-    R: Files<File = File> + AllocGlobal + Clone + Drop,
-    F: Folder,
-{
+) -> Result<String, Fail> {
     let mut text = String::new(rt.alloc());
-    push_missed_steps(rt, path, folder, steps, &mut text)?;
-    Ok(text)
-}
-
-/// Adds to a text what steps say other than their rows want, with their places.
-fn push_missed_steps<R, F>(
-    rt: &R,
-    path: &str,
-    folder: &mut F,
-    steps: &[(Step, &str)],
-    text: &mut String,
-) -> Result<(), Fail>
-where
-    R: Files<File = File> + AllocGlobal + Clone + Drop,
-    F: Folder,
-{
     for (place, (step, want)) in steps.iter().enumerate() {
         let said = said_beside(rt, path, folder, step, want)?;
-        push_missed(rt.alloc(), text, place, said.as_str(), want)?;
+        push_missed(rt.alloc(), &mut text, place, said.as_str(), want)?;
     }
-    Ok(())
+    Ok(text)
 }
 
 /// Takes a step in the folder at a path, and gives what is said. If that is not what is wanted, it also says whether
 /// the step was put off. A save that gets no memory after its record, or for removing what it gives up, reports
 /// nothing, and leaves that to the next command that is alone.
-fn said_beside<R, F>(
-    rt: &R,
+fn said_beside(
+    rt: &HostRuntime,
     path: &str,
-    folder: &mut F,
+    folder: &mut RealFolder<'_, HostRuntime>,
     step: &Step,
     want: &str,
-) -> Result<String, Fail>
-where
-    R: Files<File = File> + AllocGlobal + Clone + Drop,
-    F: Folder,
-{
+) -> Result<String, Fail> {
     let said = said_at(rt, path, folder, step)?;
     if said.as_str() == want || !is_put_off(rt, path, folder, step, want)? {
         return Ok(said);
@@ -160,17 +112,13 @@ where
 }
 
 /// Whether what is wanted is said at a step in the folder at a path once a command has entered alone.
-fn is_put_off<R, F>(
-    rt: &R,
+fn is_put_off(
+    rt: &HostRuntime,
     path: &str,
-    folder: &mut F,
+    folder: &mut RealFolder<'_, HostRuntime>,
     step: &Step,
     want: &str,
-) -> Result<bool, Fail>
-where
-    R: Files<File = File> + AllocGlobal + Clone + Drop,
-    F: Folder,
-{
+) -> Result<bool, Fail> {
     if folder.begin(rt.alloc(), Access::Alone).is_err() {
         return Ok(false);
     }
@@ -179,11 +127,12 @@ where
 }
 
 /// Takes a step in the folder at a path, and gives what is said.
-fn said_at<R, F>(rt: &R, path: &str, folder: &mut F, step: &Step) -> Result<String, Fail>
-where
-    R: Files<File = File> + AllocGlobal + Clone + Drop,
-    F: Folder,
-{
+fn said_at(
+    rt: &HostRuntime,
+    path: &str,
+    folder: &mut RealFolder<'_, HostRuntime>,
+    step: &Step,
+) -> Result<String, Fail> {
     let alloc = rt.alloc();
     match *step {
         Step::Put(name, text) => put(rt, path, name, text),
@@ -195,23 +144,20 @@ where
         Step::IsLocked(name) => is_locked(rt, path, name),
         Step::Many(count) => put_many(rt, path, count),
         Step::Listed => listed(rt, path),
-        Step::Count => counted(alloc, folder),
+        Step::Try(access) => tried(rt, path, access),
         Step::Begin(access) => answer(alloc, folder.begin(alloc, access)),
         Step::End => ended(alloc, folder),
-        Step::Try(access) => tried(rt, path, access),
-        Step::Save(files) => saved(alloc, folder, files),
-        Step::Write(name, text) => written(alloc, folder, name, text),
-        Step::Names => named(alloc, folder),
-        Step::Read(name) => text_of(alloc, folder, name),
         Step::Failures => failed(alloc, folder),
+        Step::Save(..) | Step::Write(..) => said_alone(alloc, folder, step),
+        Step::Count | Step::Names | Step::Read(_) => said_inside(alloc, folder, step),
     }
 }
 
-/// Nothing if a call was done, or its error.
-fn answer<E: Debug + Drop>(alloc: Global, done: Result<(), E>) -> Result<String, Fail> {
+/// Nothing if a call was done, or its fault.
+fn answer(alloc: Global, done: Result<(), FolderFault>) -> Result<String, Fail> {
     match done {
         Ok(()) => Ok(String::new(alloc)),
-        Err(error) => Ok(format!(in alloc; "{error:?}")?),
+        Err(fault) => Ok(format!(in alloc; "{fault:?}")?),
     }
 }
 
@@ -220,68 +166,55 @@ fn within(alloc: Global, path: &str, name: &str) -> Result<String, AllocError> {
     format!(in alloc; "{path}/{name}")
 }
 
-fn put<R: Files + AllocGlobal>(rt: &R, path: &str, name: &str, text: &str) -> Result<String, Fail> {
+fn put(rt: &HostRuntime, path: &str, name: &str, text: &str) -> Result<String, Fail> {
     fs::write(rt, within(rt.alloc(), path, name)?.as_str(), text)?;
     Ok(String::new(rt.alloc()))
 }
 
-fn put_record<R: Files + AllocGlobal>(
-    rt: &R,
-    path: &str,
-    first: &str,
-    count: usize,
-) -> Result<String, Fail> {
+fn put_record(rt: &HostRuntime, path: &str, first: &str, count: usize) -> Result<String, Fail> {
     let names = "1.cqi\n".repeat(rt.alloc(), count)?;
     let text = format!(in rt.alloc(); "cq save 1\n9\n{first}\n{names}end\n")?;
     put(rt, path, "queue.save", text.as_str())
 }
 
-fn link<R: Files + AllocGlobal>(rt: &R, path: &str, name: &str, to: &str) -> Result<String, Fail> {
-    let place = within(rt.alloc(), path, name)?;
-    answer(rt.alloc(), rt.symlink(to, place.as_str()))
+fn link(rt: &HostRuntime, path: &str, name: &str, to: &str) -> Result<String, Fail> {
+    rt.symlink(to, within(rt.alloc(), path, name)?.as_str())?;
+    Ok(String::new(rt.alloc()))
 }
 
-fn make<R: Files + AllocGlobal>(rt: &R, path: &str, name: &str) -> Result<String, Fail> {
+fn make(rt: &HostRuntime, path: &str, name: &str) -> Result<String, Fail> {
     fs::create_dir(rt, within(rt.alloc(), path, name)?.as_str())?;
     Ok(String::new(rt.alloc()))
 }
 
-fn removed<R: Files + AllocGlobal>(rt: &R, path: &str) -> Result<String, Fail> {
+fn removed(rt: &HostRuntime, path: &str) -> Result<String, Fail> {
     fs::remove_dir(rt, path)?;
     Ok(String::new(rt.alloc()))
 }
 
 /// Lets a file be read alone.
-fn lock<R: Files + AllocGlobal>(rt: &R, path: &str, name: &str) -> Result<String, Fail> {
-    make_unwritable(rt, within(rt.alloc(), path, name)?.as_str())?;
+fn lock(rt: &HostRuntime, path: &str, name: &str) -> Result<String, Fail> {
+    let file = within(rt.alloc(), path, name)?;
+    let mut permissions = fs::metadata(rt, file.as_str())?.permissions();
+    permissions.set_readonly(true);
+    rt.set_permissions(file.as_str(), permissions)?;
     Ok(String::new(rt.alloc()))
 }
 
-/// Lets the file at a path be read alone.
-fn make_unwritable<R: Files>(rt: &R, path: &str) -> Result<(), Fail> {
-    let mut permissions = fs::metadata(rt, path)?.permissions();
-    permissions.set_readonly(true);
-    Ok(rt.set_permissions(path, permissions)?)
-}
-
 /// Whether a file may be read alone, as text.
-fn is_locked<R: Files + AllocGlobal>(rt: &R, path: &str, name: &str) -> Result<String, Fail> {
+fn is_locked(rt: &HostRuntime, path: &str, name: &str) -> Result<String, Fail> {
     let file = within(rt.alloc(), path, name)?;
     let is_locked = fs::metadata(rt, file.as_str())?.permissions().readonly();
     Ok(format!(in rt.alloc(); "{is_locked}")?)
 }
 
-fn put_many<R: Files + AllocGlobal>(rt: &R, path: &str, count: usize) -> Result<String, Fail> {
+/// Puts this many empty files with long names.
+fn put_many(rt: &HostRuntime, path: &str, count: usize) -> Result<String, Fail> {
     for number in 0..count {
-        put_long(rt, path, number)?;
+        let file = format!(in rt.alloc(); "{path}/{number:0>250}")?;
+        fs::write(rt, file.as_str(), "")?;
     }
     Ok(String::new(rt.alloc()))
-}
-
-/// Puts an empty file with a long name.
-fn put_long<R: Files + AllocGlobal>(rt: &R, path: &str, number: usize) -> Result<String, Fail> {
-    let name = format!(in rt.alloc(); "{number:0>250}")?;
-    put(rt, path, name.as_str(), "")
 }
 
 /// What is said in place of a call that only a command makes that has entered, or is alone.
@@ -289,38 +222,8 @@ fn outside(alloc: Global) -> Result<String, Fail> {
     Ok(String::from_str(alloc, "outside")?)
 }
 
-fn saved<F: Folder>(alloc: Global, folder: &mut F, files: &[(&str, &str)]) -> Result<String, Fail> {
-    match folder.access() {
-        Some(Access::Alone) => answer(alloc, save(alloc, folder, files)?),
-        Some(Access::Shared) | None => outside(alloc),
-    }
-}
-
-fn written<F: Folder>(
-    alloc: Global,
-    folder: &mut F,
-    name: &str,
-    text: &str,
-) -> Result<String, Fail> {
-    match folder.access() {
-        Some(Access::Alone) => answer(alloc, folder.write(name, text.as_bytes())),
-        Some(Access::Shared) | None => outside(alloc),
-    }
-}
-
-fn counted<F: Folder>(alloc: Global, folder: &mut F) -> Result<String, Fail> {
-    match folder.access() {
-        Some(_) => Ok(format!(in alloc; "{}", folder.names(alloc)?.len())?),
-        None => outside(alloc),
-    }
-}
-
 /// Whether the folder at a path, which is opened once more, can be locked: "free" or "held".
-fn tried<R: Files<File = File> + AllocGlobal>(
-    rt: &R,
-    path: &str,
-    access: Access,
-) -> Result<String, Fail> {
+fn tried(rt: &HostRuntime, path: &str, access: Access) -> Result<String, Fail> {
     let folder = File::open(rt, path)?;
     let tried = match access {
         Access::Shared => folder.try_lock_shared(),
@@ -333,32 +236,50 @@ fn tried<R: Files<File = File> + AllocGlobal>(
     }
 }
 
-fn ended<F: Folder>(alloc: Global, folder: &mut F) -> Result<String, Fail> {
+fn ended(alloc: Global, folder: &mut RealFolder<'_, HostRuntime>) -> Result<String, Fail> {
     folder.end();
     Ok(String::new(alloc))
 }
 
-fn named<F: Folder>(alloc: Global, folder: &mut F) -> Result<String, Fail> {
-    match folder.access() {
-        Some(_) => Ok(names_text(alloc, folder)?),
-        None => outside(alloc),
-    }
-}
-
-fn failed<F: Folder>(alloc: Global, folder: &mut F) -> Result<String, Fail> {
+fn failed(alloc: Global, folder: &mut RealFolder<'_, HostRuntime>) -> Result<String, Fail> {
     Ok(format!(in alloc; "{}", folder.failures())?)
 }
 
-/// The text of a file, or the fault of its read.
-fn text_of<F: Folder>(alloc: Global, folder: &mut F, name: &str) -> Result<String, Fail> {
-    match folder.access() {
-        Some(_) => text_within(alloc, folder, name),
-        None => outside(alloc),
+/// What a step says that only a command takes that is alone.
+fn said_alone(
+    alloc: Global,
+    folder: &mut RealFolder<'_, HostRuntime>,
+    step: &Step,
+) -> Result<String, Fail> {
+    let Some(Access::Alone) = folder.access() else {
+        return outside(alloc);
+    };
+    match *step {
+        Step::Save(files) => answer(alloc, save(alloc, folder, files)?),
+        Step::Write(name, text) => answer(alloc, folder.write(name, text.as_bytes())),
+        _ => Err(Fail::new("no such step")),
     }
 }
 
-/// The same once a command has entered.
-fn text_within<F: Folder>(alloc: Global, folder: &mut F, name: &str) -> Result<String, Fail>
+/// What a step says that only a command takes that has entered.
+fn said_inside(
+    alloc: Global,
+    folder: &mut RealFolder<'_, HostRuntime>,
+    step: &Step,
+) -> Result<String, Fail> {
+    let Some(_) = folder.access() else {
+        return outside(alloc);
+    };
+    match *step {
+        Step::Count => Ok(format!(in alloc; "{}", folder.names(alloc)?.len())?),
+        Step::Names => Ok(names_text(alloc, folder)?),
+        Step::Read(name) => text_of(alloc, folder, name),
+        _ => Err(Fail::new("no such step")),
+    }
+}
+
+/// The text of a file, or the fault of its read.
+fn text_of<F: Folder>(alloc: Global, folder: &mut F, name: &str) -> Result<String, Fail>
     requires { IsSome (F.entered folder.old) }
 {
     match folder.read(alloc, name, 100) {
@@ -367,30 +288,19 @@ fn text_within<F: Folder>(alloc: Global, folder: &mut F, name: &str) -> Result<S
     }
 }
 
-/// The names that the system lists.
-fn listed<R: Files<File = File> + AllocGlobal + Clone + Drop>(
-    rt: &R,
-    path: &str,
-) -> Result<String, Fail> {
+/// The names that the system lists, in their order.
+fn listed(rt: &HostRuntime, path: &str) -> Result<String, Fail> {
     let mut names = Vec::new(rt.alloc());
     push_names(rt, path, &mut names)?;
     Ok(in_order(rt.alloc(), names)?)
 }
 
 /// Adds the names that the system lists to others.
-fn push_names<R>(rt: &R, path: &str, names: &mut Vec<String>) -> Result<(), Fail>
-where
-    R: Files<File = File> + AllocGlobal + Clone + Drop,
-{
+fn push_names(rt: &HostRuntime, path: &str, names: &mut Vec<String>) -> Result<(), Fail> {
     for entry in fs::read_dir(rt, path)? {
-        push_name(rt.alloc(), entry?.file_name(), names)?;
+        names.push(String::from_str(rt.alloc(), entry?.file_name())?)?;
     }
     Ok(())
-}
-
-/// Adds a name to others.
-fn push_name(alloc: Global, name: &str, names: &mut Vec<String>) -> Result<(), AllocError> {
-    Ok(names.push(String::from_str(alloc, name)?)?)
 }
 
 /// A write replaces a file, and what an older write of this process left.
@@ -690,5 +600,6 @@ static GONE: [(Step, &str); 8] = [
 #[test]
 fn a_folder_that_is_gone_is_a_device_fault(rt: HostRuntime) -> Result<(), Fail> {
     let path = temporary_path(&rt, "gone")?;
-    expect_text(missed_in_gone(&rt, path.as_str(), &GONE)?, "")
+    fs::create_dir(&rt, path.as_str())?;
+    expect_text(missed(&rt, path.as_str(), &GONE)?, "")
 }

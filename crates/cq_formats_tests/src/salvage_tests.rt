@@ -1,11 +1,12 @@
 //! What is saved of images that are cut or changed.
+use crate::image_tests::Change::{Add, Cut, Patch, Same};
 use crate::image_tests::{
     Change, HELLO, HELLO_OF_VERSION_2, HELLO_RECORD, changed, image_of_copies, image_with, outcome,
 };
 use crate::settings::push_message;
 use cq_cycle::Roll;
 use cq_fixtures::expect_text;
-use cq_image::{ImageFault, Salvaged, salvage};
+use cq_image::{Salvaged, salvage};
 use cq_layout::{Messages, Shape};
 use std::alloc::{AllocError, Global};
 use std::test::Fail;
@@ -15,7 +16,10 @@ fn saved(alloc: Global, cycle: u32, shape: Shape, bytes: &[u8]) -> Result<String
     let Salvaged { messages, fault } = salvage(alloc, cycle, shape, Roll::Daily, 0, bytes)?;
     let mut text = String::new(alloc);
     push_messages(&messages.messages(), &mut text)?;
-    push_fault(fault, &mut text)?;
+    match fault {
+        Some(fault) => write!(text, "{fault}")?,
+        None => text.push_str("whole")?,
+    }
     Ok(text)
 }
 
@@ -25,14 +29,6 @@ fn push_messages(messages: &Messages<'_>, text: &mut String) -> Result<(), Alloc
         push_message(messages.bytes(sequence), " ", text)?;
     }
     Ok(())
-}
-
-/// Adds a fault to a text, or `whole`.
-fn push_fault(fault: Option<ImageFault>, text: &mut String) -> Result<(), AllocError> {
-    match fault {
-        Some(fault) => write!(text, "{fault}"),
-        None => text.push_str("whole"),
-    }
 }
 
 /// How many of the first bytes of the worked image are left, from a number to another one, what they are read as, and what
@@ -51,7 +47,7 @@ static BEGINNINGS: [(usize, usize, &str, &str); 8] = [
 /// Fails if the first bytes of the worked image, this many of them, are read or saved other than wanted.
 fn expect_beginning(alloc: Global, len: usize, read: &str, want: &str) -> Result<(), Fail> {
     let shape = Shape::new(64, 8, 1)?;
-    let bytes = changed(alloc, &HELLO, &[Change::Cut(len)])?;
+    let bytes = changed(alloc, &HELLO, &Cut(len), &Same)?;
     expect_text(outcome(alloc, 0, shape, &bytes)?, read)?;
     expect_text(saved(alloc, 0, shape, &bytes)?, want)
 }
@@ -72,52 +68,37 @@ fn expect_saved(
     cycle: u32,
     shape: Shape,
     bytes: &[u8],
-    table: &[(&[Change], &str)],
+    table: &[(Change, &str)],
 ) -> Result<(), Fail> {
-    for &(changes, want) in table {
-        let bytes = changed(alloc, bytes, changes)?;
+    for (change, want) in table {
+        let bytes = changed(alloc, bytes, change, &Same)?;
         expect_text(saved(alloc, cycle, shape, &bytes)?, want)?;
     }
     Ok(())
 }
 
 /// The worked image with some bytes replaced, and what is saved of it.
-static CHANGED: [(&[Change], &str); 12] = [
-    (&[], "hello whole"),
-    (&[Change::Cut(113)], "hello Cut at 112"),
-    (&[Change::Patch(109, &[1])], "BadPadding at 109"),
-    (
-        &[Change::Patch(68, &[0, 0, 0, 0])],
-        "hello WrongTable at 68",
-    ),
-    (
-        &[Change::Patch(32, &[0, 0, 0, 0])],
-        "hello WrongTable at 32",
-    ),
-    (&[Change::Patch(36, &[4])], "hello WrongTable at 36"),
+static CHANGED: [(Change, &str); 12] = [
+    (Same, "hello whole"),
+    (Cut(113), "hello Cut at 112"),
+    (Patch(109, &[1]), "BadPadding at 109"),
+    (Patch(68, &[0, 0, 0, 0]), "hello WrongTable at 68"),
+    (Patch(32, &[0, 0, 0, 0]), "hello WrongTable at 32"),
+    (Patch(36, &[4]), "hello WrongTable at 36"),
     // A header of the longest message, and one of the longest meta-data.
+    (Patch(100, &[0xff, 0xff, 0xff, 0x3f]), "Cut at 100"),
+    (Patch(100, &[0xff, 0xff, 0xff, 0x7f]), "WrongTable at 100"),
+    (Patch(112, &[0, 0, 0, 0]), "hello Unfinished at 112"),
+    (Add(&[0, 0, 0, 0]), "hello AfterEnd at 116"),
     (
-        &[Change::Patch(100, &[0xff, 0xff, 0xff, 0x3f])],
-        "Cut at 100",
-    ),
-    (
-        &[Change::Patch(100, &[0xff, 0xff, 0xff, 0x7f])],
-        "WrongTable at 100",
-    ),
-    (
-        &[Change::Patch(112, &[0, 0, 0, 0])],
-        "hello Unfinished at 112",
-    ),
-    (&[Change::Add(&[0, 0, 0, 0])], "hello AfterEnd at 116"),
-    (
-        &[Change::Patch(112, &[0x01, 0x00, 0x00, 0x80])],
+        Patch(112, &[0x01, 0x00, 0x00, 0x80]),
         "hello BadHeader at 112",
     ),
-    (&[Change::Patch(12, &[1])], "WrongStore at 12"),
+    (Patch(12, &[1]), "WrongStore at 12"),
 ];
 
 /// The same of version 2.
-static CHANGED_OF_VERSION_2: [(&[Change], &str); 1] = [(&[Change::Cut(127)], "hello Cut at 124")];
+static CHANGED_OF_VERSION_2: [(Change, &str); 1] = [(Cut(127), "hello Cut at 124")];
 
 /// Of a queue of version 2 the messages of either version are saved.
 #[test]
@@ -128,18 +109,18 @@ fn the_worked_image_of_either_version_is_saved_changed(rt: HostRuntime) -> Resul
 }
 
 /// A cycle of nine messages, of which one more does not fit, and what is saved of it.
-static FULL: [(&[Change], &str); 3] = [
+static FULL: [(Change, &str); 3] = [
     (
-        &[],
+        Same,
         "hello hello hello hello hello hello hello hello hello whole",
     ),
     (
-        &[Change::Add(HELLO_RECORD)],
+        Add(HELLO_RECORD),
         "hello hello hello hello hello hello hello hello hello OverShape at 244",
     ),
     // The last message begins at 232.
     (
-        &[Change::Cut(243)],
+        Cut(243),
         "hello hello hello hello hello hello hello hello Cut at 232",
     ),
 ];
@@ -152,10 +133,7 @@ fn a_full_cycle_is_saved(rt: HostRuntime) -> Result<(), Fail> {
 }
 
 /// The open image of two messages in cycle 20,000, whole and cut.
-static TWO: [(&[Change], &str); 2] = [
-    (&[], "hello world whole"),
-    (&[Change::Cut(115)], "hello Cut at 112"),
-];
+static TWO: [(Change, &str); 2] = [(Same, "hello world whole"), (Cut(115), "hello Cut at 112")];
 
 #[test]
 fn an_open_image_is_saved(rt: HostRuntime) -> Result<(), Fail> {

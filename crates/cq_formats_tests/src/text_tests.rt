@@ -22,46 +22,86 @@ fn texts<T: Display>(alloc: Global, values: &[T]) -> Result<String, AllocError> 
     Ok(text)
 }
 
-/// Each kind of fault of an image.
-static KINDS: [FaultKind; 8] = [
-    FaultKind::Cut,
-    FaultKind::BadHeader,
-    FaultKind::Unfinished,
-    FaultKind::WrongStore,
-    FaultKind::WrongTable,
-    FaultKind::BadPadding,
-    FaultKind::AfterEnd,
-    FaultKind::OverShape,
+/// A fault of each kind of an image.
+static IMAGE_FAULTS: [ImageFault; 8] = [
+    ImageFault {
+        kind: FaultKind::Cut,
+        at: 100,
+    },
+    ImageFault {
+        kind: FaultKind::BadHeader,
+        at: 100,
+    },
+    ImageFault {
+        kind: FaultKind::Unfinished,
+        at: 100,
+    },
+    ImageFault {
+        kind: FaultKind::WrongStore,
+        at: 100,
+    },
+    ImageFault {
+        kind: FaultKind::WrongTable,
+        at: 100,
+    },
+    ImageFault {
+        kind: FaultKind::BadPadding,
+        at: 100,
+    },
+    ImageFault {
+        kind: FaultKind::AfterEnd,
+        at: 100,
+    },
+    ImageFault {
+        kind: FaultKind::OverShape,
+        at: 100,
+    },
+];
+
+/// What a reader returns if an image has one of these faults.
+static READ_FAULTS: [ReadFault; 8] = [
+    ReadFault::Fault(ImageFault {
+        kind: FaultKind::Cut,
+        at: 100,
+    }),
+    ReadFault::Fault(ImageFault {
+        kind: FaultKind::BadHeader,
+        at: 100,
+    }),
+    ReadFault::Fault(ImageFault {
+        kind: FaultKind::Unfinished,
+        at: 100,
+    }),
+    ReadFault::Fault(ImageFault {
+        kind: FaultKind::WrongStore,
+        at: 100,
+    }),
+    ReadFault::Fault(ImageFault {
+        kind: FaultKind::WrongTable,
+        at: 100,
+    }),
+    ReadFault::Fault(ImageFault {
+        kind: FaultKind::BadPadding,
+        at: 100,
+    }),
+    ReadFault::Fault(ImageFault {
+        kind: FaultKind::AfterEnd,
+        at: 100,
+    }),
+    ReadFault::Fault(ImageFault {
+        kind: FaultKind::OverShape,
+        at: 100,
+    }),
 ];
 
 /// The faults of each kind, as text.
 const KINDS_TEXT: &str = "Cut at 100; BadHeader at 100; Unfinished at 100; WrongStore at 100; \
     WrongTable at 100; BadPadding at 100; AfterEnd at 100; OverShape at 100; ";
 
-/// The texts of the faults of each kind at 100.
-fn image_texts(alloc: Global) -> Result<String, AllocError> {
-    let mut text = String::new(alloc);
-    for &kind in &KINDS {
-        let fault = ImageFault { kind, at: 100 };
-        write!(text, "{fault}; ")?;
-    }
-    Ok(text)
-}
-
-/// The texts of what a reader returns if an image has a fault of each kind at 100.
-fn answer_texts(alloc: Global) -> Result<String, AllocError> {
-    let mut text = String::new(alloc);
-    for &kind in &KINDS {
-        let answer = ReadFault::Fault(ImageFault { kind, at: 100 });
-        write!(text, "{answer}; ")?;
-    }
-    Ok(text)
-}
-
 #[test]
 fn faults_of_images_have_their_texts(rt: HostRuntime) -> Result<(), Fail> {
-    expect_text(image_texts(rt.alloc())?, KINDS_TEXT)?;
-    expect_text(answer_texts(rt.alloc())?, KINDS_TEXT)
+    expect_text(texts(rt.alloc(), &IMAGE_FAULTS)?, KINDS_TEXT)?;
+    expect_text(texts(rt.alloc(), &READ_FAULTS)?, KINDS_TEXT)
 }
 
 /// What each fault that has one text alone prints, and then the rolls.
@@ -135,14 +175,6 @@ const DUMP_OF_VERSION_2: &str = "00000000 40000024 store 2 0 8 1 64 0 86400000\n
 00000028 40000020 top 76 0 0 0 0 0 0 0\n0000004c 40000020 table 0 112 0 0 0 0 0 0 0\n\
 00000070 00000005 data 0 68656c6c6f\n0000007c c0000000 end\n";
 
-/// Fails if the records of images have other texts than a table wants.
-fn expect_dumps(alloc: Global, table: &[(&[u8], &str)]) -> Result<(), Fail> {
-    for &(bytes, want) in table {
-        expect_text(dumped(alloc, bytes)?, want)?;
-    }
-    Ok(())
-}
-
 /// The text of the records of an image of cycle 0 with 64 cells, in a queue whose cycles are days, or the fault.
 fn dumped(alloc: Global, bytes: &[u8]) -> Result<String, Fail> {
     match dump_text(alloc, 0, Shape::new(64, 8, 1)?, Roll::Daily, 0, bytes) {
@@ -158,5 +190,8 @@ fn the_records_of_either_version_are_printed(rt: HostRuntime) -> Result<(), Fail
         (&HELLO_OF_VERSION_2, DUMP_OF_VERSION_2),
         (&HELLO[..110], "Cut at 100"),
     ];
-    expect_dumps(rt.alloc(), &table)
+    for &(bytes, want) in &table {
+        expect_text(dumped(rt.alloc(), bytes)?, want)?;
+    }
+    Ok(())
 }
