@@ -1,8 +1,9 @@
 //! What the commands do and print.
 use crate::steps::Step::{
-    self, Back, BackFrom, Check, Config, Dump, Length, OldQueue, Queue, Read, ReadFrom, Take, Write,
+    self, Back, BackFrom, Bar, Check, Config, Dump, Length, OldQueue, Queue, Read, ReadFrom, Take,
+    Write,
 };
-use crate::steps::{AFTER_HELLO, AT_START, WRITES_HELLO_WORLD, expect, push_said_apart, said_by};
+use crate::steps::{AFTER_HELLO, AT_START, WRITES_HELLO_WORLD, expect, push_said, said_by};
 use crate::streams::{Said, said};
 use crate::word_tests::words_of;
 use cq_command_line::parse;
@@ -157,7 +158,7 @@ fn ran<F: Folder>(alloc: Global, folder: &mut F, order: &Order) -> Said {
 /// What an order writes over a folder, and what `check` says then.
 fn ran_and_checked<F: Folder>(alloc: Global, folder: &mut F, order: &Order) -> Said {
     let mut said = ran(alloc, folder, order)?;
-    push_said_apart(alloc, folder, &Check, &mut said)?;
+    push_said(alloc, folder, &[Bar, Check], &mut said)?;
     Ok(said)
 }
 

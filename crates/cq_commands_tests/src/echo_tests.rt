@@ -63,21 +63,9 @@ fn echoes_lines(rt: HostRuntime) -> Result<(), Fail> {
 }
 
 /// This many lines of this many bytes, and more.
-fn lines_of(alloc: Global, lines: usize, bytes: usize, more: &str) -> Result<Vec<u8>, AllocError> {
-    let mut text = Vec::new(alloc);
-    for _ in 0..lines {
-        push_line(&mut text, bytes)?;
-    }
-    text.extend_from_slice(more.as_bytes())?;
-    Ok(text)
-}
-
-/// Adds a line of this many bytes to a text.
-fn push_line(text: &mut Vec<u8>, bytes: usize) -> Result<(), AllocError> {
-    for _ in 0..bytes {
-        text.push(b'x')?;
-    }
-    Ok(text.push(b'\n')?)
+fn lines_of(alloc: Global, lines: usize, bytes: usize, more: &str) -> Result<String, AllocError> {
+    let line = format!(in alloc; "{}\n", "x".repeat(alloc, bytes)?)?;
+    format!(in alloc; "{}{more}", line.as_str().repeat(alloc, lines)?)
 }
 
 /// How many lines `echo` gives of an input or the text of its fault, and whether it wrote any.
@@ -97,7 +85,7 @@ fn counted_lines(
     more: &str,
 ) -> Result<String, AllocError> {
     let input = lines_of(alloc, lines, bytes, more)?;
-    counted(alloc, input.as_slice())
+    counted(alloc, input.as_bytes())
 }
 
 static BOUNDS: [(usize, usize, &str, &str); 11] = [

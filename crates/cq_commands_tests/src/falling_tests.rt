@@ -1,5 +1,4 @@
 //! A folder may list its names in any order: commands return the same.
-use crate::falling::FallingFolder;
 use crate::images::{A, ENDED, HELLO};
 use crate::steps::Step::{
     self, Back, Check, Dump, Images, Length, Migrate, OldQueue, Put, PutConfig, Queue, Read, Take,
@@ -7,9 +6,11 @@ use crate::steps::Step::{
 };
 use crate::steps::{BOTH, Steps, expect_each, expect_steps, said_by};
 use crate::streams::Said;
+use crate::watched::WatchedFolder;
 use cq_fixtures::{DAY, expect_text};
 use cq_folder::{Access, Folder};
 use std::alloc::Global;
+use std::cell::Cell;
 use std::test::Fail;
 
 /// Fails if a step says something else than its row wants, over a folder that lists its names in rising
@@ -25,14 +26,15 @@ fn expect_in_any_order(alloc: Global, table: &[Steps]) -> Result<(), Fail> {
 
 /// Fails if one of these steps says something else than wanted over a new folder that lists its names in falling order.
 fn expect_falling(alloc: Global, row: &str, steps: Steps) -> Result<(), Fail> {
-    let mut folder = FallingFolder::new(alloc);
+    let is_entered = Cell::new(false);
+    let mut folder = WatchedFolder::new(alloc, &is_entered);
     expect_steps(alloc, row, &mut folder, steps)
 }
 
 static THREE_FILES: [Step; 3] = [Put("b", b""), Put("c", b""), Put("a", b"")];
 
 /// The names that a folder lists when those three files were put into it, as text.
-fn three_names<F: Folder>(alloc: Global, folder: &mut F) -> Said {
+fn three_names(alloc: Global, folder: &mut WatchedFolder<'_>) -> Said {
     said_by(alloc, folder, &THREE_FILES)?;
     folder.begin(alloc, Access::Shared)?;
     let names = folder.names(alloc)?;
@@ -41,7 +43,8 @@ fn three_names<F: Folder>(alloc: Global, folder: &mut F) -> Said {
 
 #[test]
 fn lists_its_names_in_falling_order(rt: HostRuntime) -> Result<(), Fail> {
-    let mut folder = FallingFolder::new(rt.alloc());
+    let is_entered = Cell::new(false);
+    let mut folder = WatchedFolder::new(rt.alloc(), &is_entered);
     expect_text(
         three_names(rt.alloc(), &mut folder)?,
         "[\"c\", \"b\", \"a\"]",

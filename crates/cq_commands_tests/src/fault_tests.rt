@@ -1,12 +1,12 @@
 //! Which fault is reported, and what the folder holds then.
 use crate::images::{ENDED, HELLO, NINE};
 use crate::steps::Step::{
-    self, Check, Config, Cut, Dump, Images, Init, Length, OldQueue, Patch, Put, PutConfig, Queue,
-    Read, ReadFrom, Text, UnprintedWrite, Write, WriteBroken, WriteEmpty,
+    self, Bar, Check, Config, Cut, Dump, Images, Init, Length, OldQueue, Patch, Put, PutConfig,
+    Queue, Read, ReadFrom, Text, UnprintedWrite, Write, WriteBroken, WriteEmpty,
 };
 use crate::steps::{
     BAD_CELLS_AND_CYCLES, BAD_CYCLES, BOTH, Failing, OVER, Steps, TWO_CYCLES, WRITES_EIGHT, expect,
-    expect_each, expect_failing, push_said_apart, said_anew, said_at, said_by,
+    expect_each, expect_failing, push_said, said_anew, said_by,
 };
 use crate::streams::Said;
 use cq_fixtures::{DAY, expect_answer, expect_text};
@@ -365,13 +365,15 @@ static PUT_IMAGE: [(&[u8], &str, &str); 3] = [
     (ENDED, "0 messages, ended\n", "cq: 19700101.cqi: wrong end"),
 ];
 
-/// What `check`, `read` and `write` say if this file was put, with a bar between.
+/// The commands that report that fault.
+static COMMANDS: [Step; 6] = [Bar, Check, Bar, Read, Bar, Write(0, b"")];
+
+/// What `write` says of "hello", and then `check`, `read` and `write` if this file was put, with a bar between.
 fn said_with(alloc: Global, file: Step) -> Said {
+    let before = [Queue(4), Write(0, b"hello\n"), file];
     let mut folder = MemoryFolder::new(alloc);
-    said_by(alloc, &mut folder, &[Queue(4), Write(0, b"hello\n"), file])?;
-    let mut said = said_at(alloc, &mut folder, &Check)?;
-    push_said_apart(alloc, &mut folder, &Read, &mut said)?;
-    push_said_apart(alloc, &mut folder, &Write(0, b""), &mut said)?;
+    let mut said = said_by(alloc, &mut folder, &before)?;
+    push_said(alloc, &mut folder, &COMMANDS, &mut said)?;
     Ok(said)
 }
 
@@ -379,19 +381,19 @@ fn said_with(alloc: Global, file: Step) -> Said {
 fn reports_the_first_fault(rt: HostRuntime) -> Result<(), Fail> {
     let alloc = rt.alloc();
     for (place, &(file, fault)) in PUT.iter().enumerate() {
-        let want = format!(in alloc; "{fault}|{fault}|{fault}")?;
+        let want = format!(in alloc; "0000000000000000\n|{fault}|{fault}|{fault}")?;
         let said = said_with(alloc, file)?;
         expect_answer("file", place, said.as_str(), want.as_str())?;
     }
     for (place, &(image, said, fault)) in PUT_IMAGE.iter().enumerate() {
         let want = format!(in alloc;
-            "19700101.cqi: 1 messages, open\n19700102.cqi: {said}|{fault}|{fault}"
+            "0000000000000000\n|19700101.cqi: 1 messages, open\n19700102.cqi: {said}|{fault}|{fault}"
         )?;
         let said = said_with(alloc, Put("19700102.cqi", image))?;
         expect_answer("image", place, said.as_str(), want.as_str())?;
     }
     expect_text(
         said_with(alloc, Put("notes.txt", b"x"))?,
-        "19700101.cqi: 1 messages, open\n|0000000000000000 hello\n|",
+        "0000000000000000\n|19700101.cqi: 1 messages, open\n|0000000000000000 hello\n|",
     )
 }

@@ -15,8 +15,6 @@ mod drop_tests;
 #[cfg(test)]
 mod echo_tests;
 #[cfg(test)]
-mod falling;
-#[cfg(test)]
 mod falling_tests;
 #[cfg(test)]
 mod fault_tests;

@@ -1,6 +1,5 @@
 //! Two faults that compete, over a folder that lists its names in falling order: the first one of the command's order
 //! is reported.
-use crate::falling::FallingFolder;
 use crate::images::ENDED;
 use crate::steps::Step::{
     self, BackFrom, Drop, Fill, Images, Init, Migrate, OldCells, OldQueue, Patch, Put, PutConfig,
@@ -9,9 +8,11 @@ use crate::steps::Step::{
 };
 use crate::steps::{BAD_CELLS_AND_CYCLES, BAD_CYCLES, OVER, said_at, said_by};
 use crate::streams::Said;
+use crate::watched::WatchedFolder;
 use cq_fixtures::{DAY, expect_text, push_missed};
 use cq_folder::FailingFolder;
 use std::alloc::Global;
+use std::cell::Cell;
 use std::test::Fail;
 
 /// What is done before, the call on the folder that fails at a step, or 0 if none does, the step, and the fault that is
@@ -23,7 +24,8 @@ type InFolder = (Step, &'static [Step], u64, &'static str);
 
 /// What a step says after others and these files, in a folder of which a call fails.
 fn said_failing(alloc: Global, before: &[Step], files: &[Step], failing: u64, step: &Step) -> Said {
-    let mut folder = FallingFolder::new(alloc);
+    let is_entered = Cell::new(false);
+    let mut folder = WatchedFolder::new(alloc, &is_entered);
     said_by(alloc, &mut folder, before)?;
     said_by(alloc, &mut folder, files)?;
     said_at(alloc, &mut FailingFolder::new(folder, failing), step)

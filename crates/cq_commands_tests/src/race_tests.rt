@@ -1,10 +1,9 @@
 //! Races with several gates: what is printed, which calls a gate is asked for, and that the workers run concurrently.
-use crate::streams::said;
+use crate::streams::{Broken, said};
 use cq_fixtures::expect_text;
 use cq_race::{Gate, OpenGate, race};
 use std::alloc::{AllocError, Global};
 use std::hint::spin_loop;
-use std::io::{self, ErrorKind, Write};
 use std::sync::atomic::{AtomicU64, Ordering};
 use std::test::Fail;
 use std::thread::Threads;
@@ -227,27 +226,6 @@ fn race_overlaps(rt: HostRuntime) -> Result<(), Fail> {
         one: AtomicU64::new(0),
     };
     expect_text(raced(&rt, 10, &gate)?, TEN)
-}
-
-/// A writer that takes this many bytes and then fails.
-#[derive(Drop)]
-struct Broken {
-    left: usize,
-}
-
-impl Write for Broken {
-    fn write(&mut self, bytes: &[u8]) -> io::Result<usize> {
-        let count = bytes.len().min(self.left);
-        if count == 0 {
-            return Err(io::Error::from(ErrorKind::Other));
-        }
-        self.left -= count;
-        Ok(count)
-    }
-
-    fn flush(&mut self) -> io::Result<()> {
-        Ok(())
-    }
 }
 
 /// What is said of a race whose writer takes this many bytes and then fails.

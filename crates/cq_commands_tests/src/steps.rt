@@ -89,6 +89,8 @@ pub enum Step {
     Bytes(&'static str),
     /// Says how many bytes a file has.
     Length(&'static str),
+    /// Says a bar.
+    Bar,
 }
 
 /// A queue with "hello" in cycle 0 and "a" in cycle 1.
@@ -175,6 +177,7 @@ pub fn said_at<F: Folder>(alloc: Global, folder: &mut F, step: &Step) -> Said {
         Step::Text(file) => text_of(alloc, folder, file),
         Step::Bytes(file) => digits_of(alloc, folder, file),
         Step::Length(file) => length_of(alloc, folder, file),
+        Step::Bar => Ok(String::from_str(alloc, "|")?),
         Step::Put(file, bytes) => put(alloc, folder, file, bytes),
         Step::Images(images) => put_images(alloc, folder, images),
         Step::Fill(file, byte, count) => filled(alloc, folder, file, byte, count),
@@ -303,13 +306,13 @@ fn begins_cycle<F: Folder>(alloc: Global, folder: &mut F, day: u32) -> Result<bo
 /// What `write` says if the input fails after this many line feeds, and the output fails.
 fn written_broken<F: Folder>(alloc: Global, folder: &mut F, moment: u64, lines: usize) -> Said {
     let mut input = BrokenAfter { left: lines };
-    let done = write(alloc, folder, moment, &mut input, &mut Broken);
+    let done = write(alloc, folder, moment, &mut input, &mut Broken { left: 0 });
     said(alloc, done, &[])
 }
 
 /// What a command says whose writer fails.
 fn unprinted<F: Folder>(alloc: Global, folder: &mut F, command: &Step) -> Said {
-    let done = run_step(alloc, folder, command, &mut Broken);
+    let done = run_step(alloc, folder, command, &mut Broken { left: 0 });
     said(alloc, done, &[])
 }
 
@@ -413,17 +416,6 @@ pub fn push_said<F: Folder>(
         text.push_str(said_at(alloc, folder, step)?.as_str())?;
     }
     Ok(())
-}
-
-/// Adds a bar to a text, and after it what a step says.
-pub fn push_said_apart<F: Folder>(
-    alloc: Global,
-    folder: &mut F,
-    step: &Step,
-    text: &mut String,
-) -> Result<(), FolderFault> {
-    text.push_str("|")?;
-    Ok(text.push_str(said_at(alloc, folder, step)?.as_str())?)
 }
 
 /// What all these steps say over a new folder, one after the other.

@@ -36,13 +36,21 @@ impl Read for BrokenAfter {
     }
 }
 
-/// A writer that fails at once.
+/// A writer that takes some bytes and then fails.
 #[derive(Drop)]
-pub struct Broken;
+pub struct Broken {
+    /// How many it still takes.
+    pub left: usize,
+}
 
 impl Write for Broken {
-    fn write(&mut self, _buf: &[u8]) -> io::Result<usize> {
-        Err(io::Error::from(ErrorKind::Other))
+    fn write(&mut self, bytes: &[u8]) -> io::Result<usize> {
+        let count = bytes.len().min(self.left);
+        if count == 0 {
+            return Err(io::Error::from(ErrorKind::Other));
+        }
+        self.left -= count;
+        Ok(count)
     }
 
     fn flush(&mut self) -> io::Result<()> {

@@ -1,11 +1,12 @@
-//! A folder that shows whether a command is in it, and an input and an output that fail while one is.
+//! A folder that lists its names in falling order and shows whether a command is in it, and an input and an output that
+//! fail while one is.
 
 use cq_folder::{Access, Folder, FolderFault, MemoryFolder, NewFile};
 use std::alloc::Global;
 use std::cell::Cell;
 use std::io::{self, ErrorKind, Read, Write};
 
-/// A folder in memory that shows whether a command is in it.
+/// A folder in memory that shows whether a command is in it. Its names are listed from the last one to the first.
 #[derive(Drop)]
 pub struct WatchedFolder<'a> {
     /// The folder within.
@@ -46,7 +47,9 @@ impl Folder for WatchedFolder<'_> {
     }
 
     fn names(&mut self, alloc: Global) -> Result<Vec<String>, FolderFault> {
-        self.folder.names(alloc)
+        let mut names = self.folder.names(alloc)?;
+        names.reverse();
+        Ok(names)
     }
 
     fn read(&mut self, alloc: Global, name: &str, limit: usize) -> Result<Vec<u8>, FolderFault> {

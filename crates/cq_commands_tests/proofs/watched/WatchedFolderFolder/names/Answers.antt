@@ -8,7 +8,7 @@ use Rattle.std.proofs.lemmas.Map.Made.{AllPairs-from_IsDistinct, IsDistinct-from
 use Rattle.std.proofs.lemmas.Slice.Eq.{bytes_eq-Decides}
 use Rattle.cq_model.specs.Settings.{texts}
 use Rattle.cq_folder.specs.Folder.{Files, ListsFiles}
-use Rattle.cq_commands_tests.proofs.falling.FallingFolderFolder.names.Goals as goal
+use Rattle.cq_commands_tests.proofs.watched.WatchedFolderFolder.names.Goals as goal
 
 -- names in another order list the same files
 listed_so : (names moved : List (List ℕ)) (files : Files) → IsPermutation names moved → ListsFiles names files
