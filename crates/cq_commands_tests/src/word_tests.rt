@@ -199,7 +199,7 @@ fn parses_the_words_of_a_reader(rt: HostRuntime) -> Result<(), Fail> {
 }
 
 /// Arguments of the other commands on a folder, each line with what it is.
-static OTHERS: [(&str, &str); 34] = [
+static OTHERS: [(&str, &str); 38] = [
     (
         "cq|write|q|18446744073709551615",
         "Write { folder: \"q\", moment: 18446744073709551615 }",
@@ -208,6 +208,10 @@ static OTHERS: [(&str, &str); 34] = [
         "cq|write|ein Ordner für Ähren|0",
         "Write { folder: \"ein Ordner für Ähren\", moment: 0 }",
     ),
+    ("cq|log|q", "Log { folder: \"q\" }"),
+    ("cq|log", "<DIR>"),
+    ("cq|log|q|now", "unexpected argument 'now'"),
+    ("cq|log|--help", "Usage: cq log <DIR>"),
     ("cq|write|q", "<MOMENT>"),
     ("cq|write|q|1|2", "unexpected argument '2'"),
     ("cq|write|q|-1", "unexpected argument '-1'"),
@@ -269,7 +273,7 @@ fn parses_the_words_of_other_commands(rt: HostRuntime) -> Result<(), Fail> {
 }
 
 /// Commands, and what the help of each says: of limits, of what is printed, and in an example.
-static HELP: [(&str, &[&str]); 12] = [
+static HELP: [(&str, &[&str]); 13] = [
     (
         "race",
         &[
@@ -311,6 +315,13 @@ static HELP: [(&str, &[&str]); 12] = [
             " <MOMENT>  The moment, in milliseconds of Unix time: from EPOCH to 253,402,300,799,999,\n",
             " and in a cycle up to 2,147,483,646\n",
             "Example:\n  cq cycle daily 0 $(date +%s%3N)\n",
+        ],
+    ),
+    (
+        "log",
+        &[
+            "Input: until it ends, lines that are not empty, each in a cycle with room for it. A line has the time\n",
+            "Example:\n  printf 'hello\\nworld\\n' | cq log journal\n",
         ],
     ),
     (
