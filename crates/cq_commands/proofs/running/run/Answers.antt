@@ -1,16 +1,21 @@
 use Rattle.std.proofs.Common.{◌≡◌, ◌≢◌, ℕ, List, rules, subst, sym}
+use Rattle.std.proofs.KnownBytes.{Keeps-refl}
 use Rattle.std.proofs.lemmas.Result.{on_ok_weaker}
-use Rattle.std.specs.Prelude.{IfErr, IfSome, Option, Result, Ok, Err}
-use Rattle.std.specs.Io.KnownBytes.{Appends}
+use Rattle.std.specs.Prelude.{IfErr, IfSome, OnOk, Option, Result, Ok, Err}
+use Rattle.std.specs.Io.KnownBytes.{Appends, Keeps}
 use Rattle.cq_orders.specs.declared.order.Order.{Order}
 use Rattle.cq_text.specs.declared.fault.ToolFault.{ToolFault}
 use Rattle.cq_text.specs.declared.fault.ToolFault.TheVariants.{ImagesAtFault, WriteFault}
 use Rattle.cq_files.specs.Counted.{CountsFaults}
-use Rattle.cq_text.specs.CycleLine.{IsCycleLine}
+use Rattle.cq_files.specs.Dumped.{IsDumpedQueue}
+use Rattle.cq_files.specs.FolderFaults.{IsDumpFault, IsSalvageFault}
+use Rattle.cq_files.specs.Salvaged.{IsSalvagedQueue}
+use Rattle.cq_files.proofs.QueueLemmas.{keeps-refl}
+use Rattle.cq_text.specs.CycleLine.{HasCause, IsCycleLine}
 use Rattle.cq_text.specs.Output.{AppendsBeginning}
 use Rattle.cq_commands.specs.Messages.{IsReadOut}
 use Rattle.cq_commands.specs.Orders.{Ends, Streams}
-use Rattle.cq_commands.specs.QueueFaults.{IsReadFault}
+use Rattle.cq_commands.specs.QueueFaults.{IsReadFault, IsTakeFault}
 use Rattle.cq_commands.specs.Saving.{SavesAndPrints}
 use Rattle.cq_commands.specs.Taken.{IsTaken}
 use Rattle.cq_commands.proofs.running.run.Goals as goal
@@ -41,17 +46,35 @@ silent_too : {T : Type 0} (result : Result T ToolFault) (P : Type 0) → IfErr r
 silent_too (Ok value) P silent = tt
 silent_too (Err fault) P silent = λ unwritten unfaulty. silent unwritten
 
+-- an order that writes no text has written none
+unwritten : {T : Type 0} (result : Result T ToolFault) (output : Option (List ℕ))
+    → IfErr result (λ fault. fault ≢ WriteFault → fault ≢ ImagesAtFault → Keeps output output)
+unwritten (Ok value) output = tt
+unwritten (Err fault) output = λ unwritten unfaulty. Keeps-refl output
+
+-- what was done, with what holds anyway
+both_done : {T : Type 0} (result : Result T ToolFault) (P Q R : Type 0) → OnOk result P → OnOk result Q → R → OnOk result (P × Q × R)
+both_done (Ok value) P Q R one other too = (one, other, too)
+both_done (Err fault) P Q R one other too = tt
+
 pub returns-in-Cycle-clause-ended : goal.returns-in-Cycle-clause-ended
 returns-in-Cycle-clause-ended g c =
+    let before = g.W.Write.contents c.args.output.now in
+    let after = g.W.Write.contents c.cycle.new.output in
+    let word = c.as_str.ensures.value in
     of_known _ c.cycle.result c.args.order.now _ c.in-Cycle.is (record {
-      done = search rules;
-      cause = search rules;
-      left = search rules;
-      silent = search rules;
+      done = on_ok_weaker c.cycle.result
+          (λ written. (
+            keeps-refl (g.F.Folder.files c.args.folder.now),
+            subst (λ (word : List ℕ). (text : List ℕ) × IsCycleLine word c.in-Cycle.epoch c.in-Cycle.moment text
+                × Appends before after text) word written,
+          ))
+          c.cycle.ensures.written;
+      cause = subst (λ (word : List ℕ). IfErr c.cycle.result (HasCause word c.in-Cycle.epoch c.in-Cycle.moment)) word c.cycle.ensures.fault;
+      left = anyway c.cycle.result _ (keeps-refl (g.F.Folder.files c.args.folder.now));
+      silent = silent_too c.cycle.result _ c.cycle.ensures.silent;
       broken = subst (λ (word : List ℕ). IfErr c.cycle.result (λ fault. fault ≡ WriteFault → (text : List ℕ)
-          × IsCycleLine word c.in-Cycle.epoch c.in-Cycle.moment text
-          × AppendsBeginning (g.W.Write.contents c.args.output.now) (g.W.Write.contents c.cycle.new.output) text))
-          c.as_str.ensures.value c.cycle.ensures.broken;
+          × IsCycleLine word c.in-Cycle.epoch c.in-Cycle.moment text × AppendsBeginning before after text)) word c.cycle.ensures.broken;
       told = tt;
       version = tt;
     })
@@ -59,10 +82,10 @@ returns-in-Cycle-clause-ended g c =
 pub returns-in-Init : goal.returns-in-Init
 returns-in-Init g c =
     ended _ c.init.result c.args.order.now _ c.in-Init.is c.init.ensures.counted (record {
-      done = search rules;
-      cause = search rules;
+      done = both_done c.init.result _ _ _ c.init.ensures.new c.init.ensures.written (Keeps-refl (g.W.Write.contents c.args.output.now));
+      cause = c.init.ensures.fault;
       left = both c.init.result _ _ c.init.ensures.left c.init.ensures.safe;
-      silent = search rules;
+      silent = unwritten c.init.result (g.W.Write.contents c.args.output.now);
       broken = search rules;
       told = tt;
       version = tt;
@@ -95,7 +118,10 @@ returns-in-Read g c =
           c.word_of.ensures c.read.ensures.cause;
       left = anyway c.read.result _ c.read.ensures.kept;
       silent = silent_too c.read.result _ c.read.ensures.silent;
-      broken = search rules;
+      broken = subst (λ (word : Option (List ℕ)). IfErr c.read.result (λ fault. fault ≡ WriteFault → (text : List ℕ)
+          × IsReadOut c.in-Read.back word before text
+          × AppendsBeginning (g.W.Write.contents c.args.output.now) (g.W.Write.contents c.read.new.output) text))
+          c.word_of.ensures c.read.ensures.broken;
       told = tt;
       version = c.read.ensures.version;
     })
@@ -108,7 +134,8 @@ returns-in-Take g c =
     (g.W.Write.contents c.take.new.output) (IsTaken name before after) c.take.result) c.as_str-in-Take.ensures.value c.take.ensures.saved in
     ended _ c.take.result c.args.order.now _ c.in-Take.is c.take.ensures.counted (record {
       done = saved.done;
-      cause = search rules;
+      cause = subst (λ (name : List ℕ). IfErr c.take.result (λ fault. IfSome before (λ files. IsTakeFault name files fault)))
+          c.as_str-in-Take.ensures.value c.take.ensures.cause;
       left = saved.left;
       silent = silent_too c.take.result _ saved.silent;
       broken = saved.broken;
@@ -131,35 +158,57 @@ returns-in-DropBefore g c =
 pub returns-in-Check : goal.returns-in-Check
 returns-in-Check g c =
     ended _ c.check.result c.args.order.now _ c.in-Check.is c.check.ensures.counted (record {
-      done = search rules;
-      cause = search rules;
+      done = on_ok_weaker c.check.result (λ printed. (c.check.ensures.kept, printed)) c.check.ensures.printed;
+      cause = both c.check.result _ _ c.check.ensures.cause c.check.ensures.at_fault;
       left = anyway c.check.result _ c.check.ensures.kept;
       silent = c.check.ensures.silent;
-      broken = search rules;
+      broken = c.check.ensures.broken;
       told = tt;
       version = tt;
     })
 
 pub returns-in-Dump : goal.returns-in-Dump
 returns-in-Dump g c =
+    let files = g.F.Folder.files c.args.folder.now in
+    let before = g.W.Write.contents c.args.output.now in
+    let after = g.W.Write.contents c.dump.new.output in
+    let name = c.as_str-in-Dump.ensures.value in
     ended _ c.dump.result c.args.order.now _ c.in-Dump.is c.dump.ensures.counted (record {
-      done = search rules;
-      cause = search rules;
+      done = on_ok_weaker c.dump.result
+          (λ printed. (
+            c.dump.ensures.kept,
+            subst (λ (name : List ℕ). (text : List ℕ) × IsDumpedQueue name files text × Appends before after text) name printed,
+          ))
+          c.dump.ensures.printed;
+      cause = subst (λ (name : List ℕ). IfErr c.dump.result (λ fault. IfSome files (λ held. IsDumpFault name held fault))) name
+          c.dump.ensures.cause;
       left = anyway c.dump.result _ c.dump.ensures.kept;
       silent = silent_too c.dump.result _ c.dump.ensures.silent;
-      broken = search rules;
+      broken = subst (λ (name : List ℕ). IfErr c.dump.result (λ fault. fault ≡ WriteFault → (text : List ℕ) × IsDumpedQueue name files text
+          × AppendsBeginning before after text)) name c.dump.ensures.broken;
       told = tt;
       version = tt;
     })
 
 pub returns-in-Salvage : goal.returns-in-Salvage
 returns-in-Salvage g c =
+    let files = g.F.Folder.files c.args.folder.now in
+    let before = g.W.Write.contents c.args.output.now in
+    let after = g.W.Write.contents c.salvage.new.output in
+    let name = c.as_str-in-Salvage.ensures.value in
     ended _ c.salvage.result c.args.order.now _ c.in-Salvage.is c.salvage.ensures.counted (record {
-      done = search rules;
-      cause = search rules;
+      done = on_ok_weaker c.salvage.result
+          (λ printed. (
+            c.salvage.ensures.kept,
+            subst (λ (name : List ℕ). (text : List ℕ) × IsSalvagedQueue name files text × Appends before after text) name printed,
+          ))
+          c.salvage.ensures.printed;
+      cause = subst (λ (name : List ℕ). IfErr c.salvage.result (λ fault. IfSome files (λ held. IsSalvageFault name held fault))) name
+          c.salvage.ensures.cause;
       left = anyway c.salvage.result _ c.salvage.ensures.kept;
       silent = silent_too c.salvage.result _ c.salvage.ensures.silent;
-      broken = search rules;
+      broken = subst (λ (name : List ℕ). IfErr c.salvage.result (λ fault. fault ≡ WriteFault → (text : List ℕ) × IsSalvagedQueue name files text
+          × AppendsBeginning before after text)) name c.salvage.ensures.broken;
       told = tt;
       version = tt;
     })
@@ -167,11 +216,11 @@ returns-in-Salvage g c =
 pub returns-in-Migrate : goal.returns-in-Migrate
 returns-in-Migrate g c =
     ended _ c.migrate.result c.args.order.now _ c.in-Migrate.is c.migrate.ensures.counted (record {
-      done = search rules;
+      done = on_ok_weaker c.migrate.result (λ moved. (moved, Keeps-refl (g.W.Write.contents c.args.output.now))) c.migrate.ensures.migrated;
       cause = c.migrate.ensures.cause;
       left = c.migrate.ensures.left;
-      silent = search rules;
-      broken = search rules;
+      silent = unwritten c.migrate.result (g.W.Write.contents c.args.output.now);
+      broken = c.migrate.ensures.unprinted;
       told = c.migrate.ensures.told;
       version = tt;
     })
