@@ -1,11 +1,11 @@
-//! Lines that come, what is acknowledged of them, and what a read of the log gives then.
+//! Lines that come, what is acknowledged of them, and what a crash leaves then.
 use crate::streams::{Days, Pieces, Room};
 use cq_fixtures::expect_answer;
 use cq_ingest::Ingest;
 use cq_kept::{KeptQueue, Opened};
 use cq_kept_tests::{config, images, replayed_text};
 use cq_live::Live;
-use cq_log_tests::TornFile;
+use cq_log_tests::{Ruin, TornFile};
 use std::alloc::Global;
 use std::test::Fail;
 
@@ -30,7 +30,7 @@ struct Served {
     printed: String,
     /// `ok`, or the fault.
     said: String,
-    /// What a read of the log gives, played on what the images hold.
+    /// What a read of the log gives after a crash, played on what the images hold.
     stored: String,
 }
 
@@ -144,13 +144,7 @@ static ROWS: [Row; 22] = [
     (&["d\n", "e\n"], Trouble::Log(10), "", STOPPED, NOTHING_NEW),
     (&["d\n", "e\n"], Trouble::Log(12), "", STOPPED, NOTHING_NEW),
     (&["d\n", "e\n"], Trouble::Log(13), "", STOPPED, NOTHING_NEW),
-    (
-        &["d\n", "e\n"],
-        Trouble::Log(14),
-        "",
-        STOPPED,
-        "5[ab;c;d;] at [21474836481]",
-    ),
+    (&["d\n", "e\n"], Trouble::Log(14), "", STOPPED, NOTHING_NEW),
     (
         &["d\n", "e\n"],
         Trouble::Log(15),
@@ -170,7 +164,7 @@ static ROWS: [Row; 22] = [
         Trouble::Log(20),
         "0000000500000002 ",
         STOPPED,
-        "5[ab;c;d;e;] at [21474836481]",
+        "5[ab;c;d;] at [21474836481]",
     ),
     (
         &["d\n", "e\n"],
@@ -182,7 +176,7 @@ static ROWS: [Row; 22] = [
 ];
 
 const STOPPED: &str =
-    "the log has stopped: the file could not be read, written, cut or synced. Open it again, and read what is stored";
+    "the log has stopped: the file could not be read, written, cut or synced. Open it again, and read what is stored. Start again, and all lines with an index are there";
 
 /// A live queue that holds what the images do. The write or sync of its log with this number fails.
 fn live(alloc: Global, failing: u64) -> Result<Live<TornFile>, Fail> {
@@ -241,9 +235,10 @@ fn printed(alloc: Global, output: &Room) -> Result<String, Fail> {
     Ok(text)
 }
 
-/// What a read of the log of a queue gives.
+/// What a read of the log of a queue gives after a crash that loses all that was not synced.
 fn stored(alloc: Global, kept: &KeptQueue<TornFile>) -> Result<String, Fail> {
-    replayed_text(alloc, kept.keeper().log().device().bytes())
+    let device = kept.keeper().log().device();
+    replayed_text(alloc, &device.after_crash(alloc, Ruin::Lost)?)
 }
 
 /// What comes of pieces where this goes wrong.

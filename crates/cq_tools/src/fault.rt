@@ -22,11 +22,8 @@ pub(crate) enum StartFault {
     /// No more lines were taken in.
     #[error("{0}")]
     Ingest(IngestFault),
-    /// What came last was not stored when the queue was closed.
-    #[error("{0}")]
-    Keep(KeepFault),
     /// All lines that were acknowledged are stored in the log, which was not saved in the images.
-    #[error("{0}: all lines with an index are in queue.log, and the next command saves them")]
+    #[error("{0}: all lines with an index are in queue.log, and once this is mended the next command that may write saves them")]
     Unsaved(FoldFault),
 }
 
@@ -44,7 +41,13 @@ impl From<LiveFault> for StartFault {
 
 impl From<IngestFault> for StartFault {
     fn from(cause: IngestFault) -> StartFault {
-        StartFault::Ingest(cause)
+        match cause {
+            // Its own text is for code that makes turns.
+            IngestFault::Keep(KeepFault::OutOfMemory) => {
+                StartFault::Ingest(IngestFault::OutOfMemory)
+            }
+            cause => StartFault::Ingest(cause),
+        }
     }
 }
 

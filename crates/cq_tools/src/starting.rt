@@ -77,7 +77,7 @@ where
 {
     match order {
         Order::Race { messages } => Ok(race(rt, *messages, &OpenGate, &mut io::writer(rt))?),
-        Order::Log { folder } => log(rt, process, folder.as_str()),
+        Order::Log { folder } => log(rt, errors, process, folder.as_str()),
         _ => run_alone(rt, errors, process, order),
     }
 }
