@@ -86,52 +86,49 @@ fn shapes_have_limits() -> Result<(), Fail> {
 #[test]
 fn messages_need_cells() -> Result<(), Fail> {
     let shape = Shape::new(64, 8, 1)?;
-    expect_row(needs(shape, &[]) == 0, 0)?;
-    expect_row(needs(shape, &[5]) == 31, 1)?;
-    expect_row(needs(shape, &[5; 8]) == 52, 8)
+    let found = [needs(shape, &[]), needs(shape, &[5]), needs(shape, &[5; 8])];
+    expect(found == [0, 31, 52], "no message, one and eight")
 }
 
 #[test]
 fn messages_need_three_cells_fewer_in_version_1() -> Result<(), Fail> {
     let shape = Shape::new(64, 8, 1)?;
-    expect_row(needs_v1(shape, &[]) == 0, 0)?;
-    expect_row(needs_v1(shape, &[5]) == 28, 1)?;
-    expect_row(needs_v1(shape, &[5; 9]) == 61, 9)
+    let found = [
+        needs_v1(shape, &[]),
+        needs_v1(shape, &[5]),
+        needs_v1(shape, &[5; 9]),
+    ];
+    expect(found == [0, 28, 61], "no message, one and nine")
 }
 
 #[test]
 fn messages_fit_up_to_the_end_of_data() -> Result<(), Fail> {
     let shape = Shape::new(64, 8, 1)?;
-    expect(fits(shape, &[5; 7], 5), "an eighth message fits")?;
-    expect(!fits(shape, &[5; 8], 5), "a ninth message does not fit")?;
-    expect(fits(shape, &[5; 8], 4), "a ninth message of one cell fits")?;
-    expect(
-        !fits(shape, &[5, 5, 5, 5, 5, 5, 5, 5, 4], 1),
-        "nothing fits in a full cycle",
-    )?;
-    expect(
-        !fits(shape, &[], 1_073_741_823),
-        "the longest message does not fit",
-    )
+    let found = [
+        // An eighth message, a ninth one, and a ninth one of one cell.
+        fits(shape, &[5; 7], 5),
+        fits(shape, &[5; 8], 5),
+        fits(shape, &[5; 8], 4),
+        // One in a full cycle, and the longest one.
+        fits(shape, &[5, 5, 5, 5, 5, 5, 5, 5, 4], 1),
+        fits(shape, &[], 1_073_741_823),
+    ];
+    expect(found == [true, false, true, false, false], "what fits")
 }
 
 #[test]
 fn messages_fit_up_to_the_end_of_data_in_version_1() -> Result<(), Fail> {
     let shape = Shape::new(64, 8, 1)?;
-    expect(fits_v1(shape, &[5; 8], 5), "a ninth message fits")?;
-    expect(!fits_v1(shape, &[5; 9], 5), "a tenth message does not fit")?;
-    expect(
+    let found = [
+        // A ninth message, a tenth one, and a tenth one of one cell.
+        fits_v1(shape, &[5; 8], 5),
+        fits_v1(shape, &[5; 9], 5),
         fits_v1(shape, &[5; 9], 4),
-        "a tenth message of one cell fits",
-    )?;
-    expect(
-        !fits_v1(shape, &[5, 5, 5, 5, 5, 5, 5, 5, 5, 4], 1),
-        "nothing fits in a full cycle",
-    )?;
-    expect(
-        !fits_v1(shape, &[], 1_073_741_823),
-        "the longest message does not fit",
-    )
+        // One in a full cycle, and the longest one.
+        fits_v1(shape, &[5, 5, 5, 5, 5, 5, 5, 5, 5, 4], 1),
+        fits_v1(shape, &[], 1_073_741_823),
+    ];
+    expect(found == [true, false, true, false, false], "what fits")
 }
 
 /// What this many messages of 128 bytes need in a cycle of 65,536 cells, in version 1 and in version 2.
