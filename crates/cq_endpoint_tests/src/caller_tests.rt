@@ -3,6 +3,7 @@
 ghost use Rattle.std.specs.Prelude.{◌≡◌, None};
 ghost use Rattle.cq_words.specs.Values.{IsOf};
 
+use crate::calls::{Call, Calls, expect_calls};
 use crate::new_queues::{new_endpoint, two_endpoints};
 use cq_append::Appender;
 use cq_callers::{
@@ -89,18 +90,23 @@ fn a_message_is_read_into_a_room(rt: HostRuntime) -> Result<(), Fail> {
     expect_text(read_in_rooms(rt.alloc(), &[4, 8])?, "none hello")
 }
 
+/// Calls of an endpoint that closes the queue after two messages.
+const CLOSES: Calls = &[
+    (Call::Append(0, "a"), "0"),
+    (Call::Append(0, "b"), "1"),
+    (Call::Close, "closed"),
+];
+
 /// How many messages an endpoint reads of a queue that another one closes after two of them.
-fn counted(alloc: Global, mut one: Endpoint, mut other: Endpoint) -> Result<u64, Fail> {
-    one.append(0, b"a")?;
-    one.append(0, b"b")?;
-    one.close()?;
-    Ok(count_to_end(alloc, &mut other)?)
+fn counted(alloc: Global, one: &mut Endpoint, other: &mut Endpoint) -> Result<u64, Fail> {
+    expect_calls(alloc, "the one that closes", one, CLOSES)?;
+    Ok(count_to_end(alloc, other)?)
 }
 
 /// The same of a new queue.
 fn counted_of_two(alloc: Global) -> Result<u64, Fail> {
-    let (one, other) = two_endpoints(alloc)?;
-    counted(alloc, one, other)
+    let (mut one, mut other) = two_endpoints(alloc)?;
+    counted(alloc, &mut one, &mut other)
 }
 
 #[test]

@@ -132,17 +132,22 @@ fn workers(alloc: Global, count: u32) -> Result<Vec<Worker>, Fail> {
     let config = config_of(alloc, Shape::new(65_536, 64, 16)?, 1)?;
     let mut first = Endpoint::create(alloc, config, 0)?;
     let mut workers = Vec::new(alloc);
-    for &role in &ROLES {
-        workers.push(Worker {
-            role,
-            endpoint: first.split()?,
-        })?;
-    }
+    push_split(&mut first, &mut workers)?;
+    let role = Role::CloseAfter(count);
     workers.push(Worker {
-        role: Role::CloseAfter(count),
+        role,
         endpoint: first,
     })?;
     Ok(workers)
+}
+
+/// Adds a thread for each role, with an endpoint that is split off another one.
+fn push_split(first: &mut Endpoint, workers: &mut Vec<Worker>) -> Result<(), Fail> {
+    for &role in &ROLES {
+        let endpoint = first.split()?;
+        workers.push(Worker { role, endpoint })?;
+    }
+    Ok(())
 }
 
 /// What the threads of a round did.

@@ -26,6 +26,20 @@ pub struct Life {
     pub end: &'static str,
 }
 
+/// What a call of one of two endpoints returns.
+fn answer_text(
+    alloc: Global,
+    who: Who,
+    call: Call,
+    first: &mut Endpoint,
+    second: &mut Endpoint,
+) -> Result<String, Fail> {
+    match who {
+        Who::First => call.answer_text(alloc, first),
+        Who::Second => call.answer_text(alloc, second),
+    }
+}
+
 /// Makes the calls of two endpoints in turn. Fails if one of them does not return what is wanted.
 fn expect_calls(
     alloc: Global,
@@ -34,11 +48,8 @@ fn expect_calls(
     first: &mut Endpoint,
     second: &mut Endpoint,
 ) -> Result<(), Fail> {
-    for (number, (who, call, want)) in calls.iter().enumerate() {
-        let answer = match who {
-            Who::First => call.answer_text(alloc, first)?,
-            Who::Second => call.answer_text(alloc, second)?,
-        };
+    for (number, &(who, call, want)) in calls.iter().enumerate() {
+        let answer = answer_text(alloc, who, call, first, second)?;
         expect_answer(row, number, answer.as_str(), want)?;
     }
     Ok(())

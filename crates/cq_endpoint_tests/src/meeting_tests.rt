@@ -5,7 +5,7 @@ ghost use Rattle.cq_words.specs.Values.{IsOf};
 use crate::calls::{Call, Calls, expect_calls};
 use crate::new_queues::two_endpoints;
 use cq_append::Appender;
-use cq_endpoint::{AppendFault, Endpoint};
+use cq_endpoint::Endpoint;
 use cq_fixtures::{expect, expect_text, small_config};
 use cq_tail::Tailer;
 use cq_words::{Caller, Queue};
@@ -34,19 +34,27 @@ fn endpoints_meet(rt: HostRuntime) -> Result<(), Fail> {
     expect_text(met_text(rt.alloc())?, "(0, 0) (1, 1)")
 }
 
-/// One endpoint begins a message of at most five bytes, and another one meets it.
-fn begin_and_meet(one: &mut Endpoint, other: &mut Endpoint) -> Result<(), AppendFault>
+/// Begins a message of at most five bytes. Returns whether it is begun.
+fn begins(endpoint: &mut Endpoint) -> bool
+    ensures { endpoint.new.queue ≡ endpoint.old.queue }
+{
+    endpoint.begin(0, 5).is_ok()
+}
+
+/// One endpoint begins a message, and another one meets it. Returns whether the message is begun.
+fn begin_and_meet(one: &mut Endpoint, other: &mut Endpoint) -> bool
     requires { other.old.queue ≡ one.old.queue }
 {
-    one.begin(0, 5)?;
+    let is_begun = begins(one);
     other.meet(one);
-    Ok(())
+    is_begun
 }
 
 /// Two endpoints of a new queue, of which the first one has begun a message and then met the other.
 fn met_endpoints(alloc: Global) -> Result<(Endpoint, Endpoint), Fail> {
     let (mut one, mut other) = two_endpoints(alloc)?;
-    begin_and_meet(&mut one, &mut other)?;
+    let is_begun = begin_and_meet(&mut one, &mut other);
+    expect(is_begun, "a message is begun")?;
     Ok((one, other))
 }
 
