@@ -184,12 +184,15 @@ fn count_of(alloc: Global, parts: &[Option<Vec<u64>>]) -> Result<Option<u64>, Fa
     Ok(Some(all.len() as u64))
 }
 
-/// Whether these indexes rise.
-fn rise(indexes: &Option<Vec<u64>>) -> bool {
-    match indexes {
-        Some(indexes) => indexes.as_slice().is_sorted(),
-        None => false,
+/// Whether the indexes of each of these threads rise.
+fn rise(parts: &[Option<Vec<u64>>]) -> bool {
+    for part in parts {
+        match part {
+            Some(indexes) if indexes.as_slice().is_sorted() => {}
+            _ => return false,
+        }
     }
+    true
 }
 
 /// Whether enough was appended in a round to close the queue, whether each reader read all of it in order, and whether each
@@ -206,7 +209,7 @@ fn round_text(alloc: Global, worked: &[Option<Vec<u64>>], count: u32) -> Result<
     let all = count_of(alloc, appended)?;
     let is_enough = all.is_some_and(|all| all >= u64::from(count));
     let are_read = count_of(alloc, one)? == all && count_of(alloc, two)? == all;
-    let in_order = one.iter().all(rise) && two.iter().all(rise);
+    let in_order = rise(one) && rise(two);
     let are_taken = count_of(alloc, taken)? == all;
     Ok(format!(in alloc; "{is_enough} {are_read} {in_order} {are_taken}")?)
 }

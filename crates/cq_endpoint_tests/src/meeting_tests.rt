@@ -36,7 +36,7 @@ fn endpoints_meet(rt: HostRuntime) -> Result<(), Fail> {
 
 /// Begins a message of at most five bytes. Returns whether it is begun.
 fn begins(endpoint: &mut Endpoint) -> bool
-    ensures { endpoint.new.queue ≡ endpoint.old.queue }
+    ensures queue { endpoint.new.queue ≡ endpoint.old.queue }
 {
     endpoint.begin(0, 5).is_ok()
 }
