@@ -1,4 +1,4 @@
-//! Tests of queues that are opened in a folder, and closed:
+//! Tests of queues that are opened in a folder, saved while they go on, and closed:
 //!
 //! - what they go on from, the first cycle where none has begun, and what they leave;
 //! - each fault, and what the files are then;
@@ -9,6 +9,8 @@
 
 #[cfg(test)]
 mod begin_tests;
+#[cfg(test)]
+mod checkpoint_tests;
 #[cfg(test)]
 mod close_tests;
 #[cfg(test)]
@@ -27,3 +29,5 @@ mod real_tests;
 mod seen;
 #[cfg(test)]
 mod torn_place;
+#[cfg(test)]
+mod watched_place;

@@ -3,8 +3,10 @@ use crate::example::{append_stored, opened};
 use crate::folders::{images_text, make, write_a};
 use crate::life::opened_text;
 use crate::seen::expect_seen;
+use crate::watched_place::WatchedPlace;
 use cq_fixtures::{DAY, contents_text, expect, expect_text};
-use cq_live::{Closed, Live, LiveFault, NotClosed, SystemPlace, close, open};
+use cq_kept::KeptQueue;
+use cq_live::{Closed, Live, LiveFault, NotClosed, SystemPlace, checkpoint, close, open};
 use cq_log_file::LogFile;
 use cq_real_folder::RealFolder;
 use std::alloc::Global;
@@ -203,6 +205,53 @@ fn a_queue_begins_live(rt: HostRuntime) -> Result<(), Fail> {
     let path = new_folder(&rt, "begin")?;
     make_empty(&rt, path.as_str())?;
     expect_first(&rt, path.as_str())?;
+    fs::remove_dir_all(&rt, path.as_str())?;
+    Ok(())
+}
+
+/// Makes a checkpoint of a live queue in its folder. Both logs are locked when the new one is opened, and then the old one is free.
+fn checkpointed(
+    rt: &HostRuntime,
+    path: &str,
+    kept: KeptQueue<LogFile>,
+) -> Result<KeptQueue<LogFile>, Fail> {
+    let alloc = rt.alloc();
+    let mut folder = folder_at(rt, path)?;
+    let inner = SystemPlace::new(rt, log_path(alloc, path)?);
+    let mut place = WatchedPlace::new(rt, log_path(alloc, path)?, inner)?;
+    let Ok(kept) = checkpoint(alloc, &mut folder, &mut place, kept) else {
+        return Err(Fail::new(format_args!("no checkpoint")));
+    };
+    expect(place.both_locked, "both logs are locked")?;
+    expect(place.is_old_free(), "the old log is free then")?;
+    Ok(kept)
+}
+
+/// A live queue with a message that came before a checkpoint, and one that is stored after it. It ends without a close.
+fn live_through(rt: &HostRuntime, path: &str) -> Result<(), Fail> {
+    let Live {
+        kept,
+        mut endpoint,
+        turns: _,
+    } = opened(rt, path, 0)?;
+    endpoint.append(0, b"b")?;
+    let mut kept = checkpointed(rt, path, kept)?;
+    expect_text(images_at(rt, path)?, "0[a;b;] at [0]")?;
+    expect_in_use(rt, path)?;
+    endpoint.append(0, b"c")?;
+    kept.turn(rt.alloc())?;
+    kept.settle()?;
+    endpoint.append(0, b"d")?;
+    Ok(())
+}
+
+#[test]
+fn a_live_queue_is_checkpointed(rt: HostRuntime) -> Result<(), Fail> {
+    let path = new_folder(&rt, "checkpoint")?;
+    make_with_a(&rt, path.as_str())?;
+    live_through(&rt, path.as_str())?;
+    expect_opened(&rt, path.as_str(), "1 turns: 0 a, 1 b")?;
+    expect_text(images_at(&rt, path.as_str())?, "0[a;b;c;] at [0]")?;
     fs::remove_dir_all(&rt, path.as_str())?;
     Ok(())
 }
