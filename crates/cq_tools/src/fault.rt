@@ -3,6 +3,7 @@ use cq_fold::FoldFault;
 use cq_ingest::IngestFault;
 use cq_keeper::KeepFault;
 use cq_live::LiveFault;
+use cq_log_file::OpenFault as PlaceFault;
 use cq_logged::LogFault;
 use cq_text::ToolFault;
 use std::alloc::{AllocError, AllocFailed};
@@ -35,7 +36,13 @@ impl From<ToolFault> for StartFault {
 
 impl From<LiveFault> for StartFault {
     fn from(cause: LiveFault) -> StartFault {
-        StartFault::Live(cause)
+        match cause {
+            // The log that was saved is not in its place yet: the save lacked memory for that, and the next start does it.
+            LiveFault::Place(PlaceFault::Missing | PlaceFault::Locked | PlaceFault::Moved) => {
+                StartFault::Live(LiveFault::Changed)
+            }
+            cause => StartFault::Live(cause),
+        }
     }
 }
 
