@@ -364,4 +364,5 @@ def main(words):
     return 0 if is_well else 1
 
 
-sys.exit(main(sys.argv[1:]))
+if __name__ == "__main__":
+    sys.exit(main(sys.argv[1:]))
