@@ -27,7 +27,9 @@ fn said_outside(
         is_entered,
     };
     let done = match order {
-        Order::Race { messages: _ } => return Ok(String::from_str(alloc, "not for one caller")?),
+        Order::Race { messages: _ } | Order::Log { folder: _ } => {
+            return Ok(String::from_str(alloc, "not for one caller")?);
+        }
         _ => run(alloc, order, folder, &mut input, &mut output),
     };
     // As the program lets its folder go.
