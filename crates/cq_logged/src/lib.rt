@@ -11,6 +11,7 @@
 //! | `LoggedFolder` | a folder that is seen with what its log gives |
 //! | `LogFault` | why the log keeps a command out |
 //! | `LogLock`, `LogUse` | the lock that a live queue has on the log, and what a look at it found |
+//! | `LogNews` | what a command that only reads found of the log |
 //! | `SystemLock` | the lock of a log in a folder of the system |
 #![tactic(auto)]
 
@@ -23,5 +24,5 @@ mod system_lock;
 
 pub use fault::LogFault;
 pub use folder::LoggedFolder;
-pub use lock::{LogLock, LogUse};
+pub use lock::{LogLock, LogNews, LogUse};
 pub use system_lock::SystemLock;

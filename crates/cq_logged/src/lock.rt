@@ -1,4 +1,4 @@
-//! The lock that a live queue has on the log of its folder.
+//! The lock that a live queue has on the log of its folder, and what a command that only reads finds of the log.
 use cq_log_file::OpenFault;
 
 /// What a look at the lock of a log found (ours).
@@ -10,6 +10,15 @@ pub enum LogUse {
     InUse,
     /// The lock could not be tried.
     Failed(OpenFault),
+}
+
+/// What a command that only reads finds of the log of its folder (ours).
+#[derive(Clone, Copy, Debug)]
+pub struct LogNews {
+    /// How many messages the log has that the images lack.
+    pub messages: u64,
+    /// Whether a live queue has the log.
+    pub log_use: LogUse,
 }
 
 /// The lock that a live queue has on the log of its folder (ours).

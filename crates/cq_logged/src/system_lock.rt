@@ -1,7 +1,8 @@
 //! The lock of a log in a folder of the system.
 use crate::{LogLock, LogUse};
-use cq_log_file::{FileCalls, OpenFault, SystemFile};
-use std::fs::File;
+use cq_log_file::OpenFault;
+use std::fs::{self, File};
+use std::io::ErrorKind;
 use std::rt::Files;
 
 /// The lock of a log in a folder of the system (ours).
@@ -23,14 +24,16 @@ impl<'a, R: Files<File = File>> SystemLock<'a, R> {
         }
     }
 
-    /// Locks the log, if there is one, and lets it go.
+    /// Locks the log together with others that look, if there is one, and lets it go. It needs no leave to write the log.
     fn try_lock(&self) -> Result<(), OpenFault> {
-        let mut file = match SystemFile::open(self.rt, self.path.as_str()) {
-            Ok(file) => file,
-            Err(OpenFault::Missing) => return Ok(()),
-            Err(fault) => return Err(fault),
-        };
-        file.lock()?;
+        let path = self.path.as_str();
+        match fs::symlink_metadata(self.rt, path) {
+            Ok(found) if found.is_file() => {}
+            Ok(_) => return Err(OpenFault::NotAFile),
+            Err(error) if error.kind() == ErrorKind::NotFound => return Ok(()),
+            Err(error) => return Err(OpenFault::from(error)),
+        }
+        File::open(self.rt, path)?.try_lock_shared()?;
         Ok(())
     }
 }
