@@ -229,6 +229,38 @@ fn commands_see_what_the_log_gives(rt: HostRuntime) -> Result<(), Fail> {
     Ok(())
 }
 
+/// What steps find of a log of two turns, one after the other: its messages that the images lack, and what a look at its lock found.
+const NEWS: [(LogUse, Step, &str); 6] = [
+    (LogUse::InUse, Check, "2 InUse"),
+    (LogUse::Free, Read, "2 Free"),
+    (
+        LogUse::Failed(OpenFault::Denied),
+        Text("queue.cqc"),
+        "2 Failed(Denied)",
+    ),
+    // A step that may write finds nothing, whether it is kept out or folds the log. Then the log has no byte.
+    (LogUse::InUse, Take, "none"),
+    (LogUse::Free, Take, "none"),
+    (LogUse::InUse, Check, "none"),
+];
+
+#[test]
+fn steps_that_only_read_find_what_the_log_has(rt: HostRuntime) -> Result<(), Fail> {
+    let alloc = rt.alloc();
+    let mut folder = folder_after(alloc, &[Queue, Write(0, b"a\n"), TWO_TURNS])?;
+    for (place, &(found, step, want)) in NEWS.iter().enumerate() {
+        let mut logged = LoggedFolder::new(alloc, folder, FixedLock { found });
+        said_at(alloc, &mut logged, step)?;
+        let news = match logged.news() {
+            None => String::from_str(alloc, "none")?,
+            Some(news) => format!(in alloc; "{} {:?}", news.messages, news.log_use)?,
+        };
+        expect_answer("news", place, news.as_str(), want)?;
+        (folder, _) = logged.into_parts();
+    }
+    Ok(())
+}
+
 /// What `read` says over a folder with a log of two turns, of which the call with this number fails.
 fn said_failing(alloc: Global, number: u64) -> Result<String, Fail> {
     let steps = [Queue, Write(0, b"a\n"), TWO_TURNS];

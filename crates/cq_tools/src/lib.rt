@@ -13,6 +13,7 @@
 //! | `Gate`, `OpenGate` | what `race` calls before and after each call of a worker |
 #![tactic(auto)]
 
+mod checking;
 mod fault;
 mod logging;
 mod starting;

@@ -3,11 +3,12 @@
 ghost use Rattle.std.specs.Prelude.{◌≡◌};
 ghost use Rattle.cq_orders.specs.OrderFolder.{IsLog, IsRace};
 
+use crate::checking::print_news;
 use crate::fault::StartFault;
 use crate::logging::log;
 use cq_command_line::{ParseFault, parse};
 use cq_folder::{Folder, LOG_FILE};
-use cq_logged::{LogFault, LoggedFolder, SystemLock};
+use cq_logged::{LogFault, LogNews, LoggedFolder, SystemLock};
 use cq_orders::Order;
 use cq_race::{OpenGate, race};
 use cq_real_folder::RealFolder;
@@ -91,9 +92,25 @@ where
     requires ends { ¬ IsLog order.now }
 {
     let mut folder = logged_folder(rt, process, order.folder().unwrap_or(""))?;
-    let done = run_in(rt, order, &mut folder);
+    let mut done = run_in(rt, order, &mut folder);
+    if done.is_ok() {
+        done = say_news(rt, order, folder.news());
+    }
     let (_folder, cause) = folder.into_parts();
     end(errors, done, cause)
+}
+
+/// Prints what `check` found of the log, if that is the order and there was something.
+fn say_news<R>(rt: &R, order: &Order, news: Option<LogNews>) -> Result<(), ToolFault>
+where
+    R: AllocGlobal + Print,
+{
+    match (order, news) {
+        (Order::Check { folder: _ }, Some(news)) => {
+            print_news(rt.alloc(), &mut io::writer(rt), news)
+        }
+        _ => Ok(()),
+    }
 }
 
 /// Returns the folder of this path, which is seen with what its log gives.
