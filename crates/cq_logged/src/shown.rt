@@ -1,5 +1,5 @@
 //! What is shown in place of files.
-ghost use Rattle.std.specs.Prelude.{◌≡◌, ◌++◌, IfOk, IfSome, List, MatchOption, Some, map, ℕ};
+ghost use Rattle.std.specs.Prelude.{◌≡◌, IfOk, MatchOption, Some, map};
 ghost use Rattle.cq_folder.specs.Folder.{Files, IsCounted, ListsFiles, after_writes, named_file};
 ghost use Rattle.cq_model.specs.Settings.{texts};
 
