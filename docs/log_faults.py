@@ -1,0 +1,183 @@
+"""System calls of `cq log` that fail, and devices that are full: the modes faults and full of docs/kill_log.py."""
+import collections
+import os
+import re
+import resource
+import signal
+import subprocess
+
+from log_kills import left_by_a_kill
+from log_life import Life
+from log_service import STRACE, indexes_of, lines_of, served_one_by_one
+
+# How a call fails: once, or it and all later ones of its name.
+ERRORS = [("ENOSPC", ""), ("EIO", ""), ("EINTR", ""), ("EIO", "+")]
+
+# The calls on the folder and on the streams that may fail. Not `close`: the system closes a file even if it answers an error, and
+# strace does not.
+CALLS = {
+    "openat", "statx", "flock", "getdents64", "lseek", "read", "write", "pwrite64", "fdatasync", "fsync", "ftruncate", "fchmod",
+    "rename", "unlink",
+}  # fmt: skip
+
+# Calls whose failure loses nothing, so it need not be named. A part that is not there need not be removed.
+SILENT = {"unlink", "lseek", "fchmod"}
+
+LINES = [b"one", b"two", b"three"]
+
+# What is said of a fault. ERRORS.md has these texts.
+TEXTS = re.compile(
+    rb"(cq: (folder fault|no queue here|file fault: [\w.-]+|read fault|write fault|the log could not be begun: [^\n]+|"
+    rb"the log is not opened: [^\n]+|the log has stopped: [^\n]+|[^\n]*: all lines with an index are in queue\.log[^\n]*)\n)+"
+)
+
+
+def calls_on(life, trace):
+    """Each system call of `cq log` from the first on its folder on: its name, its number among those of this name, and whether
+    its failure loses nothing. So it is once a save record was removed: the folder is synced then, but all is saved."""
+    served_one_by_one(life.tried.program, [*STRACE, "-o", trace], life.folder, LINES)
+    numbers, found, is_there, since_removal = collections.Counter(), [], False, 3
+    with open(trace, encoding="utf-8", errors="replace") as lines:
+        for line in lines:
+            name = line.split(None, 1)[1].split("(")[0]
+            numbers[name] += 1
+            # The arguments of the command name the folder too.
+            is_there = is_there or life.folder in line and name != "execve" and "/proc/" not in line
+            if is_there and name in CALLS:
+                since_removal = 0 if name == "unlink" and "/queue.save\"" in line else since_removal + 1
+                found.append((name, numbers[name], name in SILENT or since_removal in (1, 2)))
+    return found
+
+
+def is_well_after(life, is_silent, answer, lines, what):
+    """Whether a service that met a fault said so, or may have done without the call, lost nothing, and the next one works."""
+    return is_answer(life, is_silent, answer, lines, what) and is_served(life, f"{what}, the next")
+
+
+def is_answer(life, is_silent, answer, lines, what):
+    status, acks, said = answer
+    if status == 0:
+        if len(acks) != len(lines) or said:
+            life.fails(what, f"status 0, {len(acks)} lines acknowledged, said {said!r}")
+        if not is_silent:
+            life.fails(what, "status 0: the fault was not named")
+        life.tried.counts["faults: done without"] += 1
+    elif status == 1 and TEXTS.fullmatch(said):
+        life.tried.counts["faults: named"] += 1
+    else:
+        life.fails(what, f"status {status}, said {said!r}")
+    return life.compared(lines, acks, what)
+
+
+def is_served(life, what):
+    """Whether the log is saved, and a service without a fault does all."""
+    if not life.is_saved(what):
+        return False
+    status, acks, said = served_one_by_one(life.tried.program, [], life.folder, LINES)
+    if status or said or len(acks) != len(LINES):
+        return life.fails(what, f"status {status}, {len(acks)} lines acknowledged, said {said!r}")
+    return life.compared(LINES, acks, what)
+
+
+def ready_lives(tried):
+    """A queue that was closed, one with the log of a queue that was killed, and one in which no cycle has begun."""
+    closed, left, new = (Life(tried, name, 50) for name in ("closed", "left", "new"))
+    is_served(closed, "before the faults")
+    is_served(left, "before the faults")
+    left_by_a_kill(left, "before the faults")
+    return {"after a closing": closed, "after a kill": left, "new": new}
+
+
+def try_faults(tried, runs):
+    if not tried.has("strace", "faults"):
+        return
+    trace, cases = os.path.join(tried.room, "trace"), []
+    lives = ready_lives(tried)
+    for state, life in lives.items():
+        copy = life.copied("traced")
+        cases += [(state, *call, error) for call in calls_on(copy, trace) for error in ERRORS]
+        copy.end()
+    for state, name, number, is_silent, (error, how) in cases if runs >= len(cases) else tried.dice.sample(cases, runs):
+        life, what = lives[state].copied("faults"), f"{state}, {error} at {name} {number}{how}"
+        front = [*STRACE, "-o", trace, "-e", f"trace={name}", "-e", f"inject={name}:error={error}:when={number}{how}"]
+        answer = served_one_by_one(tried.program, front, life.folder, LINES)
+        with open(trace, encoding="utf-8", errors="replace") as lines:
+            if "(INJECTED)" not in lines.read():
+                tried.wrong.append(f"{what}: nothing was injected")
+        tried.counts["faults: calls that failed"] += 1
+        is_well_after(life, is_silent or error == "EINTR", answer, LINES, what)
+        life.end()
+    tried.counts["faults: calls that may fail, each in four ways"] = len(cases) // len(ERRORS)
+
+
+def limited(program, folder, limit):
+    """What `cq log` gives where no file may have more bytes than this."""
+
+    def begin():
+        signal.signal(signal.SIGXFSZ, signal.SIG_IGN)
+        resource.setrlimit(resource.RLIMIT_FSIZE, (limit, limit))
+
+    given = b"".join(line + b"\n" for line in LINES)
+    done = subprocess.run([program, "log", folder], input=given, capture_output=True, preexec_fn=begin, check=False)
+    return done.returncode, indexes_of(done.stdout), done.stderr
+
+
+def try_limits(tried, runs):
+    """Files that may not grow past a limit, of which an append may write the first bytes."""
+    ready, limits = Life(tried, "ready", 50), [*range(400), *range(400, 10_000, 40)]
+    for limit in limits if runs >= len(limits) else tried.dice.sample(limits, runs):
+        life = ready.copied("limit")
+        answer = limited(tried.program, life.folder, limit)
+        tried.counts["full: files that might not grow"] += answer[0] != 0
+        is_well_after(life, True, answer, LINES, f"files of at most {limit} bytes")
+        life.end()
+
+
+def try_device(tried, place, what):
+    """Lines come until the device has no space, or a little is left for the images. Then there is space again."""
+    life, filler = Life(tried, f"{os.path.basename(place)}/{what.replace(' ', '-')}", 50), os.path.join(place, "filler")
+    state = os.statvfs(place)
+    with open(filler, "wb") as file:
+        file.write(bytes(max(0, state.f_bavail * state.f_bsize - tried.dice.randint(0, 300_000))))
+    lines = [b"%0400d" % number for number in range(300)]
+    given = b"".join(line + b"\n" for line in lines)
+    status, printed, said = tried.run("log", life.folder, given=given)
+    if status:
+        acked = len(lines_of(printed))
+        stage = "opening" if acked == 0 else "closing" if acked == len(lines) else "storing lines"
+        tried.counts[f"full: no space while {stage}"] += 1
+    is_well = is_answer(life, True, (status, indexes_of(printed), said), lines, what) and is_written_or_refused(life, what)
+    os.remove(filler)
+    if is_well:
+        is_served(life, f"{what}, the next")
+    life.end()
+
+
+def is_written_or_refused(life, what):
+    """Whether a `write`, which saves the log first, does all on a device with little space, or says that it does nothing."""
+    status, printed, said = life.tried.run("write", life.folder, str(life.epoch), given=b"more\n")
+    if status == 1 and not printed and TEXTS.fullmatch(said):
+        life.tried.counts["full: no space for a write after it"] += 1
+        return life.compared([], [], f"{what}, a write without space")
+    if status or said:
+        return life.fails(what, f"write: {status} {said!r}")
+    return life.compared([b"more"], indexes_of(printed), f"{what}, a write")
+
+
+def try_full(tried, runs):
+    try_limits(tried, runs)
+    place, image = (os.path.join(tried.room, name) for name in ("device", "device.image"))
+    os.mkdir(place)
+    with open(image, "wb") as file:
+        file.truncate(4 << 20)
+    try:
+        subprocess.run(["mkfs.ext4", "-q", "-F", "-m", "0", image], check=True, capture_output=True)
+        subprocess.run(["mount", "-o", "loop", image, place], check=True, capture_output=True)
+    except (subprocess.CalledProcessError, FileNotFoundError):
+        tried.untried.append("full: a file system in a file is mounted by root alone, by mkfs.ext4 and mount -o loop")
+        return
+    try:
+        for number in range(max(1, runs // 5)):
+            try_device(tried, place, f"full device {number}")
+    finally:
+        subprocess.run(["umount", place], check=True)
