@@ -104,10 +104,10 @@ static void print_line(const struct peer *peer, struct client *clients, const st
         place += clients[i].count;
     }
     qsort(waits, count, sizeof *waits, in_order);
-    double seconds = (double)took / 1e9;
-    printf("{\"name\":\"%s\",\"threads\":%d,\"batch\":%ld,\"seconds\":%.3f,\"messages_per_second\":%.0f,\"p50_us\":%.1f,"
-           "\"p99_us\":%.1f,\"syncs_per_second\":%.0f}\n",
-           peer->name, run->threads, run->batch, seconds, (double)count * (double)run->batch / seconds,
+    double seconds = (double)took / 1e9, messages = (double)count * (double)run->batch;
+    printf("{\"impl\":\"%s\",\"threads\":%d,\"batch\":%ld,\"seconds\":%.3f,\"messages\":%.0f,\"messages_per_second\":%.0f,"
+           "\"p50_us\":%.1f,\"p99_us\":%.1f,\"syncs_per_second\":%.0f}\n",
+           peer->name, run->threads, run->batch, seconds, messages, messages / seconds,
            (double)waits[(count - 1) / 2] / 1e3, (double)waits[(count - 1) * 99 / 100] / 1e3, (double)syncs / seconds);
     free(waits);
 }

@@ -81,7 +81,7 @@ def is_served(life, what):
 
 def ready_lives(tried):
     """A queue that was closed, one with the log of a queue that was killed, and one in which no cycle has begun."""
-    closed, left, new = (Life(tried, name, 50) for name in ("closed", "left", "new"))
+    closed, left, new = (Life(tried, name) for name in ("closed", "left", "new"))
     is_served(closed, "before the faults")
     is_served(left, "before the faults")
     left_by_a_kill(left, "before the faults")
@@ -124,7 +124,7 @@ def limited(program, folder, limit):
 
 def try_limits(tried, runs):
     """Files that may not grow past a limit, of which an append may write the first bytes."""
-    ready, limits = Life(tried, "ready", 50), [*range(400), *range(400, 10_000, 40)]
+    ready, limits = Life(tried, "ready"), [*range(400), *range(400, 10_000, 40)]
     for limit in limits if runs >= len(limits) else tried.dice.sample(limits, runs):
         life = ready.copied("limit")
         answer = limited(tried.program, life.folder, limit)
@@ -135,7 +135,7 @@ def try_limits(tried, runs):
 
 def try_device(tried, place, what):
     """Lines come until the device has no space, or a little is left for the images. Then there is space again."""
-    life, filler = Life(tried, f"{os.path.basename(place)}/{what.replace(' ', '-')}", 50), os.path.join(place, "filler")
+    life, filler = Life(tried, f"{os.path.basename(place)}/{what.replace(' ', '-')}"), os.path.join(place, "filler")
     state = os.statvfs(place)
     with open(filler, "wb") as file:
         file.write(bytes(max(0, state.f_bavail * state.f_bsize - tried.dice.randint(0, 300_000))))

@@ -2,7 +2,7 @@
 import os
 import time
 
-from log_life import Life
+from log_life import MINUTE, Life
 from log_service import STRACE, Service, served_one_by_one, some_lines
 
 # The system calls at which the process is killed.
@@ -57,7 +57,7 @@ def try_random(tried, runs):
         if number % KILLS_IN_FOLDER == 0 or not is_well or life.is_full():
             if life:
                 life.end()
-            life, since = Life(tried, f"random-{number}", tried.dice.uniform(0.5, 4)), number
+            life, since = Life(tried, f"random-{number}", tried.dice.uniform(0.5, 4), MINUTE), number
             is_little = not tried.counts["folders"] % 2
             tried.counts["folders"] += 1
         # The clock begins the first of the later cycles.
@@ -95,7 +95,7 @@ def try_calls(tried, _runs):
     if not tried.has("strace", "calls"):
         return
     for call in CALLS:
-        life, number, is_well, is_killed = Life(tried, f"calls-{call}", 30), 0, True, True
+        life, number, is_well, is_killed = Life(tried, f"calls-{call}"), 0, True, True
         while is_killed and is_well:
             number += 1
             # Each second start finds the log of a queue that was killed.
@@ -108,7 +108,7 @@ def try_calls(tried, _runs):
 def try_syncs(tried, _runs):
     if not tried.has("strace", "syncs"):
         return
-    life, trace = Life(tried, "syncs", 30), os.path.join(tried.room, "trace")
+    life, trace = Life(tried, "syncs"), os.path.join(tried.room, "trace")
     front = [*STRACE, "-o", trace, "-e", "trace=pwrite64,fdatasync,write"]
     status, acks, said = served_one_by_one(tried.program, front, life.folder, [b"one", b"two", b"three"])
     if status or said or len(acks) != 3:

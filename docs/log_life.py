@@ -7,7 +7,9 @@ import time
 
 from log_service import indexes_of, lines_of
 
-MINUTE = 60_000
+# The length of a cycle in milliseconds, and the name of the roll.
+MINUTE, DAY = 60_000, 86_400_000
+ROLLS = {MINUTE: "minutely", DAY: "daily"}
 
 # Cells, count, spacing and cycles of a queue, and its name: cycles of half a MiB.
 SHAPE = ["131072", "1024", "1", "32", "reader"]
@@ -17,21 +19,21 @@ MOST_MESSAGES, MOST_CYCLES = 3000, 24
 
 
 class Life:
-    """A folder with a queue, whose cycles last a minute and begin at an epoch, and what it has to hold.
+    """A folder with a queue, whose cycles last a minute or a day and begin at an epoch, and what it has to hold.
 
     A command that was killed has done all of its work or nothing. So there may be several floors and positions, until a
     later answer shows which it is.
     """
 
-    def __init__(self, tried, name, seconds):
+    def __init__(self, tried, name, seconds=10_000, length=DAY):
         """Makes a folder in which no cycle has begun, and in which the clock comes to cycle 1 after so many seconds."""
-        self.tried, self.folder = tried, os.path.join(tried.room, name)
-        self.epoch = int((time.time() + seconds) * 1000) - MINUTE
+        self.tried, self.folder, self.length = tried, os.path.join(tried.room, name), length
+        self.epoch = int((time.time() + seconds) * 1000) - length
         self.messages, self.floors, self.positions = [], {0}, {0}
         # How many messages came before the log was begun.
         self.saved = 0
         os.makedirs(self.folder)
-        assert tried.run("init", self.folder, "minutely", str(self.epoch), *SHAPE) == (0, b"", b"")
+        assert tried.run("init", self.folder, ROLLS[length], str(self.epoch), *SHAPE) == (0, b"", b"")
 
     def copied(self, name):
         """The same queue in a copy of the folder."""
@@ -183,7 +185,7 @@ class Life:
     def write(self, cycle, lines, what, moment=None):
         """Writes lines at the beginning of a cycle."""
         given = b"".join(line + b"\n" for line in lines)
-        words = ("write", self.folder, str(self.epoch + cycle * MINUTE))
+        words = ("write", self.folder, str(self.epoch + cycle * self.length))
         status, printed, said = self.tried.run(*words, given=given, moment=moment)
         self.tried.counts["writes"] += 1
         if status == -9:

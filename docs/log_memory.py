@@ -113,7 +113,7 @@ def try_memory(tried, runs):
         return
     refusals = Refusals(tried)
     # Two cycles, and the log of a queue that was killed, which has a line of the second.
-    ready = Life(tried, "ready", 60)
+    ready = Life(tried, "ready")
     ready.write(0, [b"first", b"second"], "before")
     ready.write(1, [b"third"], "before")
     if not left_by_a_kill(ready, "before"):

@@ -1,4 +1,4 @@
-"""What a power cut may leave of a log: the modes torn and wrong of docs/kill_log.py.
+"""What a power cut may leave of a log: the mode torn of docs/kill_log.py.
 
 strace shows what was written to `queue.log`, what was synced, and what was acknowledged in between. So the file is known that
 is on the disk for certain at each moment, and the writes since then, of which a crash may leave anything.
@@ -7,7 +7,7 @@ import os
 import subprocess
 import time
 
-from log_life import Life
+from log_life import MINUTE, Life
 from log_service import STRACE, Service, some_lines
 from log_trace import TRACED, Trace, put_over
 
@@ -18,9 +18,13 @@ KILLS_IN_FOLDER = 50
 LOGS = 3
 
 
+# What may become of a write.
+KINDS = ["whole", "whole", "none", "front", "back", "sectors", "bytes", "zeros", "ones", "garbage"]
+
+
 def part_of(dice, before, data, place):
     """What a crash may leave where `data` was written over `before`, at this place of the file."""
-    length, kind = len(data), dice.choice(["whole", "whole", "none", "front", "back", "sectors", "bytes", "zeros", "ones", "garbage"])
+    length, kind = len(data), dice.choice(KINDS)
     if kind == "whole":
         return data
     if kind == "none":
@@ -101,7 +105,7 @@ def is_seen(life, log, trace, what):
     """Whether the file is what the calls say, with the interrupted write or without it. If with it, it counts as a write."""
     held = held_in(life.log())
     if trace.may_be_replaced and not held:
-        log.replace()
+        log.begin(b"")
     if trace.cut:
         return life.fails(what, "the log was cut, which is not understood")
     if trace.unfinished:
@@ -169,7 +173,7 @@ def try_torn(tried, runs, is_one_enough=False):
         if number % KILLS_IN_FOLDER == 0 or not is_well or life.is_full():
             if life:
                 life.end()
-            life = Life(tried, f"torn-{number}", tried.dice.uniform(0.5, 8))
+            life = Life(tried, f"torn-{number}", tried.dice.uniform(0.5, 8), MINUTE)
         is_well = is_one_more_torn(tried, life, number)
         if is_one_enough and tried.wrong:
             break

@@ -14,11 +14,11 @@ class Log:
     anything: those since the last sync, and those before a sync that failed, of which a later one proves nothing."""
 
     def __init__(self, held):
-        self.synced, self.shown, self.writes, self.doubtful = held, held, [], []
+        self.begin(held)
 
-    def replace(self):
-        """The file is replaced by a new one, which has no byte."""
-        self.__init__(b"")
+    def begin(self, held):
+        """The file is one that holds this, and all of it is on the disk."""
+        self.synced, self.shown, self.writes, self.doubtful = held, held, [], []
 
     def put(self, place, data):
         self.shown = put_over(self.shown, place, data)
@@ -104,7 +104,7 @@ class Trace:
             elif call[0] == "fail":
                 log.fail()
             elif call[0] == "replaced":
-                log.replace()
+                log.begin(b"")
             elif call[0] == "acks":
                 acks += call[1]
         return log, acks
