@@ -19,8 +19,8 @@ calls   The process gets SIGKILL at each of these calls in turn. It needs strace
 syncs   Each acknowledgement has to be written after a sync of the log that follows the last write to it. It needs strace.
 memory  Growths of memory are refused, by the library of docs/refused_memory.py: N growths of `cq log`, `write`, `take`, `drop`,
         `read` and `check` each on a folder with a log, or all if N is as large. It needs cc.
-wrong   The mode torn has to find three wrong programs: one prints an index before the line is stored, one never syncs, and one
-        syncs once for a batch. It needs strace and cc.
+wrong   The mode torn has to find four wrong programs: one prints an index before the line is stored, one never syncs, and two
+        sync once for a batch, one of them before its gate is opened and one after. It needs strace and cc.
 
 After each kill `cq read` has to print what was there before, and then a beginning of the lines that came, each once and in
 order: at least all that were acknowledged, with the indexes that were printed. `take` has to give the next message, and again

@@ -5,7 +5,8 @@ Run by itself, with RIGHT_CQ and WRONG_CQ in its environment, this is such a pro
 
 early     prints the index of a line at once, and then gives the line to the real `cq log`.
 unsynced  is the real `cq log`, with syncs that do nothing.
-once      is the real `cq log`, with one sync for a batch: the one before a gate is opened does nothing.
+frames    is the real `cq log`, with one sync for a batch: that of its frame. The one of the gate does nothing.
+gates     is the real `cq log`, with one sync for a batch: that of its gate.
 """
 import ctypes
 import os
@@ -16,7 +17,7 @@ import subprocess
 import sys
 import time
 
-WRONG = ["early", "unsynced", "once"]
+WRONG = ["early", "unsynced", "frames", "gates"]
 
 # So many kills have to be enough to find each.
 KILLS = 200
@@ -30,9 +31,10 @@ SYNCS = r"""
 
 static int count;
 
+/* In a log a sync of a frame and one of a gate take turns: after the empty file, its first gate, the head and its gate. */
 int fdatasync(int file) {
-    int is_kept = strcmp(getenv("WRONG_CQ"), "once") == 0 && ++count % 2 == 0;
-    return is_kept ? (int)syscall(SYS_fdatasync, file) : 0;
+    const char *kept = ++count % 2 ? "frames" : "gates";
+    return strcmp(getenv("WRONG_CQ"), kept) == 0 ? (int)syscall(SYS_fdatasync, file) : 0;
 }
 """
 
