@@ -25,18 +25,19 @@ SILENT = {"unlink", "lseek", "fchmod"}
 
 LINES = [b"one", b"two", b"three"]
 
-# What is said of a fault. ERRORS.md has these texts.
+# What is said of a fault. ERRORS.md has these texts. That the log was changed is said where a rename to it failed.
 TEXTS = re.compile(
     rb"(cq: (folder fault|no queue here|file fault: [\w.-]+|read fault|write fault|the log could not be begun: [^\n]+|"
-    rb"the log is not opened: [^\n]+|the log has stopped: [^\n]+|[^\n]*: all lines with an index are in queue\.log[^\n]*)\n)+"
+    rb"the log is not opened: [^\n]+|the log was changed while the queue was opened: [^\n]+|the log has stopped: [^\n]+|"
+    rb"[^\n]*: all lines with an index are in queue\.log[^\n]*)\n)+"
 )
 
 
 def calls_on(life, trace):
     """Each system call of `cq log` from the first on its folder on: its name, its number among those of this name, and whether
-    its failure loses nothing. So it is once a save record was removed: the folder is synced then, but all is saved."""
+    its failure loses nothing."""
     served_one_by_one(life.tried.program, [*STRACE, "-o", trace], life.folder, LINES)
-    numbers, found, is_there, since_removal = collections.Counter(), [], False, 3
+    numbers, found, is_there, seen = collections.Counter(), [], False, Seen()
     with open(trace, encoding="utf-8", errors="replace") as lines:
         for line in lines:
             name = line.split(None, 1)[1].split("(")[0]
@@ -44,9 +45,33 @@ def calls_on(life, trace):
             # The arguments of the command name the folder too.
             is_there = is_there or life.folder in line and name != "execve" and "/proc/" not in line
             if is_there and name in CALLS:
-                since_removal = 0 if name == "unlink" and "/queue.save\"" in line else since_removal + 1
-                found.append((name, numbers[name], name in SILENT or since_removal in (1, 2)))
+                seen.take_call(name, line)
+                found.append((name, numbers[name], seen.is_silent()))
     return found
+
+
+class Seen:
+    """The last call and where a save of files is.
+
+    All is saved once its record is renamed and the folder is synced. Then the parts are renamed, the folder is synced, the record
+    is removed, and the folder is synced once more. If any of this fails, the next command does it.
+    """
+
+    def __init__(self):
+        self.name, self.is_recorded, self.is_saved, self.is_removed, self.asks = "", False, False, False, 0
+
+    def take_call(self, name, line):
+        if self.is_removed and self.name == "fsync":
+            self.is_recorded, self.is_saved, self.is_removed = False, False, False
+        self.name = name
+        self.is_saved = self.is_saved or self.is_recorded and name == "rename"
+        self.is_recorded = self.is_recorded or name == "rename" and '/queue.save")' in line
+        self.is_removed = self.is_removed or name == "unlink" and '/queue.save")' in line
+        # Two calls ask whether the log was replaced since it was opened. It counts as replaced if one of them fails.
+        self.asks = 2 if name == "statx" and '"", ' in line else max(0, self.asks - 1)
+
+    def is_silent(self):
+        return self.name in SILENT or self.is_saved or self.asks > 0
 
 
 def is_well_after(life, is_silent, answer, lines, what):
@@ -95,7 +120,10 @@ def try_faults(tried, runs):
     lives = ready_lives(tried)
     for state, life in lives.items():
         copy = life.copied("traced")
-        cases += [(state, *call, error) for call in calls_on(copy, trace) for error in ERRORS]
+        calls = calls_on(copy, trace)
+        tried.counts["faults: calls that may fail"] += len(calls)
+        # Where all writes fail nothing can be said.
+        cases += [(state, *call, error) for call in calls for error in ERRORS if (call[0], error) != ("write", ("EIO", "+"))]
         copy.end()
     for state, name, number, is_silent, (error, how) in cases if runs >= len(cases) else tried.dice.sample(cases, runs):
         life, what = lives[state].copied("faults"), f"{state}, {error} at {name} {number}{how}"
@@ -107,7 +135,6 @@ def try_faults(tried, runs):
         tried.counts["faults: calls that failed"] += 1
         is_well_after(life, is_silent or error == "EINTR", answer, LINES, what)
         life.end()
-    tried.counts["faults: calls that may fail, each in four ways"] = len(cases) // len(ERRORS)
 
 
 def limited(program, folder, limit):

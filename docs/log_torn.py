@@ -8,7 +8,7 @@ import subprocess
 import time
 
 from log_life import MINUTE, Life
-from log_service import STRACE, Service, some_lines
+from log_service import NO_END, STRACE, Service, some_lines
 from log_trace import TRACED, Trace, put_over
 
 # A folder is made anew after this many kills.
@@ -77,12 +77,13 @@ def traced_service(tried, life, lines, trace, number):
     elif way == 4:
         front += ["-e", f"inject=fdatasync:error=EIO:when={dice.randint(1, 16)}"]
     service = Service(tried, life.folder, lines, front, is_closed=dice.random() < 0.2)
+    # Not before it has printed or ended: strace may hang if what it is to see is killed before it sees it.
+    service.first.wait(NO_END)
     if way in (1, 3):
-        service.first.wait(10)
         time.sleep(dice.uniform(0, 0.04))
     else:
         try:
-            service.process.wait(0.3)
+            service.process.wait(0.2)
         except subprocess.TimeoutExpired:
             pass
     acks, is_killed = service.kill(f"torn {number}", b"cq: the log" if way == 4 else None)
