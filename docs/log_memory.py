@@ -28,13 +28,15 @@ class Refusals:
     """The library that refuses a growth of memory, and notes that it did."""
 
     def __init__(self, tried):
-        source, self.library, self.mark, self.count = (os.path.join(tried.room, name) for name in ("shim.c", "shim.so", "mark", "count"))
+        names = ("shim.c", "shim.so", "mark", "count")
+        source, self.library, self.mark, self.count = (os.path.join(tried.room, name) for name in names)
         pathlib.Path(source).write_text(refused_memory.SHIM + REPORT, encoding="ascii")
         subprocess.run(["cc", "-O2", "-shared", "-fPIC", "-o", self.library, source], check=True)
 
     def front(self, number):
         """The words that come before a command whose growth with this number is refused, or none if it is 0."""
-        return ["env", f"LD_PRELOAD={self.library}", f"REFUSED_GROWTH={number}", f"REFUSED_MARK={self.mark}", f"GROWTHS={self.count}"]
+        words = [f"LD_PRELOAD={self.library}", f"REFUSED_GROWTH={number}", f"REFUSED_MARK={self.mark}"]
+        return ["env", *words, f"GROWTHS={self.count}"]
 
     def growths(self):
         """How many growths there were."""

@@ -72,7 +72,8 @@ def indexes_of(printed):
 
 
 class Service:
-    """`cq log` on a folder: a thread gives it lines, and another keeps what it prints. The input ends after them if that is wanted."""
+    """`cq log` on a folder: a thread gives it lines, and another keeps what it prints. Its input ends after them if that is
+    wanted."""
 
     def __init__(self, tried, folder, lines, front=(), is_closed=False):
         self.tried, self.folder, self.printed, self.first = tried, folder, b"", threading.Event()

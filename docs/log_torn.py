@@ -17,7 +17,6 @@ KILLS_IN_FOLDER = 50
 # After each kill so many logs are tried: the last one in the folder itself, and the others in copies of it.
 LOGS = 3
 
-
 # What may become of a write.
 KINDS = ["whole", "whole", "none", "front", "back", "sectors", "bytes", "zeros", "ones", "garbage"]
 
