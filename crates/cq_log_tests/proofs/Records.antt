@@ -1,8 +1,8 @@
 -- One more change is recorded.
-use Rattle.std.proofs.Common.{◌≡◌, ◌⊎◌, inl, inr, ⊎_elim, ℕ, zero, suc, ◌+◌, ◌<◌, ◌≤◌, List, [], ◌∷◌, ◌++◌, Vec, drop, get_or, length, take, if◌then◌else◌, refl, sym, ◌∙◌, ap, subst, arith, length-append}
+use Rattle.std.proofs.Common.{◌≡◌, ◌⊎◌, inl, inr, ⊎_elim, ℕ, zero, suc, ◌+◌, ◌<◌, ◌≤◌, List, [], ◌∷◌, ◌++◌, Vec, drop, get_or, length, take, if◌then◌else◌, refl, sym, ◌∙◌, ap, subst, arith, length-append, length-drop}
 use Rattle.std.specs.Prelude.{nat_le, Result, Ok, Err, OnOk, OnErr}
 use Rattle.std.proofs.lemmas.Bool.Decides.{nat_tests}
-use Rattle.std.proofs.lemmas.List.{take-append-le, take_all}
+use Rattle.std.proofs.lemmas.List.{get_or-drop, take-append-le, take_all}
 use Rattle.std.specs.declared.alloc.Global.{Global}
 use Rattle.cq_log.specs.Device as device
 use Rattle.cq_log_tests.specs.Changes.{Adds, IsAdded, IsCut, IsSync, IsWrite, Leaves, LeftSince, MayLeave, after, changed, outcomes, replay}
@@ -148,6 +148,27 @@ pub left_next : (changes : List Change) (i : ℕ) (change : Change) (d c : List 
     → MayLeave (take i changes) d → Leaves change d c → MayLeave (take (i + 1) changes) c
 left_next changes i change d c lt is so_far leaves =
     one_put (take i changes) (take (i + 1) changes) change c (take_next changes i change lt is) (leaves_after (MayLeave (take i changes)) change d c so_far leaves)
+
+-- the same among the changes from a place on
+pub left_on : (all items : List Change) (start i : ℕ) (change : Change) (d c : List ℕ) → items ≡ drop start all → i < length items → change ≡ get_or items i change
+    → MayLeave (take (start + i) all) d → Leaves change d c → MayLeave (take (start + (i + 1)) all) c
+left_on all items start i change d c from lt is so_far leaves =
+    let here : change ≡ get_or all (start + i) change = is ∙ ap (λ (l : List Change). get_or l i change) from ∙ get_or-drop start all i change in
+    let within : start + i < length all = omega (arith, lt, ap length from, length-drop start all) in
+    let next : start + i + 1 ≡ start + (i + 1) = omega arith in
+    subst (λ (n : ℕ). MayLeave (take n all) c) next (left_next all (start + i) change d c within here so_far leaves)
+
+-- after the last one
+pub left_last : (all items : List Change) (start i : ℕ) (c : List ℕ) → items ≡ drop start all → length items ≤ i → MayLeave (take (start + i) all) c → MayLeave all c
+left_last all items start i c from end left =
+    subst (λ (l : List Change). MayLeave l c) (take_all (start + i) all (omega (arith, end, ap length from, length-drop start all))) left
+
+-- a sync leaves its bytes
+pub left_synced : (changes : List Change) (i end : ℕ) (sync : Change) (v : Vec ℕ Global) → end ≡ i + 1 → end ≤ length changes → sync ≡ get_or changes i sync → sync ≡ Sync v
+    → MayLeave (take end changes) v.items
+left_synced changes i end sync v is within here synced =
+    let next : take end changes ≡ take i changes ++ sync ∷ [] = ap (λ (n : ℕ). take n changes) is ∙ take_next changes i sync (omega (arith, is, within)) here in
+    one_put (take i changes) (take end changes) (Sync v) v.items (next ∙ ap (λ (x : Change). take i changes ++ x ∷ []) synced) refl
 
 -- as many bytes, and as many changes before
 pub added_here : (at n m : ℕ) (old mid new : List Change) → m ≡ n → mid ≡ old → IsAdded (IsWrite at m) mid new → IsAdded (IsWrite at n) old new

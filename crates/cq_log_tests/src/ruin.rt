@@ -37,28 +37,14 @@ impl Ruin {
     ) -> Result<Vec<u8>, AllocError>
         ensures { IfOk result (λ reached. length reached.items ≤ length bytes.now) }
     {
-        let mut reached = Vec::new(alloc);
-        for (i, &byte) in bytes.iter().enumerate() {
-            let place = at.saturating_add(i);
-            match self {
-                Ruin::Kept => reached.push(byte)?,
-                Ruin::Lost => {}
-                Ruin::Front(count) if i < count => reached.push(byte)?,
-                Ruin::Front(_) => {}
-                Ruin::Filled(other) => reached.push(other)?,
-                Ruin::Spoilt {
-                    place: spoilt,
-                    byte: other,
-                } if spoilt == place => reached.push(other)?,
-                Ruin::Spoilt { .. } => reached.push(byte)?,
-                Ruin::Mixed(bits) if bits.rotate_right((place % 64) as u32) % 2 == 1 => {
-                    reached.push(byte)?;
-                }
-                Ruin::Mixed(_) => reached.push(file.get(place).copied().unwrap_or(0))?,
-            }
+        match self {
+            Ruin::Kept => bytes.to_vec(alloc),
+            Ruin::Lost => Ok(Vec::new(alloc)),
+            Ruin::Front(count) => bytes[..count.min(bytes.len())].to_vec(alloc),
+            Ruin::Filled(byte) => vec![in alloc; byte; bytes.len()],
+            Ruin::Spoilt { place, byte } => spoilt(alloc, bytes, place.checked_sub(at), byte),
+            Ruin::Mixed(bits) => mixed(alloc, file, at, bytes, bits),
         }
-        reached.truncate(bytes.len());
-        Ok(reached)
     }
 
     /// Returns the bytes that a crash leaves past the end of a cut, where these were before.
@@ -80,4 +66,46 @@ impl Ruin {
         left.truncate(bytes.len());
         Ok(left)
     }
+}
+
+/// Returns these bytes with another one at this index, if there is one.
+fn spoilt(
+    alloc: Global,
+    bytes: &[u8],
+    index: Option<usize>,
+    byte: u8,
+) -> Result<Vec<u8>, AllocError>
+    ensures { IfOk result (λ spoilt. length spoilt.items ≤ length bytes.now) }
+{
+    let mut spoilt = bytes.to_vec(alloc)?;
+    if let Some(index) = index
+        && let Some(old) = spoilt.get_mut(index)
+    {
+        *old = byte;
+    }
+    Ok(spoilt)
+}
+
+/// Returns of the bytes that were written at an offset of a file those that these bits choose, and of the others what the file had,
+/// or a 0.
+fn mixed(
+    alloc: Global,
+    file: &[u8],
+    at: usize,
+    bytes: &[u8],
+    bits: u64,
+) -> Result<Vec<u8>, AllocError>
+    ensures { IfOk result (λ mixed. length mixed.items ≤ length bytes.now) }
+{
+    let mut mixed = Vec::new(alloc);
+    for (i, &byte) in bytes.iter().enumerate() {
+        let place = at.saturating_add(i);
+        if bits.rotate_right((place % 64) as u32) % 2 == 1 {
+            mixed.push(byte)?;
+        } else {
+            mixed.push(file.get(place).copied().unwrap_or(0))?;
+        }
+    }
+    mixed.truncate(bytes.len());
+    Ok(mixed)
 }

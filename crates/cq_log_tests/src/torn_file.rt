@@ -73,8 +73,9 @@ impl TornFile {
     pub fn after_crash(&self, alloc: Global, ruin: Ruin) -> Result<Vec<u8>, AllocError>
         ensures { IfOk result (λ left. MayLeave self.now.changes.items left.items) }
     {
-        let mut left = Vec::new(alloc);
-        for change in &self.changes {
+        let (synced, file) = last_sync(&self.changes);
+        let mut left = file.to_vec(alloc)?;
+        for change in &self.changes[synced..] {
             left = left_by(alloc, &left, change, ruin)?;
         }
         Ok(left)
@@ -172,6 +173,21 @@ fn overwritten(alloc: Global, file: &[u8], at: usize, bytes: &[u8]) -> Result<Ve
         new.extend_from_slice(&file[at + bytes.len()..])?;
     }
     Ok(new)
+}
+
+/// Returns how many of these changes come up to the last sync, that one included, and what a crash leaves after it.
+fn last_sync(changes: &[Change]) -> (usize, &[u8])
+    ensures within { result.0 ≤ length changes.now }
+    ensures left { MayLeave (take result.0 changes.now) result.1.now }
+{
+    let mut end = changes.len();
+    'syncs: while end > 0 {
+        if let Change::Sync(file) = &changes[end - 1] {
+            return (end, file);
+        }
+        end -= 1;
+    }
+    (0, &[])
 }
 
 /// Returns what a crash makes of a file in a change.
