@@ -139,22 +139,15 @@ static ROWS: [Row; 22] = [
         "write fault",
         "5[ab;c;d;e;] at [21474836481]",
     ),
-    // The first line is stored by the calls 9 to 14, and the second by the next six.
-    (&["d\n", "e\n"], Trouble::Log(9), "", STOPPED, NOTHING_NEW),
+    // The first line is stored by the calls 10 to 15, and the second by the next six.
     (&["d\n", "e\n"], Trouble::Log(10), "", STOPPED, NOTHING_NEW),
-    (&["d\n", "e\n"], Trouble::Log(12), "", STOPPED, NOTHING_NEW),
+    (&["d\n", "e\n"], Trouble::Log(11), "", STOPPED, NOTHING_NEW),
     (&["d\n", "e\n"], Trouble::Log(13), "", STOPPED, NOTHING_NEW),
     (&["d\n", "e\n"], Trouble::Log(14), "", STOPPED, NOTHING_NEW),
+    (&["d\n", "e\n"], Trouble::Log(15), "", STOPPED, NOTHING_NEW),
     (
         &["d\n", "e\n"],
-        Trouble::Log(15),
-        "0000000500000002 ",
-        STOPPED,
-        "5[ab;c;d;] at [21474836481]",
-    ),
-    (
-        &["d\n", "e\n"],
-        Trouble::Log(19),
+        Trouble::Log(16),
         "0000000500000002 ",
         STOPPED,
         "5[ab;c;d;] at [21474836481]",
@@ -169,6 +162,13 @@ static ROWS: [Row; 22] = [
     (
         &["d\n", "e\n"],
         Trouble::Log(21),
+        "0000000500000002 ",
+        STOPPED,
+        "5[ab;c;d;] at [21474836481]",
+    ),
+    (
+        &["d\n", "e\n"],
+        Trouble::Log(22),
         "0000000500000002 0000000500000003 ",
         "ok",
         "5[ab;c;d;e;] at [21474836481]",

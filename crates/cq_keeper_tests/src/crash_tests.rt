@@ -48,29 +48,30 @@ const FIFTH: &str = "ok ok ok ok Failed ";
 const NONE: &str = "ok ok ok ok ok ";
 
 /// Each moment after the log was made.
-static MOMENTS: [Moment; 18] = [
-    // The first frame, which waits then: its length, its bytes, the next gate, the sync.
+static MOMENTS: [Moment; 19] = [
+    // The first frame, which waits then: its length, its bytes, the next gate, the zeros, the sync.
     (3, FIRST, 0, 0, (0, 0)),
     (4, FIRST, 0, 0, (0, 0)),
     (5, FIRST, 0, 0, (0, 0)),
     (6, FIRST, 0, 0, (0, 0)),
+    (7, FIRST, 0, 0, (0, 0)),
     // Its gate, the second frame in three writes, the sync.
-    (7, SECOND, 0, 0, (0, 1)),
-    (8, SECOND, 0, 1, (0, 1)),
+    (8, SECOND, 0, 0, (0, 1)),
     (9, SECOND, 0, 1, (0, 1)),
     (10, SECOND, 0, 1, (0, 1)),
     (11, SECOND, 0, 1, (0, 1)),
+    (12, SECOND, 0, 1, (0, 1)),
     // Nothing came: the gate of the second frame, the sync.
-    (12, THIRD, 1, 1, (1, 2)),
-    (13, THIRD, 1, 2, (1, 2)),
+    (13, THIRD, 1, 1, (1, 2)),
+    (14, THIRD, 1, 2, (1, 2)),
     // The third frame, before which none waits, and the sync.
-    (14, FOURTH, 2, 2, (2, 2)),
     (15, FOURTH, 2, 2, (2, 2)),
     (16, FOURTH, 2, 2, (2, 2)),
     (17, FOURTH, 2, 2, (2, 2)),
+    (18, FOURTH, 2, 2, (2, 2)),
     // Its gate, the sync.
-    (18, FIFTH, 2, 2, (2, 3)),
-    (19, FIFTH, 2, 3, (2, 3)),
+    (19, FIFTH, 2, 2, (2, 3)),
+    (20, FIFTH, 2, 3, (2, 3)),
     // After all.
     (0, NONE, 21474836481, 3, (3, 3)),
 ];
@@ -90,6 +91,9 @@ static RUINS: [Ruin; 12] = [
     Ruin::Mixed(0xAAAA_AAAA_AAAA_AAAA),
     Ruin::Mixed(0x0F0F_3C3C_9696_A5A5),
 ];
+
+/// The places of single bytes that a crash spoils: those of all blocks, and some of the zeros after them.
+const PLACES: usize = 100;
 
 /// Makes a call. If it is one of the keeper, adds what it returns to a text.
 fn push_answer(
@@ -133,7 +137,7 @@ fn counts_left(alloc: Global, file: &TornFile) -> Result<(usize, usize), Fail> {
         least = least.min(count);
         greatest = greatest.max(count);
     }
-    for place in 0..file.bytes().len() {
+    for place in 0..file.bytes().len().min(PLACES) {
         let ruin = Ruin::Spoilt { place, byte: 1 };
         let count = count_in(alloc, &file.after_crash(alloc, ruin)?)?;
         least = least.min(count);

@@ -14,8 +14,8 @@ const ONE_MORE: &str = "5[ab;c;d;] at [21474836481]";
 
 /// The number of the write or sync that fails, or 0 if none does; the answers of an opening, of a turn to which a message came and of a
 /// settle; and what a read of the log gives then.
-static FAULTS: [(u64, &str, &str); 15] = [
-    // The first gate and its sync, the head with the next gate and its sync, its own gate and its sync.
+static FAULTS: [(u64, &str, &str); 16] = [
+    // The first gate and its sync, the head with the next gate, the zeros and its sync, its own gate and its sync.
     (1, "Failed(Failed)", AT_FIRST),
     (2, "Failed(Failed)", AT_FIRST),
     (3, "Failed(Failed)", AT_FIRST),
@@ -24,14 +24,15 @@ static FAULTS: [(u64, &str, &str); 15] = [
     (6, "Failed(Failed)", AT_FIRST),
     (7, "Failed(Failed)", AT_FIRST),
     (8, "Failed(Failed)", AT_FIRST),
+    (9, "Failed(Failed)", AT_FIRST),
     // The frame of the turn, in three writes, and its sync.
-    (9, "Stopped(Failed) Failed", AT_FIRST),
     (10, "Stopped(Failed) Failed", AT_FIRST),
     (11, "Stopped(Failed) Failed", AT_FIRST),
     (12, "Stopped(Failed) Failed", AT_FIRST),
+    (13, "Stopped(Failed) Failed", AT_FIRST),
     // Its gate, and its sync.
-    (13, "ok Failed", AT_FIRST),
-    (14, "ok Failed", ONE_MORE),
+    (14, "ok Failed", AT_FIRST),
+    (15, "ok Failed", ONE_MORE),
     (0, "ok ok", ONE_MORE),
 ];
 

@@ -179,7 +179,7 @@ fn another_folder_is_left(rt: HostRuntime) -> Result<(), Fail> {
 fn a_fault_of_the_log_keeps_the_folder(rt: HostRuntime) -> Result<(), Fail> {
     let alloc = rt.alloc();
     let mut folder = folder_with_a(alloc)?;
-    let mut live = opened(alloc, &mut folder, Matter::Failing(15))?;
+    let mut live = opened(alloc, &mut folder, Matter::Failing(16))?;
     store(alloc, &mut folder, &mut live, b"b")?;
     live.endpoint.append(0, b"c")?;
     let _live = checkpointed(
@@ -279,7 +279,7 @@ static PLACES: [(Matter, &str); 9] = [
         "ended: the log could not be begun: the file could not be read, written, cut or synced",
     ),
     (
-        Matter::Failing(8),
+        Matter::Failing(9),
         "ended: the log could not be begun: the file could not be read, written, cut or synced",
     ),
 ];

@@ -94,7 +94,7 @@ fn a_queue_that_was_closed_is_in_the_images(rt: HostRuntime) -> Result<(), Fail>
 fn a_fault_of_the_log_gives_the_queue_back(rt: HostRuntime) -> Result<(), Fail> {
     let alloc = rt.alloc();
     let mut folder = folder_with_a(alloc)?;
-    let live = live_with_more(alloc, &mut folder, 15)?;
+    let live = live_with_more(alloc, &mut folder, 16)?;
     expect_closing(
         alloc,
         live,

@@ -20,7 +20,7 @@ const FOLDED: &str = "0[a;b;] at [0]";
 const UNBEGUN: &str =
     "the log could not be begun: the file could not be read, written, cut or synced";
 
-static ROWS: [Row; 15] = [
+static ROWS: [Row; 16] = [
     // No file changed.
     (
         Matter::Locked,
@@ -65,7 +65,7 @@ static ROWS: [Row; 15] = [
         FOLDED,
         0,
     ),
-    // The first gate and its sync, the head with the next gate and its sync, its own gate and its sync.
+    // The first gate and its sync, the head with the next gate, the zeros and its sync, its own gate and its sync.
     (Matter::Failing(1), UNBEGUN, FOLDED, 0),
     (Matter::Failing(2), UNBEGUN, FOLDED, 0),
     (Matter::Failing(3), UNBEGUN, FOLDED, 0),
@@ -74,6 +74,7 @@ static ROWS: [Row; 15] = [
     (Matter::Failing(6), UNBEGUN, FOLDED, 0),
     (Matter::Failing(7), UNBEGUN, FOLDED, 0),
     (Matter::Failing(8), UNBEGUN, FOLDED, 0),
+    (Matter::Failing(9), UNBEGUN, FOLDED, 0),
 ];
 
 /// Why an opening failed.

@@ -19,7 +19,7 @@ static FRAMES: [&[u8]; 3] = [b"ab", b"", b"xyz"];
 /// log; and the number of frames that are read from the file.
 ///
 /// The write of a gate that fails leaves it closed.
-static FAILURES: [(u64, usize, usize); 23] = [
+static FAILURES: [(u64, usize, usize); 24] = [
     (0, 3, 3),
     // The lock, the first read, the sync, the sync of the folder.
     (1, 0, 0),
@@ -29,26 +29,27 @@ static FAILURES: [(u64, usize, usize); 23] = [
     // The first gate, and its sync.
     (5, 0, 0),
     (6, 0, 0),
-    // The first frame, which waits: its length, its bytes, the next gate, the sync.
+    // The first frame, which waits: its length, its bytes, the next gate, the zeros, the sync.
     (7, 0, 0),
     (8, 0, 0),
     (9, 0, 0),
     (10, 0, 0),
-    // Its gate, the second frame in three writes, the sync.
     (11, 0, 0),
-    (12, 0, 1),
+    // Its gate, the second frame in three writes, the sync.
+    (12, 0, 0),
     (13, 0, 1),
     (14, 0, 1),
     (15, 0, 1),
+    (16, 0, 1),
     // The gate of the second frame, the third one, the sync.
-    (16, 1, 1),
-    (17, 1, 2),
+    (17, 1, 1),
     (18, 1, 2),
     (19, 1, 2),
     (20, 1, 2),
+    (21, 1, 2),
     // The gate of the third frame, the sync.
-    (21, 2, 2),
-    (22, 2, 3),
+    (22, 2, 2),
+    (23, 2, 3),
 ];
 
 /// Puts the frames to a log up to the first fault, and settles it. Returns the number of frames that are stored by its answers,

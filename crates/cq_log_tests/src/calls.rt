@@ -10,8 +10,26 @@ use std::alloc::{AllocError, Global};
 pub enum Call {
     /// Puts a frame with these bytes.
     Push(&'static str),
+    /// Puts a frame of this many bytes, each `x`.
+    Long(usize),
     /// Opens the gate of the frame that waits.
     Settle,
+}
+
+impl Call {
+    /// Whether it puts a frame.
+    pub fn is_put(self) -> bool {
+        !matches!(self, Call::Settle)
+    }
+
+    /// Whether it puts a frame of these bytes.
+    pub fn puts(self, frame: &[u8]) -> bool {
+        match self {
+            Call::Push(text) => frame == text.as_bytes(),
+            Call::Long(count) => frame.len() == count && frame.iter().all(|byte| *byte == b'x'),
+            Call::Settle => false,
+        }
+    }
 }
 
 /// Makes the calls, and returns their answers as text. Out of memory ends it.
@@ -27,6 +45,7 @@ fn answers<D: Device>(
     for call in calls {
         let answer = match call {
             Call::Push(frame) => log.push(frame.as_bytes()),
+            Call::Long(count) => log.push(&vec![in alloc; b'x'; *count]?),
             Call::Settle => log.settle().map_err(LogFault::Stopped),
         };
         match answer {

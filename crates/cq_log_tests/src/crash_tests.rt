@@ -8,10 +8,8 @@ use std::test::Fail;
 /// Calls, and what is read at each moment of them.
 struct Run {
     calls: &'static [Call],
-    /// The frames that are put, in order.
-    frames: &'static [&'static [u8]],
-    /// The number of bytes of the whole log.
-    length: usize,
+    /// Where single bytes are spoilt: in the blocks and at the ends of the growths, from the first place to before the second.
+    places: &'static [(usize, usize)],
     /// The number of the call of the file that fails, or 0 after all; the number of frames that are read then without a crash;
     /// the least and the greatest number of frames that a crash in that call leaves.
     ///
@@ -20,8 +18,8 @@ struct Run {
     moments: &'static [(u64, usize, usize, usize)],
 }
 
-/// Frames that are put one after another, and frames that are settled one by one.
-static RUNS: [Run; 2] = [
+/// Frames that are put one after another, frames that are settled one by one, and a frame for which the file grows once more.
+static RUNS: [Run; 3] = [
     Run {
         calls: &[
             Call::Push("ab"),
@@ -29,32 +27,32 @@ static RUNS: [Run; 2] = [
             Call::Push("xyz"),
             Call::Settle,
         ],
-        frames: &[b"ab", b"", b"xyz"],
-        length: 21,
+        places: &[(0, 24), (4100, 4104)],
         moments: &[
             // The first gate, and its sync.
             (1, 0, 0, 0),
             (2, 0, 0, 0),
-            // The first frame, which waits: its length, its bytes, the next gate, the sync.
+            // The first frame, which waits: its length, its bytes, the next gate, the zeros, the sync.
             (3, 0, 0, 0),
             (4, 0, 0, 0),
             (5, 0, 0, 0),
             (6, 0, 0, 0),
+            (7, 0, 0, 0),
             // Its gate, the second frame in three writes, the sync.
-            (7, 0, 0, 1),
-            (8, 1, 0, 1),
+            (8, 0, 0, 1),
             (9, 1, 0, 1),
             (10, 1, 0, 1),
             (11, 1, 0, 1),
+            (12, 1, 0, 1),
             // The gate of the second frame, the third one, the sync.
-            (12, 1, 1, 2),
-            (13, 2, 1, 2),
+            (13, 1, 1, 2),
             (14, 2, 1, 2),
             (15, 2, 1, 2),
             (16, 2, 1, 2),
+            (17, 2, 1, 2),
             // The gate of the third frame, the sync.
-            (17, 2, 2, 3),
-            (18, 3, 2, 3),
+            (18, 2, 2, 3),
+            (19, 3, 2, 3),
             // After all.
             (0, 3, 3, 3),
         ],
@@ -66,34 +64,52 @@ static RUNS: [Run; 2] = [
             Call::Push("xyz"),
             Call::Settle,
         ],
-        frames: &[b"ab", b"xyz"],
-        length: 16,
+        places: &[(0, 20)],
         moments: &[
             // The gate of the first frame, the sync.
-            (7, 0, 0, 1),
-            (8, 1, 0, 1),
+            (8, 0, 0, 1),
+            (9, 1, 0, 1),
             // The second frame in three writes, the sync: no gate is opened.
-            (9, 1, 1, 1),
             (10, 1, 1, 1),
             (11, 1, 1, 1),
             (12, 1, 1, 1),
+            (13, 1, 1, 1),
             // Its gate, the sync.
-            (13, 1, 1, 2),
-            (14, 2, 1, 2),
+            (14, 1, 1, 2),
+            (15, 2, 1, 2),
+            // After all.
+            (0, 2, 2, 2),
+        ],
+    },
+    Run {
+        calls: &[Call::Push("ab"), Call::Long(4092), Call::Settle],
+        places: &[(6, 14), (4102, 4107), (8206, 8210)],
+        moments: &[
+            // The gate of the first frame; the second one in three writes, of which the third is past the end; the zeros; the sync.
+            (8, 0, 0, 1),
+            (9, 1, 0, 1),
+            (10, 1, 0, 1),
+            (11, 1, 0, 1),
+            (12, 1, 0, 1),
+            (13, 1, 0, 1),
+            // Its gate, the sync.
+            (14, 1, 1, 2),
+            (15, 2, 1, 2),
             // After all.
             (0, 2, 2, 2),
         ],
     },
 ];
 
-/// Returns the number of frames in these bytes; `None` if they are not the first of those that were put.
-fn count_in(alloc: Global, bytes: &[u8], put: &[&[u8]]) -> Result<Option<usize>, AllocError> {
+/// Returns the number of frames in these bytes; `None` if they are not the first of those that the calls put.
+fn count_in(alloc: Global, bytes: &[u8], calls: &[Call]) -> Result<Option<usize>, AllocError> {
     let frames = read_frames(alloc, bytes)?.frames;
-    let are_first = frames
-        .iter()
-        .zip(put.iter())
-        .all(|(found, put)| found.as_slice() == *put);
-    Ok((are_first && frames.len() <= put.len()).then_some(frames.len()))
+    let mut puts = calls.iter().filter(|call| call.is_put());
+    let are_first = frames.iter().all(|frame| match puts.next() {
+        Some(call) => call.puts(frame),
+        None => false,
+    });
+    Ok(are_first.then_some(frames.len()))
 }
 
 /// The least and the greatest number of frames that were left; `None` if other frames were left.
@@ -134,21 +150,36 @@ static RUINS: [Ruin; 12] = [
 /// Bytes that a crash may leave at a place: closed and open gates, and others.
 static BYTES: [u8; 4] = [0, 1, 2, 255];
 
+/// Counts the crashes that spoil this byte. Returns whether the frames that they leave are the first ones.
+fn add_spoilt(
+    alloc: Global,
+    counts: &mut Counts,
+    file: &TornFile,
+    run: &Run,
+    place: usize,
+) -> Result<bool, AllocError> {
+    let mut are_first = true;
+    for &byte in &BYTES {
+        let left = file.after_crash(alloc, Ruin::Spoilt { place, byte })?;
+        are_first &= counts.add(count_in(alloc, &left, run.calls)?);
+    }
+    Ok(are_first)
+}
+
 /// Returns the least and the greatest number of frames that are left of a file by a crash; `None` if it leaves others.
 fn counts_left(alloc: Global, file: &TornFile, run: &Run) -> Result<Option<Counts>, AllocError> {
     let mut counts = Counts {
-        least: run.frames.len(),
+        least: run.calls.len(),
         greatest: 0,
     };
     let mut are_first = true;
     for &ruin in &RUINS {
         let left = file.after_crash(alloc, ruin)?;
-        are_first &= counts.add(count_in(alloc, &left, run.frames)?);
+        are_first &= counts.add(count_in(alloc, &left, run.calls)?);
     }
-    for place in 0..run.length {
-        for &byte in &BYTES {
-            let left = file.after_crash(alloc, Ruin::Spoilt { place, byte })?;
-            are_first &= counts.add(count_in(alloc, &left, run.frames)?);
+    for &(first, end) in run.places {
+        for place in first..end {
+            are_first &= add_spoilt(alloc, &mut counts, file, run, place)?;
         }
     }
     Ok(are_first.then_some(counts))
@@ -160,11 +191,63 @@ fn a_crash_leaves_whole_frames(rt: HostRuntime) -> Result<(), Fail> {
     for run in &RUNS {
         for &(failing, read, least, greatest) in run.moments {
             let (file, _answers) = after_calls(alloc, failing, run.calls)?;
-            let count = count_in(alloc, file.bytes(), run.frames)?;
+            let count = count_in(alloc, file.bytes(), run.calls)?;
             assert_eq!(rt; count, Some(read), "at {failing}");
             let counts = counts_left(alloc, &file, run)?;
             assert_eq!(rt; counts, Some(Counts { least, greatest }), "at {failing}");
         }
+    }
+    Ok(())
+}
+
+/// What may be where a file has grown: nothing, open gates, and blocks that are open and whole.
+static GARBAGE: [&[u8]; 5] = [&[0], &[1], &[255], &[1, 1, 0, 0, 0, 97], &[1, 0, 0, 0, 0]];
+
+/// Returns the number of frames of a log that is cut to this length; `None` if they are not the first of those that the calls put.
+fn count_of(
+    alloc: Global,
+    bytes: &[u8],
+    length: usize,
+    calls: &[Call],
+) -> Result<Option<usize>, AllocError> {
+    match bytes.get(..length) {
+        Some(bytes) => count_in(alloc, bytes, calls),
+        None => Ok(None),
+    }
+}
+
+/// A log whose file has grown twice: the second frame passed the end of the first growth, and waits. The gates are at 0, 7 and
+/// 4,104, and the second growth is from 4,105 on.
+static TWICE: [Call; 2] = [Call::Push("ab"), Call::Long(4092)];
+
+/// Returns the bytes of that log up to the second growth, and then garbage in place of it.
+fn with_garbage(alloc: Global, bytes: &[u8], garbage: &[u8]) -> Result<Vec<u8>, AllocError> {
+    let mut left = bytes.to_vec(alloc)?;
+    left.truncate(4105);
+    for _ in 0..4105usize {
+        left.extend_from_slice(garbage)?;
+    }
+    left.truncate(8210);
+    Ok(left)
+}
+
+#[test]
+fn what_a_growth_leaves_is_not_read(rt: HostRuntime) -> Result<(), Fail> {
+    let alloc = rt.alloc();
+    let (file, _answers) = after_calls(alloc, 0, &TWICE)?;
+    assert_eq!(rt; file.bytes().len(), 8210);
+    for end in 7..=8210usize {
+        let count = count_of(alloc, file.bytes(), end, &TWICE)?;
+        assert_eq!(rt; count, Some(1), "of {end} bytes");
+    }
+    for garbage in &GARBAGE {
+        let left = with_garbage(alloc, file.bytes(), garbage)?;
+        assert_eq!(rt; left.len(), 8210);
+        assert_eq!(rt;
+            count_in(alloc, &left, &TWICE)?,
+            Some(1),
+            "with {garbage:?}"
+        );
     }
     Ok(())
 }

@@ -2,36 +2,84 @@
 use crate::calls::{Call, after_calls, changes_text};
 use std::test::Fail;
 
-/// Calls, and the bytes of the file after them.
-static LAYOUTS: [(&[Call], &[u8]); 8] = [
-    (&[], &[0]),
-    (&[Call::Settle], &[0]),
-    (&[Call::Push("ab")], &[0, 2, 0, 0, 0, 97, 98, 0]),
+/// Calls, the bytes of the blocks after them, and the number of zeros that follow.
+static LAYOUTS: [(&[Call], &[u8], usize); 8] = [
+    (&[], &[0], 0),
+    (&[Call::Settle], &[0], 0),
+    (&[Call::Push("ab")], &[0, 2, 0, 0, 0, 97, 98, 0], 4096),
     (
         &[Call::Push("ab"), Call::Settle],
         &[1, 2, 0, 0, 0, 97, 98, 0],
+        4096,
     ),
     (
         &[Call::Push("ab"), Call::Push("c")],
         &[1, 2, 0, 0, 0, 97, 98, 0, 1, 0, 0, 0, 99, 0],
+        4090,
     ),
     (
         &[Call::Push("ab"), Call::Settle, Call::Push("c")],
         &[1, 2, 0, 0, 0, 97, 98, 0, 1, 0, 0, 0, 99, 0],
+        4090,
     ),
-    (&[Call::Push("")], &[0, 0, 0, 0, 0, 0]),
+    (&[Call::Push("")], &[0, 0, 0, 0, 0, 0], 4096),
     (
         &[Call::Push(""), Call::Push("c"), Call::Settle],
         &[1, 0, 0, 0, 0, 1, 1, 0, 0, 0, 99, 0],
+        4090,
     ),
 ];
+
+/// Returns whether a file has these bytes, and then this number of zeros.
+fn has_layout(file: &[u8], bytes: &[u8], zeros: usize) -> bool {
+    match file.split_at_checked(bytes.len()) {
+        Some((front, rest)) => {
+            front == bytes && rest.len() == zeros && rest.iter().all(|byte| *byte == 0)
+        }
+        None => false,
+    }
+}
 
 #[test]
 fn logs_have_these_bytes(rt: HostRuntime) -> Result<(), Fail> {
     let alloc = rt.alloc();
-    for (i, (calls, bytes)) in LAYOUTS.iter().enumerate() {
+    for (i, &(calls, bytes, zeros)) in LAYOUTS.iter().enumerate() {
         let (file, _answers) = after_calls(alloc, 0, calls)?;
-        assert_eq!(rt; file.bytes(), *bytes, "at {i}");
+        assert!(rt; has_layout(file.bytes(), bytes, zeros), "at {i}");
+    }
+    Ok(())
+}
+
+/// Calls, and the writes and syncs of the file: a block that passes the end is followed by zeros, as many as the file has bytes, but
+/// not less than 4,096.
+static GROWTHS: [(&[Call], &str); 4] = [
+    // The last gate of the second frame is the last byte of the file.
+    (
+        &[Call::Push("ab"), Call::Long(4091), Call::Settle],
+        "0+1 sync 1+4 5+2 7+1 8+4096 sync 0+1 8+4 12+4091 4103+1 sync 7+1 sync ",
+    ),
+    // It passes the end by a byte.
+    (
+        &[Call::Push("ab"), Call::Long(4092), Call::Push("c")],
+        "0+1 sync 1+4 5+2 7+1 8+4096 sync 0+1 8+4 12+4092 4104+1 4105+4105 sync 7+1 4105+4 4109+1 4110+1 sync ",
+    ),
+    // One write has 65,536 zeros at most.
+    (
+        &[Call::Long(100_000)],
+        "0+1 sync 1+4 5+100000 100005+1 100006+65536 165542+34470 sync ",
+    ),
+    (
+        &[Call::Push(""), Call::Push("")],
+        "0+1 sync 1+4 5+0 5+1 6+4096 sync 0+1 6+4 10+0 10+1 sync ",
+    ),
+];
+
+#[test]
+fn a_file_grows_ahead_of_its_blocks(rt: HostRuntime) -> Result<(), Fail> {
+    let alloc = rt.alloc();
+    for (i, &(calls, changes)) in GROWTHS.iter().enumerate() {
+        let (file, _answers) = after_calls(alloc, 0, calls)?;
+        assert_eq!(rt; changes_text(alloc, &file)?.as_str(), changes, "at {i}");
     }
     Ok(())
 }
@@ -51,13 +99,13 @@ fn each_frame_is_synced_once(rt: HostRuntime) -> Result<(), Fail> {
     assert_eq!(rt; answers.as_str(), "ok ok ok ok ");
     assert_eq!(rt;
         changes_text(alloc, &file)?.as_str(),
-        "0+1 sync 1+4 5+2 7+1 sync 0+1 8+4 12+0 12+1 sync 7+1 13+4 17+3 20+1 sync 12+1 sync "
+        "0+1 sync 1+4 5+2 7+1 8+4096 sync 0+1 8+4 12+0 12+1 sync 7+1 13+4 17+3 20+1 sync 12+1 sync "
     );
     Ok(())
 }
 
 /// The number of the call of the file that fails, the answers, and the calls of the file: none is made after it.
-static STOPS: [(u64, &str, &str); 9] = [
+static STOPS: [(u64, &str, &str); 10] = [
     (1, "Failed", "0+1 "),
     (2, "Failed", "0+1 "),
     (
@@ -78,22 +126,27 @@ static STOPS: [(u64, &str, &str); 9] = [
     (
         6,
         "Stopped(Failed) Stopped(Failed) Stopped(Failed) Stopped(Failed) ",
-        "0+1 sync 1+4 5+2 7+1 ",
+        "0+1 sync 1+4 5+2 7+1 8+4096 ",
     ),
     (
         7,
-        "ok Stopped(Failed) Stopped(Failed) Stopped(Failed) ",
-        "0+1 sync 1+4 5+2 7+1 sync 0+1 ",
+        "Stopped(Failed) Stopped(Failed) Stopped(Failed) Stopped(Failed) ",
+        "0+1 sync 1+4 5+2 7+1 8+4096 ",
     ),
     (
-        11,
+        8,
         "ok Stopped(Failed) Stopped(Failed) Stopped(Failed) ",
-        "0+1 sync 1+4 5+2 7+1 sync 0+1 8+4 12+0 12+1 ",
+        "0+1 sync 1+4 5+2 7+1 8+4096 sync 0+1 ",
     ),
     (
-        18,
+        12,
+        "ok Stopped(Failed) Stopped(Failed) Stopped(Failed) ",
+        "0+1 sync 1+4 5+2 7+1 8+4096 sync 0+1 8+4 12+0 12+1 ",
+    ),
+    (
+        19,
         "ok ok ok Stopped(Failed) ",
-        "0+1 sync 1+4 5+2 7+1 sync 0+1 8+4 12+0 12+1 sync 7+1 13+4 17+3 20+1 sync 12+1 ",
+        "0+1 sync 1+4 5+2 7+1 8+4096 sync 0+1 8+4 12+0 12+1 sync 7+1 13+4 17+3 20+1 sync 12+1 ",
     ),
 ];
 

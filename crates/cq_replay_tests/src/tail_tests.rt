@@ -16,6 +16,9 @@ static FRAMES: [Frame; 4] = [
 /// Where the gate of the turn is that waits.
 const GATE: usize = 154;
 
+/// Where the blocks end, and the gate after them. Zeros follow.
+const END: usize = 166;
+
 /// What is given of the stored turns.
 const STORED: &str = "7[ab;c;] at [0], 2 turns, to 154";
 
@@ -36,14 +39,15 @@ fn given_by(end: usize) -> &'static str {
 fn a_log_that_is_cut_anywhere_gives_a_beginning(rt: HostRuntime) -> Result<(), Fail> {
     let alloc = rt.alloc();
     let log = waiting_log(alloc, &FRAMES)?;
-    assert_eq!(rt; log.len(), 166);
-    for end in 0..=log.len() {
+    assert!(rt; log.len() > END);
+    for end in 0..=END {
         assert_eq!(rt;
             played_text(alloc, EMPTY, &log[..end])?.as_str(),
             given_by(end),
             "at {end}"
         );
     }
+    assert_eq!(rt; played_text(alloc, EMPTY, &log)?.as_str(), STORED);
     Ok(())
 }
 
@@ -78,7 +82,7 @@ static BYTES: [u8; 4] = [0, 1, 2, 255];
 fn what_comes_after_a_closed_gate_is_not_looked_at(rt: HostRuntime) -> Result<(), Fail> {
     let alloc = rt.alloc();
     let log = waiting_log(alloc, &FRAMES)?;
-    for place in GATE + 1..log.len() {
+    for place in GATE + 1..END + 8 {
         for &byte in &BYTES {
             assert_eq!(rt;
                 changed_text(alloc, &log, place, byte)?.as_str(),
