@@ -1,4 +1,4 @@
-//! A thread that stores what came every so many milliseconds.
+//! A thread that stores what came once in each period.
 use crate::crews::{opened, opened_whole};
 use crate::found::{left, messages};
 use cq_endpoint::Endpoint;

@@ -79,7 +79,7 @@ fn images_at(rt: &HostRuntime, path: &str) -> Result<Contents, Fail> {
 enum Job {
     /// It appends its messages.
     Append(Member),
-    /// It saves the queue into the images of its folder, so many times.
+    /// It saves the queue into the images of its folder, this number of times.
     Save(u8),
 }
 
