@@ -257,6 +257,19 @@ impl Measured {
     }
 }
 
+/// Lets a thread for each endpoint store batches until the end. Returns what each did.
+fn work_all<R: Threads + Wait + Clock + AllocGlobal + Sync>(
+    rt: &R,
+    round: &Round,
+    endpoints: Vec<Endpoint>,
+) -> Result<Vec<Result<Done, BenchFault>>, AllocError> {
+    map_vec(
+        rt,
+        endpoints,
+        &|endpoint: Endpoint| -> Result<Done, BenchFault> { round.work(rt, endpoint) },
+    )
+}
+
 /// Lets threads store messages in a new queue, with its log at this path, for this time or until the queue is full. Adds what they did.
 fn add_round<R>(
     rt: &R,
@@ -278,11 +291,7 @@ where
         cycle: AtomicU64::new(0),
         end: start.checked_add(time).unwrap_or(start),
     };
-    let all = map_vec(
-        rt,
-        endpoints,
-        &|endpoint: Endpoint| -> Result<Done, BenchFault> { round.work(rt, endpoint) },
-    )?;
+    let all = work_all(rt, &round, endpoints)?;
     let spent = now(rt)?.duration_since(start);
     let after = match round.stored.into_kept() {
         Some(kept) => syncs(&kept),

@@ -1,5 +1,5 @@
 //! Queues in a folder of the system, which are saved while threads append.
-use crate::crews::{Answer, Member, append_all, crew};
+use crate::crews::{Answer, crew, work};
 use crate::found::{are_in_order, messages};
 use cq_commands::{InitSettings, init};
 use cq_files::{Retain, open_queue};
@@ -15,7 +15,7 @@ use std::fs::File;
 use std::rt::Files;
 use std::sync::Wait;
 use std::test::Fail;
-use std::thread::{Threads, map_vec};
+use std::thread::{Threads, scope, scope_env};
 use std::time::Duration;
 use std::{env, fs, process};
 
@@ -74,15 +74,6 @@ fn images_at(rt: &HostRuntime, path: &str) -> Result<Contents, Fail> {
     Ok(queue.contents)
 }
 
-/// What one thread does.
-#[derive(Drop)]
-enum Job {
-    /// It appends its messages.
-    Append(Member),
-    /// It saves the queue into the images of its folder, this number of times.
-    Save(u8),
-}
-
 /// Saves a queue into the images of the folder at this path, whose log has this name. Returns why not.
 fn save<R: Wait + AllocGlobal + Files<File = File> + Clone + Drop>(
     rt: &R,
@@ -95,50 +86,47 @@ fn save<R: Wait + AllocGlobal + Files<File = File> + Clone + Drop>(
     Ok(stored.checkpoint(rt, &mut folder, &mut place))
 }
 
-/// Does what one thread does. Returns whether all went well.
-fn is_done<R: Wait + AllocGlobal + Files<File = File> + Clone + Drop>(
+/// Saves a queue several times. Returns whether each save was made.
+fn are_saved<R: Wait + AllocGlobal + Files<File = File> + Clone + Drop>(
     rt: &R,
     stored: &StoredQueue<LogFile>,
     path: &str,
-    job: Job,
 ) -> bool {
-    match job {
-        Job::Append(member) => match append_all(rt, stored, member) {
-            Ok(answers) => answers.iter().all(|answer: &Answer| answer.is_ok()),
-            Err(_) => false,
-        },
-        Job::Save(times) => {
-            for _ in 0..times {
-                if !matches!(save(rt, stored, path, "queue.log"), Ok(Ok(()))) {
-                    return false;
-                }
-            }
-            true
+    for _ in 0..SAVES {
+        if !matches!(save(rt, stored, path, "queue.log"), Ok(Ok(()))) {
+            return false;
         }
     }
+    true
 }
 
-/// Lets threads append while another saves the queue. Returns whether all went well in each.
+/// Whether each message was stored.
+fn are_stored(answers: &[Vec<Answer>]) -> bool {
+    answers.iter().all(|each: &Vec<Answer>| each.iter().all(|answer: &Answer| answer.is_ok()))
+}
+
+/// Lets threads append while this one saves the queue. Returns whether all went well in each.
 fn all_done<R: Threads + Wait + AllocGlobal + Files<File = File> + Clone + Drop + Sync>(
     rt: &R,
     path: &str,
     live: Live<LogFile>,
-) -> Result<Vec<bool>, AllocError> {
+) -> Result<bool, AllocError> {
     let Live {
         kept,
         endpoint,
         turns: _,
     } = live;
     let stored = StoredQueue::new(kept);
-    let mut jobs = vec![in rt.alloc(); Job::Save(SAVES)]?;
-    for member in crew(rt.alloc(), endpoint, THREADS, EACH)? {
-        jobs.push(Job::Append(member))?;
-    }
-    map_vec(
-        rt,
-        jobs,
-        &|job: Job| -> bool { is_done(rt, &stored, path, job) },
-    )
+    let members = crew(rt.alloc(), endpoint, THREADS, EACH)?;
+    let held = &stored;
+    scope(scope_env(), rt, move |scope| -> Result<bool, AllocError> {
+        let appending = scope.spawn(move || -> Result<Vec<Vec<Answer>>, AllocError> {
+            work(rt, held, members)
+        })?;
+        let is_saved = are_saved(rt, held, path);
+        let answers = appending.join(rt)?;
+        Ok(is_saved && are_stored(answers.as_slice()))
+    })
 }
 
 /// Threads append while another makes checkpoints. Then the process ends without a close. The next opening finds each message once, in the
@@ -148,8 +136,7 @@ fn endpoints_go_on_while_a_queue_is_saved(rt: HostRuntime) -> Result<(), Fail> {
     let path = new_folder(&rt, "save")?;
     make(rt.alloc(), &mut folder_at(&rt, path.as_str())?)?;
     let live = opened(&rt, path.as_str())?;
-    let done = all_done(&rt, path.as_str(), live)?;
-    expect(done.iter().all(|is_done| *is_done), "all went well")?;
+    expect(all_done(&rt, path.as_str(), live)?, "all went well")?;
     let _live = opened(&rt, path.as_str())?;
     let found = images_at(&rt, path.as_str())?;
     expect(
