@@ -26,7 +26,7 @@ class Life:
     """
 
     def __init__(self, tried, name, seconds=10_000, length=DAY):
-        """Makes a folder in which no cycle has begun, and in which the clock comes to cycle 1 after so many seconds."""
+        """Makes a folder in which no cycle has begun, and in which the clock comes to cycle 1 after this many seconds."""
         self.tried, self.folder, self.length = tried, os.path.join(tried.room, name), length
         self.epoch = int((time.time() + seconds) * 1000) - length
         self.messages, self.floors, self.positions = [], {0}, {0}

@@ -102,7 +102,7 @@ def read(life, refusals, number, what):
 
 def check(life, refusals, number, what):
     printed, counts = answer_of(life, refusals, number, what, ["check"]), [life.count_of(0), life.count_of(1)]
-    wanted = [b"%d messages, %s" % pair for pair in zip(counts, (b"ended", b"open"))]
+    wanted = [b"%d messages, %s" % pair for pair in zip(counts, (b"ended", b"open"))] + [b"1 messages, not live"]
     if printed is not None and [line.split(b": ")[1] for line in printed.splitlines()] != wanted:
         life.fails(what, f"checked {printed!r}")
 

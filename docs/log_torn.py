@@ -14,7 +14,7 @@ from log_trace import TRACED, Trace, put_over
 # A folder is made anew after this many kills.
 KILLS_IN_FOLDER = 50
 
-# After each kill so many logs are tried: the last one in the folder itself, and the others in copies of it.
+# After each kill this number of logs is tried: the last one in the folder itself, and the others in copies of it.
 LOGS = 3
 
 # What may become of a write.
@@ -165,7 +165,7 @@ def is_one_more_torn(tried, life, number):
 
 
 def try_torn(tried, runs, is_one_enough=False):
-    """Kills so many times, or until something is wrong if that is enough."""
+    """Kills this many times, or until something is wrong if that is enough."""
     if not tried.has("strace", "torn"):
         return
     life, is_well = None, True

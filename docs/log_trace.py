@@ -94,7 +94,7 @@ class Trace:
                 self.calls.append(("sync",))
 
     def log_after(self, count, held):
-        """The log after so many calls, if the file held this at first, and how many lines were acknowledged by then."""
+        """The log after this many calls, if the file held this at first, and how many lines were acknowledged by then."""
         log, acks = Log(held), 0
         for call in self.calls[:count]:
             if call[0] == "put":

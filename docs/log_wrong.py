@@ -19,7 +19,7 @@ import time
 
 WRONG = ["early", "unsynced", "frames", "gates"]
 
-# So many kills have to be enough to find each.
+# This many kills have to be enough to find each.
 KILLS = 200
 
 SYNCS = r"""

@@ -24,7 +24,7 @@ impl<'a, R: Files<File = File>> SystemLock<'a, R> {
         }
     }
 
-    /// Locks the log together with others that look, if there is one, and lets it go. It needs no leave to write the log.
+    /// Locks the log together with others that look, if there is one, and lets it go. It need not be allowed to write the log.
     fn try_lock(&self) -> Result<(), OpenFault> {
         let path = self.path.as_str();
         match fs::symlink_metadata(self.rt, path) {

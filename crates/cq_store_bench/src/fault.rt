@@ -6,8 +6,8 @@ use std::alloc::{AllocError, AllocFailed};
 /// Why nothing was measured.
 #[derive(Debug, Drop, thiserror::Error)]
 pub enum BenchFault {
-    /// No log was made in the folder.
-    #[error("no log was made in the folder: is there such a folder, and may it be written?")]
+    /// No log was made in the folder, or not removed. A file of its name that was there before stays.
+    #[error("no log was made in the folder: is there such a folder, may it be written, and has it no file cq_store_bench.log yet?")]
     NoLog,
     /// No queue was opened.
     #[error("no queue was opened")]

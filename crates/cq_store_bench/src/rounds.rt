@@ -270,18 +270,18 @@ fn work_all<R: Threads + Wait + Clock + AllocGlobal + Sync>(
     )
 }
 
-/// Lets threads store messages in a new queue, with its log at this path, for this time or until the queue is full. Adds what they did.
+/// Lets threads store messages in a queue, for this time or until it is full. Adds what they did.
 fn add_round<R>(
     rt: &R,
     settings: &Settings,
-    path: &str,
+    queue: Opened<CountedLog>,
     time: Duration,
     measured: &mut Measured,
 ) -> Result<(), BenchFault>
 where
-    R: Threads + Wait + Clock + AllocGlobal + Files<File = File> + Sync,
+    R: Threads + Wait + Clock + AllocGlobal + Sync,
 {
-    let Opened { kept, endpoint } = opened(rt, path)?;
+    let Opened { kept, endpoint } = queue;
     let before = syncs(&kept);
     let endpoints = endpoints(rt.alloc(), endpoint, settings.threads)?;
     let start = now(rt)?;
@@ -317,7 +317,8 @@ where
         if left == Duration::ZERO {
             break;
         }
-        let done = add_round(rt, settings, path.as_str(), left, &mut measured);
+        let queue = opened(rt, path.as_str())?;
+        let done = add_round(rt, settings, queue, left, &mut measured);
         let removed = remove(rt, path.as_str());
         done?;
         removed?;

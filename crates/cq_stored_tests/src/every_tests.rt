@@ -109,7 +109,7 @@ fn what_came_is_stored_in_each_period(rt: HostRuntime) -> Result<(), Fail> {
 #[test]
 fn a_fault_ends_the_stores(rt: HostRuntime) -> Result<(), Fail> {
     let alloc = rt.alloc();
-    let Some(Opened { kept, mut endpoint }) = opened(alloc, 9)? else {
+    let Some(Opened { kept, mut endpoint }) = opened(alloc, 10)? else {
         return Err(Fail::new(format_args!("the queue was not opened")));
     };
     endpoint.append(0, b"m")?;

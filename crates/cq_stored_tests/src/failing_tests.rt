@@ -11,7 +11,7 @@ use std::test::Fail;
 use std::thread::Threads;
 
 /// The calls of the device in an opening.
-const OPENING: u64 = 8;
+const OPENING: u64 = 9;
 
 /// How many calls of the device a message costs at most: five in a turn that puts it, and one more in all if nothing came meanwhile.
 const MOST: u64 = 6;
