@@ -1,1 +1,2 @@
 pub mod FailingFile
+pub mod MemoryFile
