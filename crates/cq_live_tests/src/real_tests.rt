@@ -7,7 +7,7 @@ use crate::watched_place::WatchedPlace;
 use cq_fixtures::{DAY, contents_text, expect, expect_text};
 use cq_kept::KeptQueue;
 use cq_live::{Closed, Live, LiveFault, NotClosed, SystemPlace, checkpoint, close, open};
-use cq_log_file::LogFile;
+use cq_log_file::{LogFile, Survives};
 use cq_real_folder::RealFolder;
 use std::alloc::Global;
 use std::test::Fail;
@@ -253,5 +253,64 @@ fn a_live_queue_is_checkpointed(rt: HostRuntime) -> Result<(), Fail> {
     expect_opened(&rt, path.as_str(), "1 turns: 0 a, 1 b")?;
     expect_text(images_at(&rt, path.as_str())?, "0[a;b;c;] at [0]")?;
     fs::remove_dir_all(&rt, path.as_str())?;
+    Ok(())
+}
+
+/// What a log is to survive, the first byte of the log, and what the next opening says and saves. A frame that waits is read where
+/// the log has counts.
+static CHOICES: [(Survives, u8, &str, &str); 3] = [
+    (Survives::Power, 1, "1 turns: 0 a, 1 b", "0[a;b;] at [0]"),
+    (
+        Survives::PowerBytewise,
+        2,
+        "2 turns: 0 a, 1 b",
+        "0[a;b;c;] at [0]",
+    ),
+    (
+        Survives::Process,
+        2,
+        "2 turns: 0 a, 1 b",
+        "0[a;b;c;] at [0]",
+    ),
+];
+
+/// A queue is live with a log that is to survive this, and ends without a close.
+fn crash_with(rt: &HostRuntime, path: &str, survives: Survives) -> Result<(), Fail> {
+    let alloc = rt.alloc();
+    let mut folder = folder_at(rt, path)?;
+    let mut place = SystemPlace::new(rt, log_path(alloc, path)?).surviving(survives);
+    match open(alloc, &mut folder, &mut place, 0) {
+        Ok(live) => {
+            let mut live = live;
+            put_two(alloc, &mut live)
+        }
+        Err(_) => Err(Fail::new(format_args!("not opened"))),
+    }
+}
+
+/// Chooses what the log of a folder survives, and opens it after a crash.
+fn expect_choice(
+    rt: &HostRuntime,
+    path: &str,
+    choice: &(Survives, u8, &str, &str),
+) -> Result<(), Fail> {
+    let &(survives, first, said, images) = choice;
+    make_with_a(rt, path)?;
+    crash_with(rt, path, survives)?;
+    expect(
+        log_at(rt, path)?.first() == Some(&first),
+        "the kind of the log",
+    )?;
+    expect_opened(rt, path, said)?;
+    expect_text(images_at(rt, path)?, images)
+}
+
+#[test]
+fn each_choice_keeps_what_was_stored(rt: HostRuntime) -> Result<(), Fail> {
+    for choice in &CHOICES {
+        let path = new_folder(&rt, "choice")?;
+        expect_choice(&rt, path.as_str(), choice)?;
+        fs::remove_dir_all(&rt, path.as_str())?;
+    }
     Ok(())
 }
