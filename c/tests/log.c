@@ -2,7 +2,7 @@
 #include "check.h"
 #include <stdlib.h>
 
-static char disk[1 << 16];
+static char disk[1 << 18];
 static size_t disk_length;
 static int syncs;
 
@@ -24,18 +24,17 @@ static bool make(const linnetshelf_call *call, const char *room) {
     }
 }
 
-/* Makes the calls that are left, and returns how many they were. */
+/* Makes the calls that are left, and returns how many of them were syncs. */
 static int make_all(linnetshelf_handle *keeper) {
-    static char room[8192];
+    static char room[1 << 17];
     linnetshelf_call call;
-    int count = 0;
+    int before = syncs;
     while ((call = linnetshelf_log_call(keeper, room, sizeof room)).status == STATUS(DONE)) {
         CHECK(linnetshelf_log_done(keeper, make(&call, room)) == STATUS(DONE));
-        count++;
     }
     CHECK(call.status == STATUS(NO_CALL) && call.length == 0);
     CHECK(linnetshelf_log_done(keeper, true) == STATUS(NO_CALL));
-    return count;
+    return syncs - before;
 }
 
 /* What is saved of a queue in which one cycle has begun, without a message. */
@@ -59,25 +58,25 @@ static void keep_three(void) {
 
     linnetshelf_call call = linnetshelf_log_call(&keeper, room, sizeof room);
     CHECK(call.status == STATUS(DONE) && call.kind == LINNETSHELF_LOG_SYNC && call.length == 0);
-    CHECK(make_all(&keeper) > 4 && syncs >= 4);
+    CHECK(make_all(&keeper) == 5); /* two of the opening, and the empty log, its head and the gate of that */
     CHECK(linnetshelf_stored(&keeper).index == FIRST);
 
     CHECK(linnetshelf_append(&queue, 5 * DAY, "one", 3).index == FIRST);
     CHECK(linnetshelf_append(&queue, 5 * DAY, "two", 3).index == FIRST + 1);
     CHECK(linnetshelf_turn(&keeper) == STATUS(DONE));
-    CHECK(make_all(&keeper) == 2);
+    CHECK(make_all(&keeper) == 1);
     CHECK(linnetshelf_stored(&keeper).index == FIRST); /* the frame waits */
 
     CHECK(linnetshelf_append(&queue, 5 * DAY, "three", 5).index == FIRST + 2);
     CHECK(linnetshelf_take(&queue, "reader", 6, room, sizeof room).index == FIRST);
     CHECK(linnetshelf_turn(&keeper) == STATUS(DONE));
     CHECK(linnetshelf_stored(&keeper).index == FIRST); /* its calls are left */
-    CHECK(make_all(&keeper) == 3);
+    CHECK(make_all(&keeper) == 1);
     CHECK(linnetshelf_stored(&keeper).index == FIRST + 2);
 
     CHECK(linnetshelf_settle(&keeper) == STATUS(DONE));
     CHECK(linnetshelf_stored(&keeper).index == FIRST + 2);
-    CHECK(make_all(&keeper) == 2);
+    CHECK(make_all(&keeper) == 1);
     CHECK(linnetshelf_stored(&keeper).index == FIRST + 3);
     CHECK(linnetshelf_settle(&keeper) == STATUS(DONE) && make_all(&keeper) == 0);
     CHECK(linnetshelf_turn(&keeper) == STATUS(DONE) && make_all(&keeper) == 0);
