@@ -44,15 +44,17 @@ typedef struct {
 
 struct journal {
     int folder, log;
-    linnetshelf_handle keeper; /* of the thread alone */
+    linnetshelf_handle keeper; /* made, used and destroyed by the thread alone */
     bytes room;
     pthread_t thread;
     pthread_mutex_t lock;
     pthread_cond_t wake, stored_more;
     uint64_t stored;
     int waiting;
-    bool is_closing, has_ended;
+    bool has_begun, is_closing, has_ended;
     int fault, error; /* what the thread ended with, and errno of it */
+    uint64_t moment;
+    linnetshelf_handle endpoint; /* the first one, for the caller */
 };
 
 static int fail(int error) {
@@ -636,10 +638,9 @@ static void rest(journal *of) {
         pthread_cond_timedwait(&of->wake, &of->lock, &until);
 }
 
-static void *run(void *at) {
-    journal *of = at;
+/* Makes turns until the journal is closed and all is stored, or until one fails. The lock is held. */
+static void make_turns(journal *of) {
     bool is_idle = false, is_last = false;
-    pthread_mutex_lock(&of->lock);
     while (!of->fault && !(is_last && is_idle)) {
         is_last = of->is_closing;
         pthread_mutex_unlock(&of->lock);
@@ -655,6 +656,46 @@ static void *run(void *at) {
         if (is_idle && !fault)
             rest(of);
     }
+}
+
+/* Folds the log that is there, opens the queue with its keeper, and makes the first calls of the new log. */
+static int begin(journal *of) {
+    linnetshelf_handle saved = {0};
+    int result = lock_file(of->folder, LOCK_EX) ? -1 : fold(of, of->moment, &saved);
+    if (result)
+        return result;
+    uint32_t status = linnetshelf_keep(&saved, &of->endpoint, &of->keeper);
+    linnetshelf_destroy(saved);
+    if (status != LINNETSHELF_DONE)
+        return (int)status;
+    size_t count;
+    result = make_calls(of, &count);
+    if (result) {
+        int error = errno;
+        linnetshelf_destroy(of->keeper);
+        linnetshelf_destroy(of->endpoint);
+        errno = error;
+        return result;
+    }
+    of->stored = linnetshelf_stored(&of->keeper).index;
+    /* From here on the lock of the log keeps others out. */
+    lock_file(of->folder, LOCK_UN);
+    return 0;
+}
+
+/* A keeper stays in one thread, so this one makes it, and destroys it. The endpoint goes to the caller. */
+static void *run(void *at) {
+    journal *of = at;
+    int fault = begin(of), error = errno;
+    pthread_mutex_lock(&of->lock);
+    of->fault = fault;
+    of->error = error;
+    of->has_begun = true;
+    pthread_cond_broadcast(&of->stored_more);
+    if (!fault) {
+        make_turns(of);
+        linnetshelf_destroy(of->keeper);
+    }
     of->has_ended = true;
     pthread_cond_broadcast(&of->stored_more);
     pthread_mutex_unlock(&of->lock);
@@ -663,40 +704,29 @@ static void *run(void *at) {
 
 /* The calls. */
 
-/* Opens the queue with its keeper, makes the first calls of the log, and starts the thread. */
-static int begin(journal *of, linnetshelf_handle *saved, linnetshelf_handle *endpoint) {
-    uint32_t status = linnetshelf_keep(saved, endpoint, &of->keeper);
-    linnetshelf_destroy(*saved);
-    if (status != LINNETSHELF_DONE)
-        return (int)status;
-    size_t count;
-    int result = make_calls(of, &count);
-    if (!result) {
-        of->stored = linnetshelf_stored(&of->keeper).index;
-        pthread_mutex_init(&of->lock, NULL);
-        pthread_cond_init(&of->wake, NULL);
-        pthread_cond_init(&of->stored_more, NULL);
-        int error = pthread_create(&of->thread, NULL, run, of);
-        if (!error)
-            return 0;
-        result = fail(error);
-    }
-    int error = errno;
-    linnetshelf_destroy(of->keeper);
-    linnetshelf_destroy(*endpoint);
+/* Waits for the end of the thread, and frees the journal. Returns what the thread ended with. */
+static int end(journal *of) {
+    pthread_join(of->thread, NULL);
+    int result = of->fault, error = of->error;
+    pthread_cond_destroy(&of->stored_more);
+    pthread_cond_destroy(&of->wake);
+    pthread_mutex_destroy(&of->lock);
+    if (of->log >= 0)
+        close(of->log);
+    close(of->folder);
+    free(of->room.at);
+    free(of);
     errno = error;
     return result;
 }
 
-static void end(journal *of) {
-    int error = errno;
-    if (of->log >= 0)
-        close(of->log);
-    if (of->folder >= 0)
-        close(of->folder);
-    free(of->room.at);
-    free(of);
-    errno = error;
+/* Starts the thread of a journal. */
+static int start(journal *of) {
+    pthread_mutex_init(&of->lock, NULL);
+    pthread_cond_init(&of->wake, NULL);
+    pthread_cond_init(&of->stored_more, NULL);
+    int error = pthread_create(&of->thread, NULL, run, of);
+    return error ? fail(error) : 0;
 }
 
 int journal_open(const char *folder, uint64_t moment, journal **out, linnetshelf_handle *endpoint) {
@@ -704,17 +734,23 @@ int journal_open(const char *folder, uint64_t moment, journal **out, linnetshelf
     if (!made)
         return -1;
     made->log = -1;
+    made->moment = moment;
     made->folder = open(folder, O_RDONLY | O_DIRECTORY | O_CLOEXEC);
-    linnetshelf_handle saved = {0};
-    int result = made->folder < 0 || lock_file(made->folder, LOCK_EX) ? -1 : fold(made, moment, &saved);
-    if (!result)
-        result = begin(made, &saved, endpoint);
-    if (result) {
-        end(made);
-        return result;
+    if (made->folder < 0 || start(made)) {
+        int error = errno;
+        if (made->folder >= 0)
+            close(made->folder);
+        free(made);
+        return fail(error);
     }
-    /* From here on the lock of the log keeps others out. */
-    lock_file(made->folder, LOCK_UN);
+    pthread_mutex_lock(&made->lock);
+    while (!made->has_begun)
+        pthread_cond_wait(&made->stored_more, &made->lock);
+    bool is_open = !made->fault;
+    pthread_mutex_unlock(&made->lock);
+    if (!is_open)
+        return end(made);
+    *endpoint = made->endpoint;
     *out = made;
     return 0;
 }
@@ -746,14 +782,5 @@ int journal_close(journal *open) {
     open->is_closing = true;
     pthread_cond_signal(&open->wake);
     pthread_mutex_unlock(&open->lock);
-    pthread_join(open->thread, NULL);
-    int result = open->fault, error = open->error;
-    linnetshelf_destroy(open->keeper);
-    pthread_cond_destroy(&open->stored_more);
-    pthread_cond_destroy(&open->wake);
-    pthread_mutex_destroy(&open->lock);
-    end(open);
-    if (result < 0)
-        errno = error;
-    return result;
+    return end(open);
 }

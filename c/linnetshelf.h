@@ -33,8 +33,8 @@
  *
  * THREADS. What a handle holds is in one call at a time. Two calls at once on one handle are an error that is not detected. For
  * another thread, split off an endpoint of its own, or a writer, a reader or a taker. A handle goes to another thread by what
- * orders memory: the start or the end of a thread, a lock, or an atomic store and load. Make no call from a signal handler, nor
- * in a child after fork().
+ * orders memory: the start or the end of a thread, a lock, or an atomic store and load. A keeper stays in the thread that made it,
+ * and is destroyed there: that it may go to another is not proved. Make no call from a signal handler, nor in a child after fork().
  *
  * BYTES. `bytes`, `names` and `name` point to bytes to read, and a pointer `room` to a buffer of yours to write. The length in
  * bytes is the next argument. The library keeps none of these addresses. They are never NULL, even if the length is 0, and
@@ -177,13 +177,9 @@ enum { LINNETSHELF_FORWARDS = 0, LINNETSHELF_BACKWARDS = 1 };
 /* What happens where a new queue of a shelf would be one more than may live. */
 enum { LINNETSHELF_REFUSE = 0, LINNETSHELF_DROP_OLDEST = 1 };
 
-/* Which call of a log the caller is to make of the log's file. */
-enum {
-    LINNETSHELF_LOG_WRITE = 0, /* write bytes at an offset */
-    LINNETSHELF_LOG_CUT = 1, /* cut the file to a length */
-    LINNETSHELF_LOG_SYNC = 2, /* bring the bytes of the file to the disk */
-    LINNETSHELF_LOG_SYNC_FOLDER = 3 /* bring the names in the folder of the file to the disk */
-};
+/* Which call of a log the caller is to make of the log's file: write bytes at an offset, cut the file to a length, bring its bytes to
+ * the disk, or bring the names in its folder there. */
+enum { LINNETSHELF_LOG_WRITE = 0, LINNETSHELF_LOG_CUT = 1, LINNETSHELF_LOG_SYNC = 2, LINNETSHELF_LOG_SYNC_FOLDER = 3 };
 
 /* What the library holds for the caller. */
 typedef struct {

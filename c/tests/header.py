@@ -73,7 +73,7 @@ def limits_in_source():
 def calls_in_header():
     """The calls of a log, each as a name and a number, as in the header."""
     header = (TOP / "c/linnetshelf.h").read_text()
-    (calls,) = re.findall(r"to make of the log's file\. \*/\nenum \{\n(.*?)\};", header, re.S)
+    (calls,) = re.findall(r"the names in its folder there\. \*/\nenum \{ (.*?) \};", header)
     return [(name, int(number)) for name, number in re.findall(r"LINNETSHELF_LOG_(\w+) = (\d+)", calls)]
 
 
