@@ -25,16 +25,16 @@
  * ANSWERS. The words in capitals below are statuses, without the LINNETSHELF_ in front. Each call that returns a status can
  * return DONE. Each call on a handle, other than as `out`, can also return WRONG_KIND. linnetshelf_destroy returns nothing.
  *
- * HANDLES. A handle is the address of an endpoint, or of what was saved of a queue. For a shelf it is that of a writer, a reader
- * or a taker. The library writes it through the argument `out`, which points to a handle that is zero or was destroyed. It does
+ * HANDLES. A handle is the address of an endpoint, of a keeper, or of what was saved of a queue. For a shelf it is that of a
+ * writer, a reader or a taker. The library writes it through the argument `out`, which points to a handle that is zero or was destroyed. It does
  * not look at what was there. A call on a handle that holds something else returns WRONG_KIND and does nothing. Copies of a
  * handle are the same endpoint: after linnetshelf_destroy none of them may be used. A zero handle holds nothing, and no call
  * takes one except as `out`.
  *
  * THREADS. What a handle holds is in one call at a time. Two calls at once on one handle are an error that is not detected. For
  * another thread, split off an endpoint of its own, or a writer, a reader or a taker. A handle goes to another thread by what
- * orders memory: the start or the end of a thread, a lock, or an atomic store and load. Make no call from a signal handler, nor
- * in a child after fork().
+ * orders memory: the start or the end of a thread, a lock, or an atomic store and load. A keeper stays in the thread that made it,
+ * and is destroyed there: that it may go to another is not proved. Make no call from a signal handler, nor in a child after fork().
  *
  * BYTES. `bytes`, `names` and `name` point to bytes to read, and a pointer `room` to a buffer of yours to write. The length in
  * bytes is the next argument. The library keeps none of these addresses. They are never NULL, even if the length is 0, and
@@ -70,6 +70,23 @@
  * - A new endpoint of linnetshelf_split has seen the end at which the queue was created or opened. What its parent appended,
  *   read or learned by linnetshelf_meet does not count for it.
  *
+ * LOGS. A queue can be kept in a log, so that what was appended survives a crash. linnetshelf_keep opens a queue with a keeper. The
+ * keeper makes no input or output: it lists the calls that the log needs, and the caller makes them of a file of its own, in their
+ * order, each once:
+ *
+ *     linnetshelf_turn(&keeper);
+ *     linnetshelf_call call;
+ *     while ((call = linnetshelf_log_call(&keeper, room, sizeof room)).status == LINNETSHELF_DONE)
+ *         linnetshelf_log_done(&keeper, make(file, &call, room));
+ *
+ * - The file is new, without bytes, and nobody else writes to it. A write puts all of its bytes, or it failed.
+ * - A call that a signal interrupted may be made again. A sync that failed may not: a second one may succeed although bytes were lost.
+ * - A turn is one frame of the log. It is stored with the next turn, or with linnetshelf_settle, once their calls were made. A crash
+ *   leaves all that is stored, with the last turn or without it, and no turn in part.
+ * - After a crash linnetshelf_play plays the log on what was saved, from which the log went on. Save what that gives elsewhere before
+ *   the old log is given up, and begin a new log. c/journal.c does all of this with the folder of a queue.
+ * - A log is written by one process at a time: lock its file.
+ *
  * SHELVES. A shelf is a row of queues of the same settings, numbered from 0. A queue that has no place for a message is closed,
  * and the next one begins. Readers and takers go on from a closed queue to the next. Messages are in the order of their queues,
  * and in each queue in that of their indices. linnetshelf_shelf_create hands out the first writer of a shelf. All others come
@@ -90,6 +107,7 @@
 #ifndef LINNETSHELF_H
 #define LINNETSHELF_H
 
+#include <stdbool.h>
 #include <stddef.h>
 #include <stdint.h>
 
@@ -139,6 +157,15 @@ typedef enum {
     LINNETSHELF_FULL = 37, /* as many queues of the shelf live as may, and the oldest is still used */
     LINNETSHELF_MISSED = 38, /* queues of the shelf were dropped before they were read; the answer has how many */
     LINNETSHELF_BAD_SHELF = 39, /* a shelf has at least two queues */
+    LINNETSHELF_NO_CALL = 40, /* no call of the log is left */
+    LINNETSHELF_LOG_STOPPED = 41, /* a call of the log failed, or memory for one was refused: open the log again, and play what is stored */
+    LINNETSHELF_LONG_FRAME = 42, /* too much came for one frame of the log: save the queue, and begin a new log */
+    LINNETSHELF_LOG_FULL = 43, /* the log is full: save the queue, and begin a new log */
+    LINNETSHELF_LONG_HEAD = 44, /* the settings are too long for a log */
+    LINNETSHELF_BAD_HEAD = 45, /* the first frame of the log is not one with which a log begins */
+    LINNETSHELF_OTHER_LOG = 46, /* the log goes on from something else than what is saved */
+    LINNETSHELF_BAD_TURN = 47, /* a frame of the log is at fault, or cannot be played; the answer has its number */
+    LINNETSHELF_BAD_GAIN = 48, /* no queue of these settings holds what the log gives */
 } linnetshelf_status;
 
 /* How long a cycle is. */
@@ -149,6 +176,10 @@ enum { LINNETSHELF_FORWARDS = 0, LINNETSHELF_BACKWARDS = 1 };
 
 /* What happens where a new queue of a shelf would be one more than may live. */
 enum { LINNETSHELF_REFUSE = 0, LINNETSHELF_DROP_OLDEST = 1 };
+
+/* Which call of a log the caller is to make of the log's file: write bytes at an offset, cut the file to a length, bring its bytes to
+ * the disk, or bring the names in its folder there. */
+enum { LINNETSHELF_LOG_WRITE = 0, LINNETSHELF_LOG_CUT = 1, LINNETSHELF_LOG_SYNC = 2, LINNETSHELF_LOG_SYNC_FOLDER = 3 };
 
 /* What the library holds for the caller. */
 typedef struct {
@@ -187,6 +218,14 @@ typedef struct {
     uint32_t length; /* in bytes; at NO_ROOM the length that the buffer has to have */
     uint32_t status; /* a linnetshelf_status */
 } linnetshelf_shelf_answer;
+
+/* A call of a log. Fields that it does not report are 0. */
+typedef struct {
+    uint64_t place;  /* the offset of a write in bytes, or the length in bytes to which the file is cut */
+    uint64_t length; /* how many bytes are written; at NO_ROOM the length that the buffer has to have */
+    uint32_t kind;   /* which call: LINNETSHELF_LOG_WRITE, _CUT, _SYNC or _SYNC_FOLDER */
+    uint32_t status; /* a linnetshelf_status */
+} linnetshelf_call;
 
 /* Queues and endpoints. */
 
@@ -338,6 +377,42 @@ uint32_t linnetshelf_saved_set_floor(linnetshelf_handle *saved, uint32_t floor);
  * is a cycle that these settings cannot have; a position is above the end; the floor is above the last cycle. OUT_OF_MEMORY. */
 uint32_t linnetshelf_open(linnetshelf_handle *saved, linnetshelf_handle *out);
 
+/* Logs (see above). */
+
+/* Plays the bytes of a log on what is saved, from which the log goes on, and returns how many turns were played, as `index`. A log
+ * without a frame has none: its making was cut short. What comes after its last whole frame is not looked at. It takes memory for a
+ * copy of what is saved. Nothing changed if it is refused.
+ * BAD_CONTENTS (what is saved cannot be opened), BAD_HEAD, OTHER_LOG, BAD_TURN (`index` is the number of the frame), BAD_GAIN,
+ * OUT_OF_MEMORY. */
+linnetshelf_answer linnetshelf_play(linnetshelf_handle *saved, const void *bytes, size_t length);
+
+/* Makes a queue of what is saved, as linnetshelf_open does, and hands out its first endpoint and a keeper of the queue. The first
+ * calls of a new log are left to make, which goes on from what is saved. What is saved stays as it is. `endpoint` and `keeper` are
+ * written as `out` is elsewhere, and are two handles.
+ * BAD_CONTENTS (as of linnetshelf_open), LONG_HEAD, OUT_OF_MEMORY. */
+uint32_t linnetshelf_keep(linnetshelf_handle *saved, linnetshelf_handle *endpoint, linnetshelf_handle *keeper);
+
+/* Puts what came to the queue since the last turn into the log, as one frame. What the turn before put there is then stored. If nothing
+ * came, all that was put is. The calls for it are left to make.
+ * OUT_OF_MEMORY (a later turn keeps it all), LONG_FRAME and LOG_FULL (no later turn keeps it), LOG_STOPPED. */
+uint32_t linnetshelf_turn(linnetshelf_handle *keeper);
+
+/* Brings all that turns put into the log to be stored. The calls for it are left to make. LOG_STOPPED. */
+uint32_t linnetshelf_settle(linnetshelf_handle *keeper);
+
+/* Returns the oldest call of the log that is left, and copies the bytes of a write to the buffer `room`. The caller makes the call of
+ * its file, and then calls linnetshelf_log_done. Until then the same call is returned.
+ * NO_CALL (each was made), NO_ROOM (the bytes need `length`, and nothing is copied), LOG_STOPPED (a call failed before). */
+linnetshelf_call linnetshelf_log_call(linnetshelf_handle *keeper, void *room, size_t size);
+
+/* Notes how the oldest call went that was left: true if it is done, and false if it failed. After one that failed the log has stopped
+ * for good. NO_CALL, LOG_STOPPED (a call failed before): nothing changed. */
+uint32_t linnetshelf_log_done(linnetshelf_handle *keeper, bool is_done);
+
+/* Returns the end below which all messages are stored, as `index`: those with a lower index survive a crash. It is known when no call
+ * is left. While some are left it is the end that was known before. */
+linnetshelf_answer linnetshelf_stored(linnetshelf_handle *keeper);
+
 /* Shelves. */
 
 /* Makes a shelf whose first queue begins with the cycle of `moment`, and hands out its first writer. `names` is a text as for
@@ -443,7 +518,7 @@ linnetshelf_answer linnetshelf_shelf_living(linnetshelf_handle *writer);
 size_t linnetshelf_text(uint32_t status, char *room, size_t size);
 
 /* Returns the size in bytes of a struct, for a caller that declares it itself: of a handle (0), of settings (1), of an answer
- * (2), of an answer of a shelf (3), of the settings of a shelf (4). For other numbers it is 0. */
+ * (2), of an answer of a shelf (3), of the settings of a shelf (4), of a call of a log (5). For other numbers it is 0. */
 size_t linnetshelf_size(uint32_t which);
 
 #ifdef __cplusplus

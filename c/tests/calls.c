@@ -577,7 +577,7 @@ static void images_are_tested(void) {
 
 static void statuses_have_texts(void) {
     char room[128], other[128];
-    for (uint32_t status = 0; status <= STATUS(BAD_SHELF); status++) {
+    for (uint32_t status = 0; status <= STATUS(BAD_GAIN); status++) {
         size_t length = linnetshelf_text(status, room, sizeof room);
         CHECK(length > 0 && length < sizeof room && strlen(room) == length);
         for (uint32_t before = 0; before < status; before++) {
@@ -585,7 +585,7 @@ static void statuses_have_texts(void) {
             CHECK(strcmp(room, other) != 0);
         }
     }
-    CHECK(linnetshelf_text(STATUS(BAD_SHELF) + 1, room, sizeof room) == strlen("no status has this number"));
+    CHECK(linnetshelf_text(STATUS(BAD_GAIN) + 1, room, sizeof room) == strlen("no status has this number"));
     room[0] = '!';
     CHECK(linnetshelf_text(STATUS(DONE), room, linnetshelf_text(STATUS(DONE), other, sizeof other)) > 0 && room[0] == '!');
 }

@@ -1,5 +1,5 @@
 """The header against the library: each status has its name, its number, a comment and a text; each roll has its number, and so
-has what happens at the limit of a shelf."""
+have what happens at the limit of a shelf, and the calls of a log."""
 import ctypes
 import re
 from pathlib import Path
@@ -70,12 +70,27 @@ def limits_in_source():
     return [(snake(name), int(number)) for number, name in re.findall(r"(\d+) => Some\(AtLimit::(\w+)\)", source)]
 
 
+def calls_in_header():
+    """The calls of a log, each as a name and a number, as in the header."""
+    header = (TOP / "c/linnetshelf.h").read_text()
+    (calls,) = re.findall(r"the names in its folder there\. \*/\nenum \{ (.*?) \};", header)
+    return [(name, int(number)) for name, number in re.findall(r"LINNETSHELF_LOG_(\w+) = (\d+)", calls)]
+
+
+def calls_in_source():
+    """The same, as in the library's source. It has numbers for calls that are never left, after those of the header."""
+    source = (TOP / "crates/linnetshelf/src/log_calls.rt").read_text()
+    found = re.findall(r"Call::(\w+)(?:\(\w+\))? => \((\d+), ", source)
+    return [(snake(name), int(number)) for name, number in found]
+
+
 def main():
     source = in_source()
     assert in_header() == [(name, number) for number, (name, _) in enumerate(source)]
     assert in_library() == [text for _, text in source]
     assert rolls_in_header() == [(name, number) for number, name in enumerate(rolls_in_source())]
     assert limits_in_header() == limits_in_source()
+    assert calls_in_header() == calls_in_source()[:4]
 
 
 main()

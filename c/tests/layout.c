@@ -56,10 +56,10 @@ static void shelves_have_the_layout(void) {
 int main(void) {
     static const size_t wanted[] = {
         sizeof(linnetshelf_handle), sizeof(linnetshelf_settings), sizeof(linnetshelf_answer),
-        sizeof(linnetshelf_shelf_answer), sizeof(linnetshelf_shelf_settings)};
-    for (uint32_t k = 0; k < 5; k++)
+        sizeof(linnetshelf_shelf_answer), sizeof(linnetshelf_shelf_settings), sizeof(linnetshelf_call)};
+    for (uint32_t k = 0; k < 6; k++)
         CHECK(linnetshelf_size(k) == wanted[k]);
-    CHECK(linnetshelf_size(5) == 0);
+    CHECK(linnetshelf_size(6) == 0);
 
     linnetshelf_settings settings = {.epoch = 2 * DAY, .cells = 64, .index_count = 8, .index_spacing = 1, .cycles = 3,
                                      .roll = LINNETSHELF_DAILY};

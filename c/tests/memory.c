@@ -1,4 +1,4 @@
-/* Nothing is left of a queue or a shelf once its last endpoint is ended. Each allocation that is refused in turn is reported,
+/* Nothing is left of a queue, a shelf or a log once its last endpoint is ended. Each allocation that is refused in turn is reported,
  * and leaves nothing allocated. malloc, realloc and free are counted here: link with --wrap for each. */
 #include "check.h"
 #include <stdlib.h>
@@ -122,8 +122,68 @@ static void refuse_each(int (*use)(void)) {
     CHECK(!"it allocates more than a thousand times");
 }
 
+/* A log in memory. */
+static char log_bytes[65536];
+static size_t log_length;
+
+/* Makes the calls of a log that are left. */
+static void make_calls(linnetshelf_handle *keeper) {
+    static char room[8192];
+    linnetshelf_call call;
+    while ((call = linnetshelf_log_call(keeper, room, sizeof room)).status == STATUS(DONE)) {
+        if (call.kind == LINNETSHELF_LOG_WRITE) {
+            CHECK(call.place <= log_length && call.place + call.length <= sizeof log_bytes);
+            memcpy(log_bytes + call.place, room, call.length);
+            if (call.place + call.length > log_length)
+                log_length = call.place + call.length;
+        }
+        CHECK(linnetshelf_log_done(keeper, true) == STATUS(DONE));
+    }
+    CHECK(call.status == STATUS(NO_CALL));
+}
+
+/* Puts a message into the log of a queue. Returns whether it is stored. */
+static int keep_message(linnetshelf_handle *queue, linnetshelf_handle *keeper) {
+    make_calls(keeper);
+    uint64_t index = linnetshelf_append(queue, 0, "hello", 5).index;
+    uint32_t turned = linnetshelf_turn(keeper);
+    if (turned == STATUS(OUT_OF_MEMORY))
+        turned = linnetshelf_turn(keeper); /* it is kept at the second try */
+    CHECK(turned == STATUS(DONE) || turned == STATUS(LOG_STOPPED));
+    make_calls(keeper);
+    uint32_t settled = linnetshelf_settle(keeper);
+    CHECK(settled == STATUS(DONE) || settled == STATUS(LOG_STOPPED));
+    make_calls(keeper);
+    CHECK((settled == STATUS(DONE)) == (linnetshelf_stored(keeper).index > index));
+    return settled == STATUS(DONE);
+}
+
+/* Keeps a queue in a log, and plays that on what was saved. */
+static int use_log(void) {
+    linnetshelf_handle saved = {0}, queue = {0}, keeper = {0};
+    int is_done = 0;
+    log_length = 0;
+    if (linnetshelf_create(&SMALL, "reader", 6, 0, &saved) != STATUS(DONE))
+        return 0;
+    uint32_t stopped = linnetshelf_stop(&saved);
+    if (stopped == STATUS(OUT_OF_MEMORY))
+        stopped = linnetshelf_stop(&saved);
+    CHECK(stopped == STATUS(DONE));
+    if (linnetshelf_keep(&saved, &queue, &keeper) == STATUS(DONE)) {
+        is_done = keep_message(&queue, &keeper);
+        linnetshelf_destroy(keeper);
+        linnetshelf_destroy(queue);
+        linnetshelf_answer played = linnetshelf_play(&saved, log_bytes, log_length);
+        CHECK(played.status == STATUS(DONE) || played.status == STATUS(OUT_OF_MEMORY));
+        is_done = is_done && played.status == STATUS(DONE) && played.index == 1;
+    }
+    linnetshelf_destroy(saved);
+    return is_done;
+}
+
 int main(void) {
     refuse_each(use_queue);
     refuse_each(use_shelf);
+    refuse_each(use_log);
     return failures != 0;
 }

@@ -47,6 +47,15 @@ class Status(enum.IntEnum):
     FULL = 37
     MISSED = 38
     BAD_SHELF = 39
+    NO_CALL = 40
+    LOG_STOPPED = 41
+    LONG_FRAME = 42
+    LOG_FULL = 43
+    LONG_HEAD = 44
+    BAD_HEAD = 45
+    OTHER_LOG = 46
+    BAD_TURN = 47
+    BAD_GAIN = 48
 
 
 class LinnetshelfError(Exception):

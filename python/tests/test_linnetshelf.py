@@ -62,7 +62,9 @@ class Header(unittest.TestCase):
 
     def test_calls(self):
         declared = dict(re.findall(r"^\w[\w ]* \*?linnetshelf_(\w+)\(([^)]*)\);", self.header, re.M))
-        self.assertEqual({name for name in declared if not name.startswith("shelf_")}, set(_library.CALLS))
+        # The package has no shelves and no logs.
+        of_logs = {"play", "keep", "turn", "settle", "log_call", "log_done", "stored"}
+        self.assertEqual({name for name in declared if not name.startswith("shelf_")} - of_logs, set(_library.CALLS))
         for name, (_, *arguments) in _library.CALLS.items():
             self.assertEqual(len(arguments), len(declared[name].split(",")), name)
 

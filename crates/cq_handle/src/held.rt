@@ -1,4 +1,5 @@
 use cq_endpoint::Endpoint;
+use cq_kept_calls::CallKeeper;
 use cq_saved::Saved;
 use cq_shelf::{ShelfReader, ShelfTaker, ShelfWriter};
 use cq_shown::Stopped;
@@ -12,6 +13,8 @@ pub enum Held {
     Stopped(Stopped),
     /// A queue as plain data.
     Saved(Saved),
+    /// A keeper of a queue.
+    Keeper(CallKeeper),
     /// A writer, a reader or a taker of a shelf.
     Shelf(ShelfUser),
 }

@@ -1,4 +1,4 @@
-//! The handle by which C and other languages hold an endpoint, a stopped queue, a saved one, or a writer, a reader
+//! The handle by which C and other languages hold an endpoint, a keeper, a stopped queue, a saved one, or a writer, a reader
 //! or a taker of a shelf. It is an address, and its type owns what lives there.
 //!
 //! | item | what it is for |

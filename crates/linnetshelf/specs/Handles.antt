@@ -5,6 +5,7 @@ use Rattle.cq_handle.specs.declared.held.Held.{Held}
 use Rattle.cq_handle.specs.declared.held.Held.TheVariants as held
 use Rattle.cq_handle.specs.declared.held.ShelfUser.{ShelfUser}
 use Rattle.cq_handle.specs.declared.held.ShelfUser.TheVariants as user
+use Rattle.cq_kept_calls.specs.CallKeepers.{CallKeeperFacts}
 use Rattle.cq_saved.specs.Saved.{SavedFacts}
 use Rattle.cq_shelf.specs.declared.reader.ShelfReader.{ShelfReader}
 use Rattle.cq_shelf.specs.declared.taker.ShelfTaker.{ShelfTaker}
@@ -21,6 +22,12 @@ abbrev pub OnSaved : Held → Held → Type 0 → (SavedFacts → SavedFacts →
 OnSaved (held.Saved old) (held.Saved new) Wrong Says = Says old new
 OnSaved (held.Saved old) _ Wrong Says = ⊥
 OnSaved other now Wrong Says = (now ≡ other) × Wrong
+
+-- a call on a keeper says this of it; where the handle holds something else it stays so, and the answer is wrong
+abbrev pub OnKeeper : Held → Held → Type 0 → (CallKeeperFacts → CallKeeperFacts → Type 0) → Type 0
+OnKeeper (held.Keeper old) (held.Keeper new) Wrong Says = Says old new
+OnKeeper (held.Keeper old) _ Wrong Says = ⊥
+OnKeeper other now Wrong Says = (now ≡ other) × Wrong
 
 -- a call on a user of a shelf says this of it; where the handle holds something else it stays so, and the answer is wrong
 abbrev pub OnShelf : Held → Held → Type 0 → (ShelfUser → ShelfUser → Type 0) → Type 0

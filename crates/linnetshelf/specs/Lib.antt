@@ -2,8 +2,11 @@ pub mod Answers
 pub mod Asked
 pub mod Closes
 pub mod Handles
+pub mod Keeps
+pub mod LogCalls
 pub mod Makes
 pub mod Meets
+pub mod Plays
 pub mod Reads
 pub mod Saves
 pub mod ShelfAnswers

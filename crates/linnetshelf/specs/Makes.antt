@@ -80,6 +80,7 @@ StopsHeld (held.Endpoint e) new how =
     StopsAndRecovers e new how ⊎ ((how ≡ status.InUse) × (new ≡ held.Endpoint e))
 StopsHeld (held.Stopped stopped) new how = Recovers stopped new how
 StopsHeld (held.Saved saved) new how = (how ≡ status.WrongKind) × (new ≡ held.Saved saved)
+StopsHeld (held.Keeper keeper) new how = (how ≡ status.WrongKind) × (new ≡ held.Keeper keeper)
 StopsHeld (held.Shelf user) new how = (how ≡ status.WrongKind) × (new ≡ held.Shelf user)
 
 -- a queue of no cycle was handed out, as it was asked for

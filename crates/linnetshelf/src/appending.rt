@@ -23,7 +23,9 @@ pub extern "C" fn linnetshelf_append(handle: &mut Handle, moment: u64, bytes: &[
 {
     match handle.held_mut() {
         Held::Endpoint(endpoint) => append_answer(endpoint.append(moment, bytes)),
-        Held::Stopped(_) | Held::Saved(_) | Held::Shelf(_) => plain(Status::WrongKind),
+        Held::Stopped(_) | Held::Saved(_) | Held::Keeper(_) | Held::Shelf(_) => plain(
+            Status::WrongKind,
+        ),
     }
 }
 
@@ -36,7 +38,9 @@ pub extern "C" fn linnetshelf_advance(handle: &mut Handle, moment: u64) -> Answe
 {
     match handle.held_mut() {
         Held::Endpoint(endpoint) => advance_answer(endpoint.advance(moment)),
-        Held::Stopped(_) | Held::Saved(_) | Held::Shelf(_) => plain(Status::WrongKind),
+        Held::Stopped(_) | Held::Saved(_) | Held::Keeper(_) | Held::Shelf(_) => plain(
+            Status::WrongKind,
+        ),
     }
 }
 
@@ -49,7 +53,8 @@ pub extern "C" fn linnetshelf_begin(handle: &mut Handle, moment: u64, room: u32)
 {
     match handle.held_mut() {
         Held::Endpoint(endpoint) => begin_answer(endpoint.begin(moment, room)),
-        Held::Stopped(_) | Held::Saved(_) | Held::Shelf(_) => Status::WrongKind.number(),
+        Held::Stopped(_) | Held::Saved(_) | Held::Keeper(_) | Held::Shelf(_) =>
+            Status::WrongKind.number(),
     }
 }
 
@@ -61,7 +66,8 @@ pub extern "C" fn linnetshelf_put(handle: &mut Handle, bytes: &[u8]) -> u32
 {
     match handle.held_mut() {
         Held::Endpoint(endpoint) => put_answer(endpoint.put(bytes)),
-        Held::Stopped(_) | Held::Saved(_) | Held::Shelf(_) => Status::WrongKind.number(),
+        Held::Stopped(_) | Held::Saved(_) | Held::Keeper(_) | Held::Shelf(_) =>
+            Status::WrongKind.number(),
     }
 }
 
@@ -73,7 +79,9 @@ pub extern "C" fn linnetshelf_complete(handle: &mut Handle) -> Answer
 {
     match handle.held_mut() {
         Held::Endpoint(endpoint) => complete_answer(endpoint.complete()),
-        Held::Stopped(_) | Held::Saved(_) | Held::Shelf(_) => plain(Status::WrongKind),
+        Held::Stopped(_) | Held::Saved(_) | Held::Keeper(_) | Held::Shelf(_) => plain(
+            Status::WrongKind,
+        ),
     }
 }
 
@@ -85,6 +93,7 @@ pub extern "C" fn linnetshelf_roll_back(handle: &mut Handle) -> u32
 {
     match handle.held_mut() {
         Held::Endpoint(endpoint) => roll_back_answer(endpoint.roll_back()),
-        Held::Stopped(_) | Held::Saved(_) | Held::Shelf(_) => Status::WrongKind.number(),
+        Held::Stopped(_) | Held::Saved(_) | Held::Keeper(_) | Held::Shelf(_) =>
+            Status::WrongKind.number(),
     }
 }

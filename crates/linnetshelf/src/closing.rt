@@ -19,6 +19,7 @@ pub extern "C" fn linnetshelf_close(handle: &mut Handle) -> u32
 {
     match handle.held_mut() {
         Held::Endpoint(endpoint) => close_answer(endpoint.close()),
-        Held::Stopped(_) | Held::Saved(_) | Held::Shelf(_) => Status::WrongKind.number(),
+        Held::Stopped(_) | Held::Saved(_) | Held::Keeper(_) | Held::Shelf(_) =>
+            Status::WrongKind.number(),
     }
 }

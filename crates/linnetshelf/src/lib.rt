@@ -16,6 +16,8 @@
 //! | `linnetshelf_cursor`, `_direction`, `_to_start`, `_to_end`, `_move_to` | move an endpoint |
 //! | `linnetshelf_position`, `_seek`, `_drop_before` | read and set the position of a name, and drop old cycles |
 //! | `linnetshelf_stop`, `_saved_..`, `_open` | stop a queue, save what it held, and open it again |
+//! | `linnetshelf_play`, `_keep`, `_turn`, `_settle`, `_stored` | play a log, and keep what comes to a queue in one |
+//! | `linnetshelf_log_call`, `_log_done` | hand out the calls of the log, which C makes of its own file |
 //! | `linnetshelf_shelf_create`, `_split`, `_reader`, `_taker` | make a shelf, and writers, readers and takers of it |
 //! | `linnetshelf_shelf_append`, `_begin`, `_put`, `_complete`, `_roll_back`, `_advance` | append messages to a shelf |
 //! | `linnetshelf_shelf_follow`, `_close` | move a writer to the last queue, and close a shelf |
@@ -28,10 +30,13 @@
 mod answer;
 mod appending;
 mod closing;
+mod keeping;
 mod layout;
+mod log_calls;
 mod making;
 mod meeting;
 mod naming;
+mod playing;
 mod reading;
 mod rooms;
 mod saving;

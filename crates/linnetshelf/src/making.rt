@@ -72,7 +72,7 @@ pub extern "C" fn linnetshelf_split(alloc: Global, handle: &mut Handle, out: &mu
             Ok(child) => hand_out(alloc, Held::Endpoint(child), out),
             Err(_) => Status::OutOfMemory,
         },
-        Held::Stopped(_) | Held::Saved(_) | Held::Shelf(_) => Status::WrongKind,
+        Held::Stopped(_) | Held::Saved(_) | Held::Keeper(_) | Held::Shelf(_) => Status::WrongKind,
     };
     status.number()
 }

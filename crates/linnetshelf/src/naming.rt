@@ -20,7 +20,9 @@ pub extern "C" fn linnetshelf_position(handle: &mut Handle, name: &[u8]) -> Answ
 {
     match handle.held_mut() {
         Held::Endpoint(endpoint) => position_answer(position(endpoint, name)),
-        Held::Stopped(_) | Held::Saved(_) | Held::Shelf(_) => plain(Status::WrongKind),
+        Held::Stopped(_) | Held::Saved(_) | Held::Keeper(_) | Held::Shelf(_) => plain(
+            Status::WrongKind,
+        ),
     }
 }
 
@@ -46,7 +48,9 @@ pub extern "C" fn linnetshelf_seek(handle: &mut Handle, name: &[u8], from: u64, 
 {
     match handle.held_mut() {
         Held::Endpoint(endpoint) => seek_answer(seek(endpoint, name, from, to)),
-        Held::Stopped(_) | Held::Saved(_) | Held::Shelf(_) => plain(Status::WrongKind),
+        Held::Stopped(_) | Held::Saved(_) | Held::Keeper(_) | Held::Shelf(_) => plain(
+            Status::WrongKind,
+        ),
     }
 }
 

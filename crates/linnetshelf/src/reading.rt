@@ -25,7 +25,9 @@ pub extern "C" fn linnetshelf_cursor(handle: &mut Handle) -> Answer
 {
     match handle.held_mut() {
         Held::Endpoint(endpoint) => done(endpoint.cursor()),
-        Held::Stopped(_) | Held::Saved(_) | Held::Shelf(_) => plain(Status::WrongKind),
+        Held::Stopped(_) | Held::Saved(_) | Held::Keeper(_) | Held::Shelf(_) => plain(
+            Status::WrongKind,
+        ),
     }
 }
 
@@ -38,7 +40,8 @@ pub extern "C" fn linnetshelf_direction(handle: &mut Handle, way: u32) -> u32
 {
     match handle.held_mut() {
         Held::Endpoint(endpoint) => turn(endpoint, way),
-        Held::Stopped(_) | Held::Saved(_) | Held::Shelf(_) => Status::WrongKind.number(),
+        Held::Stopped(_) | Held::Saved(_) | Held::Keeper(_) | Held::Shelf(_) =>
+            Status::WrongKind.number(),
     }
 }
 
@@ -70,7 +73,8 @@ pub extern "C" fn linnetshelf_to_start(handle: &mut Handle) -> u32
             endpoint.to_start();
             Status::Done.number()
         }
-        Held::Stopped(_) | Held::Saved(_) | Held::Shelf(_) => Status::WrongKind.number(),
+        Held::Stopped(_) | Held::Saved(_) | Held::Keeper(_) | Held::Shelf(_) =>
+            Status::WrongKind.number(),
     }
 }
 
@@ -82,7 +86,9 @@ pub extern "C" fn linnetshelf_to_end(handle: &mut Handle) -> Answer
 {
     match handle.held_mut() {
         Held::Endpoint(endpoint) => done(endpoint.to_end()),
-        Held::Stopped(_) | Held::Saved(_) | Held::Shelf(_) => plain(Status::WrongKind),
+        Held::Stopped(_) | Held::Saved(_) | Held::Keeper(_) | Held::Shelf(_) => plain(
+            Status::WrongKind,
+        ),
     }
 }
 
@@ -95,7 +101,8 @@ pub extern "C" fn linnetshelf_move_to(handle: &mut Handle, index: u64) -> u32
 {
     match handle.held_mut() {
         Held::Endpoint(endpoint) => move_answer(endpoint.move_to(Index::of_value(index))),
-        Held::Stopped(_) | Held::Saved(_) | Held::Shelf(_) => Status::WrongKind.number(),
+        Held::Stopped(_) | Held::Saved(_) | Held::Keeper(_) | Held::Shelf(_) =>
+            Status::WrongKind.number(),
     }
 }
 
@@ -110,6 +117,8 @@ pub extern "C" fn linnetshelf_drop_before(handle: &mut Handle, cycle: u32) -> An
 {
     match handle.held_mut() {
         Held::Endpoint(endpoint) => drop_answer(endpoint.drop_before(cycle)),
-        Held::Stopped(_) | Held::Saved(_) | Held::Shelf(_) => plain(Status::WrongKind),
+        Held::Stopped(_) | Held::Saved(_) | Held::Keeper(_) | Held::Shelf(_) => plain(
+            Status::WrongKind,
+        ),
     }
 }

@@ -25,7 +25,9 @@ pub extern "C" fn linnetshelf_next(handle: &mut Handle, room: &mut [u8]) -> Answ
 {
     match handle.held_mut() {
         Held::Endpoint(endpoint) => found_answer(endpoint.next_into(room)),
-        Held::Stopped(_) | Held::Saved(_) | Held::Shelf(_) => plain(Status::WrongKind),
+        Held::Stopped(_) | Held::Saved(_) | Held::Keeper(_) | Held::Shelf(_) => plain(
+            Status::WrongKind,
+        ),
     }
 }
 
@@ -43,7 +45,9 @@ pub extern "C" fn linnetshelf_read_at(handle: &mut Handle, index: u64, room: &mu
         Held::Endpoint(endpoint) => {
             at_answer(endpoint.read_at_into(Index::of_value(index), room))
         }
-        Held::Stopped(_) | Held::Saved(_) | Held::Shelf(_) => plain(Status::WrongKind),
+        Held::Stopped(_) | Held::Saved(_) | Held::Keeper(_) | Held::Shelf(_) => plain(
+            Status::WrongKind,
+        ),
     }
 }
 
@@ -62,7 +66,9 @@ pub extern "C" fn linnetshelf_take(handle: &mut Handle, name: &[u8], room: &mut 
 {
     match handle.held_mut() {
         Held::Endpoint(endpoint) => take_answer(take(endpoint, name, room)),
-        Held::Stopped(_) | Held::Saved(_) | Held::Shelf(_) => plain(Status::WrongKind),
+        Held::Stopped(_) | Held::Saved(_) | Held::Keeper(_) | Held::Shelf(_) => plain(
+            Status::WrongKind,
+        ),
     }
 }
 

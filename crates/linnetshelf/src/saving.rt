@@ -44,6 +44,7 @@ fn stop(alloc: Global, held: Held) -> (Held, Status)
         },
         Held::Stopped(stopped) => recover(alloc, stopped),
         Held::Saved(saved) => (Held::Saved(saved), Status::WrongKind),
+        Held::Keeper(keeper) => (Held::Keeper(keeper), Status::WrongKind),
         Held::Shelf(user) => (Held::Shelf(user), Status::WrongKind),
     }
 }
@@ -92,7 +93,9 @@ pub extern "C" fn linnetshelf_saved_add(
 {
     match handle.held_mut() {
         Held::Saved(saved) => add_answer(saved.add(alloc, cycle, bytes)),
-        Held::Endpoint(_) | Held::Stopped(_) | Held::Shelf(_) => plain(Status::WrongKind),
+        Held::Endpoint(_) | Held::Stopped(_) | Held::Keeper(_) | Held::Shelf(_) => plain(
+            Status::WrongKind,
+        ),
     }
 }
 
@@ -136,7 +139,9 @@ pub extern "C" fn linnetshelf_saved_count(handle: &mut Handle) -> Answer
 {
     match handle.held_mut() {
         Held::Saved(saved) => done(saved.len() as u64),
-        Held::Endpoint(_) | Held::Stopped(_) | Held::Shelf(_) => plain(Status::WrongKind),
+        Held::Endpoint(_) | Held::Stopped(_) | Held::Keeper(_) | Held::Shelf(_) => plain(
+            Status::WrongKind,
+        ),
     }
 }
 
@@ -148,7 +153,9 @@ pub extern "C" fn linnetshelf_saved_cycle(handle: &mut Handle, k: u32) -> Answer
 {
     match handle.held_mut() {
         Held::Saved(saved) => number_answer(cycle(saved, k)),
-        Held::Endpoint(_) | Held::Stopped(_) | Held::Shelf(_) => plain(Status::WrongKind),
+        Held::Endpoint(_) | Held::Stopped(_) | Held::Keeper(_) | Held::Shelf(_) => plain(
+            Status::WrongKind,
+        ),
     }
 }
 
@@ -170,7 +177,9 @@ pub extern "C" fn linnetshelf_saved_ended(handle: &mut Handle, k: u32) -> Answer
 {
     match handle.held_mut() {
         Held::Saved(saved) => number_answer(ended(saved, k)),
-        Held::Endpoint(_) | Held::Stopped(_) | Held::Shelf(_) => plain(Status::WrongKind),
+        Held::Endpoint(_) | Held::Stopped(_) | Held::Keeper(_) | Held::Shelf(_) => plain(
+            Status::WrongKind,
+        ),
     }
 }
 
@@ -211,7 +220,9 @@ pub extern "C" fn linnetshelf_saved_image(
 {
     match handle.held_mut() {
         Held::Saved(saved) => image_answer(image_into(alloc, saved, k, room)),
-        Held::Endpoint(_) | Held::Stopped(_) | Held::Shelf(_) => plain(Status::WrongKind),
+        Held::Endpoint(_) | Held::Stopped(_) | Held::Keeper(_) | Held::Shelf(_) => plain(
+            Status::WrongKind,
+        ),
     }
 }
 
@@ -279,7 +290,9 @@ pub extern "C" fn linnetshelf_saved_position(handle: &mut Handle, k: u32) -> Ans
 {
     match handle.held_mut() {
         Held::Saved(saved) => number_answer(position(saved, k)),
-        Held::Endpoint(_) | Held::Stopped(_) | Held::Shelf(_) => plain(Status::WrongKind),
+        Held::Endpoint(_) | Held::Stopped(_) | Held::Keeper(_) | Held::Shelf(_) => plain(
+            Status::WrongKind,
+        ),
     }
 }
 
@@ -308,7 +321,8 @@ pub extern "C" fn linnetshelf_saved_set_position(
             Ok(()) => Status::Done,
             Err(NoSuchPlace) => Status::NoSuchPlace,
         },
-        Held::Endpoint(_) | Held::Stopped(_) | Held::Shelf(_) => Status::WrongKind,
+        Held::Endpoint(_) | Held::Stopped(_) | Held::Keeper(_) | Held::Shelf(_) =>
+            Status::WrongKind,
     };
     status.number()
 }
@@ -321,7 +335,9 @@ pub extern "C" fn linnetshelf_saved_floor(handle: &mut Handle) -> Answer
 {
     match handle.held_mut() {
         Held::Saved(saved) => done(u64::from(saved.floor())),
-        Held::Endpoint(_) | Held::Stopped(_) | Held::Shelf(_) => plain(Status::WrongKind),
+        Held::Endpoint(_) | Held::Stopped(_) | Held::Keeper(_) | Held::Shelf(_) => plain(
+            Status::WrongKind,
+        ),
     }
 }
 
@@ -336,7 +352,8 @@ pub extern "C" fn linnetshelf_saved_set_floor(handle: &mut Handle, floor: u32) -
             saved.set_floor(floor);
             Status::Done.number()
         }
-        Held::Endpoint(_) | Held::Stopped(_) | Held::Shelf(_) => Status::WrongKind.number(),
+        Held::Endpoint(_) | Held::Stopped(_) | Held::Keeper(_) | Held::Shelf(_) =>
+            Status::WrongKind.number(),
     }
 }
 
@@ -350,7 +367,8 @@ pub extern "C" fn linnetshelf_open(alloc: Global, handle: &mut Handle, out: &mut
 {
     let status = match handle.held_mut() {
         Held::Saved(saved) => open(alloc, saved, out),
-        Held::Endpoint(_) | Held::Stopped(_) | Held::Shelf(_) => Status::WrongKind,
+        Held::Endpoint(_) | Held::Stopped(_) | Held::Keeper(_) | Held::Shelf(_) =>
+            Status::WrongKind,
     };
     status.number()
 }

@@ -84,10 +84,28 @@ pub enum Status {
     Missed,
     /// The shelf is to have fewer than two queues.
     BadShelf,
+    /// No call of the log is left.
+    NoCall,
+    /// A call of the log failed, or memory for one was refused: the log has stopped.
+    LogStopped,
+    /// What came makes a frame of 2^32 bytes or more.
+    LongFrame,
+    /// The blocks of the log have 2^60 bytes or more.
+    LogFull,
+    /// The settings make a first frame of 2^32 bytes or more.
+    LongHead,
+    /// The first frame of the log is not one with which a log begins.
+    BadHead,
+    /// The log goes on from something else than what is saved.
+    OtherLog,
+    /// A later frame of the log is at fault, or cannot be played; the answer has its number.
+    BadTurn,
+    /// No queue of these settings holds what the log gives.
+    BadGain,
 }
 
 /// Each status with its text in English, in the order of their numbers.
-static STATUSES: [(Status, &str); 40] = [
+static STATUSES: [(Status, &str); 49] = [
     (Status::Done, "it is done"),
     (Status::NotYet, "there is no such message yet"),
     (Status::BeforeStart, "there is no earlier message"),
@@ -206,6 +224,36 @@ static STATUSES: [(Status, &str); 40] = [
         "queues of the shelf were dropped before they were read; the answer has how many",
     ),
     (Status::BadShelf, "a shelf has at least two queues"),
+    (Status::NoCall, "no call of the log is left"),
+    (
+        Status::LogStopped,
+        "a call of the log failed: open the log again, and play what is stored",
+    ),
+    (
+        Status::LongFrame,
+        "too much came for one frame of the log: save the queue, and begin a new log",
+    ),
+    (
+        Status::LogFull,
+        "the log is full: save the queue, and begin a new log",
+    ),
+    (Status::LongHead, "the settings are too long for a log"),
+    (
+        Status::BadHead,
+        "the first frame of the log is not one with which a log begins",
+    ),
+    (
+        Status::OtherLog,
+        "the log goes on from something else than what is saved",
+    ),
+    (
+        Status::BadTurn,
+        "a frame of the log is at fault, or cannot be played; the answer has its number",
+    ),
+    (
+        Status::BadGain,
+        "no queue of these settings holds what the log gives",
+    ),
 ];
 
 impl Status {

@@ -84,6 +84,24 @@ pub enum Error {
     Missed,
     /// A shelf has at least two queues.
     BadShelf,
+    /// No call of the log is left.
+    NoCall,
+    /// A call of the log failed, or memory for one was refused: the log has stopped.
+    LogStopped,
+    /// Too much came for one frame of the log.
+    LongFrame,
+    /// The log is full.
+    LogFull,
+    /// The settings are too long for a log.
+    LongHead,
+    /// The first frame of the log is not one with which a log begins.
+    BadHead,
+    /// The log goes on from something else than what is saved.
+    OtherLog,
+    /// A frame of the log is at fault, or cannot be played.
+    BadTurn,
+    /// No queue of these settings holds what the log gives.
+    BadGain,
     /// The endpoints that were to meet are of two queues.
     TwoQueues,
     /// A status that this version of the crate does not know.
@@ -125,7 +143,7 @@ const FAULTS: [ImageFault; 8] = [
 ];
 
 /// The statuses that report nothing more.
-const PLAIN: [(u32, Error); 29] = [
+const PLAIN: [(u32, Error); 38] = [
     (1, Error::NotYet),
     (2, Error::BeforeStart),
     (3, Error::Never),
@@ -155,6 +173,15 @@ const PLAIN: [(u32, Error); 29] = [
     (37, Error::Full),
     (38, Error::Missed),
     (39, Error::BadShelf),
+    (40, Error::NoCall),
+    (41, Error::LogStopped),
+    (42, Error::LongFrame),
+    (43, Error::LogFull),
+    (44, Error::LongHead),
+    (45, Error::BadHead),
+    (46, Error::OtherLog),
+    (47, Error::BadTurn),
+    (48, Error::BadGain),
 ];
 
 impl Error {
@@ -245,7 +272,7 @@ mod tests {
         let lines = header.lines().filter_map(|line| line.strip_prefix("    LINNETSHELF_")?.split_once(" = "));
         let listed: BTreeMap<u32, &str> =
             lines.filter_map(|(name, rest)| Some((rest.split_once(", /*")?.0.parse().ok()?, name))).collect();
-        assert_eq!(listed.keys().copied().collect::<Vec<_>>(), (0..40).collect::<Vec<_>>());
+        assert_eq!(listed.keys().copied().collect::<Vec<_>>(), (0..49).collect::<Vec<_>>());
         for (number, name) in listed.into_iter().skip(1) {
             let error = error_of(number);
             let shown = match error {
@@ -258,8 +285,8 @@ mod tests {
 
     #[test]
     fn each_error_has_a_text_of_its_own() {
-        let texts: BTreeSet<String> = (1..40).map(|status| error_of(status).to_string()).collect();
-        assert_eq!(texts.len(), 39);
+        let texts: BTreeSet<String> = (1..49).map(|status| error_of(status).to_string()).collect();
+        assert_eq!(texts.len(), 48);
         assert_eq!(Error::NotYet.to_string(), "there is no such message yet");
         assert!(error_of(6).to_string().ends_with(" (9 bytes)"));
         assert!(error_of(7).to_string().ends_with(" (position 0000000100000002)"));
