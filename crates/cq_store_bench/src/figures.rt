@@ -11,7 +11,7 @@ fn each_second(count: u64, time: Duration) -> u64 {
     each.min(u128::from(u64::MAX)) as u64
 }
 
-/// The wait that this share of all waits, in hundredths, is not above, in microseconds. They are sorted, and in nanoseconds.
+/// The wait that this share of all waits, in hundredths, is not above. They are sorted.
 fn wait_at(waits: &[u64], hundredths: usize) -> u64 {
     let Some(last) = waits.len().checked_sub(1) else {
         return 0;
@@ -20,9 +20,14 @@ fn wait_at(waits: &[u64], hundredths: usize) -> u64 {
         .saturating_mul(hundredths)
         .saturating_add((last % 100).saturating_mul(hundredths) / 100);
     match waits.get(place) {
-        Some(nanos) => *nanos / 1_000,
+        Some(wait) => *wait,
         None => 0,
     }
+}
+
+/// The whole microseconds of this many nanoseconds, and the nanoseconds past them.
+fn microseconds(nanos: u64) -> (u64, u64) {
+    (nanos / 1_000, nanos % 1_000)
 }
 
 /// Prints what was measured.
@@ -45,10 +50,10 @@ pub fn print_measured<R: Print>(
     let part = time.subsec_millis();
     let stored = each_second(messages, time);
     let synced = each_second(syncs, time);
-    let middle = wait_at(waits.as_slice(), 50);
-    let long = wait_at(waits.as_slice(), 99);
+    let (middle, middle_part) = microseconds(wait_at(waits.as_slice(), 50));
+    let (long, long_part) = microseconds(wait_at(waits.as_slice(), 99));
     match println!(rt;
-        "{{\"impl\":\"{name}\",\"threads\":{threads},\"batch\":{batch},\"seconds\":{whole}.{part:03},\"messages\":{messages},\"messages_per_second\":{stored},\"p50_us\":{middle},\"p99_us\":{long},\"syncs_per_second\":{synced}}}"
+        "{{\"impl\":\"{name}\",\"threads\":{threads},\"batch\":{batch},\"seconds\":{whole}.{part:03},\"messages\":{messages},\"messages_per_second\":{stored},\"p50_us\":{middle}.{middle_part:03},\"p99_us\":{long}.{long_part:03},\"syncs_per_second\":{synced}}}"
     ) {
         Ok(()) => Ok(()),
         Err(_) => Err(BenchFault::NotPrinted),
