@@ -108,7 +108,19 @@ fn unstored(answer: &Result<Index, AppendStoredFault>) -> Option<Index> {
     }
 }
 
-/// Appends a text, and waits until it is stored, again where memory is refused. The message is appended once. Returns the answer.
+/// Gives an index after a wait for its message, or why that is not stored.
+fn waited_text(
+    alloc: Global,
+    index: Index,
+    answer: &Result<(), StoreFault>,
+) -> Result<String, Fail> {
+    match answer {
+        Ok(()) => Ok(format!(in alloc; "{}", index.value())?),
+        Err(fault) => Ok(format!(in alloc; "{fault:?}")?),
+    }
+}
+
+/// Appends a text once, and waits until it is stored, again where memory is refused. Returns the answer.
 pub(crate) fn append_patiently<R: Wait + AllocGlobal>(
     rt: &R,
     life: &mut Life,
@@ -118,7 +130,7 @@ pub(crate) fn append_patiently<R: Wait + AllocGlobal>(
         .stored
         .append_stored(rt, &mut life.endpoint, 0, text.as_bytes());
     match unstored(&answer) {
-        Some(index) => done_text(rt.alloc(), "ok", &wait_patiently(rt, life, index)),
+        Some(index) => waited_text(rt.alloc(), index, &wait_patiently(rt, life, index)),
         None => index_text(rt.alloc(), &answer),
     }
 }
