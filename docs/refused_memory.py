@@ -136,7 +136,7 @@ WANT = b"cq: want of memory\n"
 # gave no message.
 THREADS = [
     "filling_tests", "growing_tests", "many_tests", "parts_tests", "sharing_tests", "thread_tests",
-    "waiting_tests::threads_end_the_wait_of_others", "failing_tests::no_thread_is_told_what_is_not_stored", "every_tests",
+    "waiting_tests::threads_end_the_wait_of_others", "failing_tests::no_call_says_what_is_not_stored", "every_tests",
     "folder_tests::endpoints_go_on_while_a_queue_is_saved",
 ]  # fmt: skip
 

@@ -8,8 +8,8 @@ it:
 console  A line that begins with `$ ` is a command, and the lines up to the next one are what it prints, on standard
          output and standard error together. The blocks of a document are run in order in one new folder, where `./cq` is
          the program. `$ echo $?` prints the status of the command before it.
-rust     The lines are in a file of crates/cq_callers/src or crates/cq_live_tests/src, one after the other, except for spaces at
-         their start.
+rust     The lines are in a file of src/ of crates/cq_callers, crates/cq_live_tests or crates/cq_stored_threads_tests, one after
+         the other, except for spaces at their start.
 c        The lines are in c/example.c in the same way. c/run compiles and runs that file.
 
 Blocks with another word or none are skipped: what builds or proves is in a block `sh`, or in one without a word.
@@ -25,7 +25,8 @@ import tempfile
 
 TOP = pathlib.Path(__file__).resolve().parent.parent
 DOCUMENTS = ["README.md", "docs/CLI.md", "docs/GUIDE.md", "docs/CALLING.md"]
-SOURCES = {"rust": ["crates/cq_callers/src/*.rt", "crates/cq_live_tests/src/*.rt"], "c": ["c/example.c"]}
+RUST = ["cq_callers", "cq_live_tests", "cq_stored_threads_tests"]
+SOURCES = {"rust": [f"crates/{crate}/src/*.rt" for crate in RUST], "c": ["c/example.c"]}
 
 
 def blocks_of(text):
