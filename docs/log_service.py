@@ -45,6 +45,11 @@ def some_lines(dice, most=40):
     return [b"%0*d" % (dice.choice([1, 8, 90, 400]), dice.randrange(10**8)) for _ in range(dice.randint(1, most))]
 
 
+def some_options(dice):
+    """Half of the services save the images while lines come, some of them after each line."""
+    return [] if dice.random() < 0.5 else ["--checkpoint", str(dice.choice([1, 200, 2000]))]
+
+
 def feed(stream, lines, dice, is_closed):
     """Writes lines to a stream in pieces of random length, until the stream is closed. Closes it at the end if that is wanted."""
     text = b"".join(line + b"\n" for line in lines)
@@ -77,7 +82,9 @@ class Service:
 
     def __init__(self, tried, folder, lines, front=(), is_closed=False):
         self.tried, self.folder, self.printed, self.first = tried, folder, b"", threading.Event()
-        self.process = subprocess.Popen([*front, tried.program, "log", folder], **PIPES)
+        options = some_options(tried.dice)
+        tried.counts["services with checkpoints"] += bool(options)
+        self.process = subprocess.Popen([*front, tried.program, "log", folder, *options], **PIPES)
         feeding = (self.process.stdin, lines, random.Random(tried.dice.random()), is_closed)
         self.threads = [threading.Thread(target=feed, args=feeding), threading.Thread(target=self.keep)]
         for thread in self.threads:
@@ -119,9 +126,9 @@ class Service:
         return acks, status == -9
 
 
-def served_one_by_one(program, front, folder, lines):
+def served_one_by_one(command, folder, lines, options=()):
     """Gives lines to `cq log`, each once the one before is acknowledged. Returns its status, the indexes, and what it said."""
-    process = subprocess.Popen([*front, program, "log", folder], **PIPES)
+    process = subprocess.Popen([*command, "log", folder, *options], **PIPES)
     end = threading.Timer(NO_END, process.kill)
     end.start()
     printed = b""
