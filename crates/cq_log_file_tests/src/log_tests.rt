@@ -55,8 +55,8 @@ static FAILURES: [(u64, usize, usize); 24] = [
 /// Puts the frames to a log up to the first fault, and settles it. Returns the number of frames that are stored by its answers,
 /// and whether a call failed.
 fn put_all<D: Device>(log: &mut Log<D>) -> (usize, bool)
-    requires { IsSound D.seen D.may_leave D.fault log.old }
-    ensures { IsSound D.seen D.may_leave D.fault log.new }
+    requires { IsSound D.seen D.may_leave D.fault D.supposed log.old }
+    ensures { IsSound D.seen D.may_leave D.fault D.supposed log.new }
 {
     let mut count = 0usize;
     for frame in &FRAMES {
@@ -74,7 +74,7 @@ fn put_all<D: Device>(log: &mut Log<D>) -> (usize, bool)
 /// Puts the frames to a log, and then one more. Returns the number of frames that are stored by the answers to the first ones,
 /// whether a call of these failed, and whether the log has stopped.
 fn put_and_stop<D: Device>(log: &mut Log<D>) -> (usize, bool, bool)
-    requires { IsSound D.seen D.may_leave D.fault log.old }
+    requires { IsSound D.seen D.may_leave D.fault D.supposed log.old }
 {
     let (stored, has_failed) = put_all(log);
     (stored, has_failed, log.push(b"late").is_err())

@@ -38,8 +38,8 @@ fn answers<D: Device>(
     log: &mut Log<D>,
     calls: &[Call],
 ) -> Result<String, DeviceFault>
-    requires { IsSound D.seen D.may_leave D.fault log.old }
-    ensures { IsSound D.seen D.may_leave D.fault log.new }
+    requires { IsSound D.seen D.may_leave D.fault D.supposed log.old }
+    ensures { IsSound D.seen D.may_leave D.fault D.supposed log.new }
 {
     let mut text = String::new(alloc);
     for call in calls {

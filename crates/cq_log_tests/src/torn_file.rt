@@ -5,7 +5,7 @@ ghost use Rattle.cq_log_tests.specs.Changes.{Adds, IsAdded, IsCut, IsSync, IsWri
 ghost use Rattle.cq_log_tests.specs.Stays.{stays};
 
 use crate::Ruin;
-use cq_log::{Device, DeviceFault};
+use cq_log::{Damage, Device, DeviceFault};
 use std::alloc::{AllocError, Global};
 
 /// A change of a file, or a sync.
@@ -232,6 +232,8 @@ fn cut_short(alloc: Global, file: &[u8], len: usize, ruin: Ruin) -> Result<Vec<u
 }
 
 impl Device for TornFile {
+    ghost use Rattle.cq_log.specs.declared.device.Damage.TheVariants.{AnyBytes};
+
     ghost seen = { λ m. m.file.items };
 
     ghost may_leave = { λ m. MayLeave m.changes.items };
@@ -242,11 +244,17 @@ impl Device for TornFile {
 
     ghost fault = { λ m. m.fault };
 
+    ghost supposed = { λ _. AnyBytes };
+
     ghost stays = { λ m. stays m.changes.items m.file.items m.replayed };
 
     ghost counts_now = { λ m t c le left. counts_now m.changes.items t c le left };
 
     ghost only_now = { λ m c left. only_now m.changes.items c left };
+
+    fn damage(&self) -> Damage {
+        Damage::AnyBytes
+    }
 
     fn read(&mut self, alloc: Global) -> Result<Vec<u8>, DeviceFault> {
         Ok(self.file.to_vec(alloc)?)
