@@ -114,11 +114,15 @@ def try_call(tried, call, options):
 
 
 def try_syncs(tried, _runs):
-    if not tried.has("strace", "syncs"):
-        return
-    life, trace = Life(tried, "syncs"), os.path.join(tried.room, "trace")
+    if tried.has("strace", "syncs"):
+        for syncs in ("2", "1"):
+            try_order(tried, syncs)
+
+
+def try_order(tried, syncs_wanted):
+    life, trace = Life(tried, f"syncs-{syncs_wanted}"), os.path.join(tried.room, "trace")
     front = [*STRACE, "-o", trace, "-e", "trace=pwrite64,fdatasync,write"]
-    status, acks, said = served_one_by_one([*front, tried.program], life.folder, [b"one", b"two", b"three"])
+    status, acks, said = served_one_by_one([*front, tried.program], life.folder, [b"one", b"two", b"three"], ["--syncs", syncs_wanted])
     if status or said or len(acks) != 3:
         tried.wrong.append(f"syncs: status {status}, {len(acks)} lines acknowledged, said {said!r}")
     is_synced, syncs = False, 0
@@ -131,5 +135,5 @@ def try_syncs(tried, _runs):
                 is_synced, syncs = name.rstrip().endswith("= 0"), syncs + 1
             elif name.startswith("write(1, ") and not is_synced:
                 tried.wrong.append(f"syncs: no sync before {name.strip()}")
-    tried.counts["syncs for three lines, an opening and a closing"] = syncs
+    tried.counts[f"syncs for three lines, an opening and a closing, with {syncs_wanted} for a batch"] = syncs
     life.end()
