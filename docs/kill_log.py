@@ -5,22 +5,23 @@ The modes, all of them if none is named:
 
 random  N times (50 if it is not given) lines come in pieces of random length, and the process gets SIGKILL at a random
         moment, half of the times after the first line was acknowledged. Then `write`, `take` and `drop` come, of which some
-        meet the log first, and some are killed too. Cycles begin by the clock and by `write`.
+        meet the log first, and some are killed too. Cycles begin by the clock and by `write`. Half of the services save the
+        images while lines come. Lines are acknowledged after two syncs, one, or none.
 torn    N times the process is killed at a random moment or call, or a sync fails. Then the log is made what a power cut may
         leave: what was written since the last sync of the file is there, is not, or in part, or other bytes are in its place,
-        such as blocks with open gates, and the file has the old length, the new one, or one between. Each kill is tried with
-        three such logs. It needs strace (apt-get install strace).
+        such as blocks with open gates, and the file has the old length, the new one, or one between. Where lines are acknowledged
+        after one sync, each byte is the old one or the new one. Each kill is tried with three such logs. It needs strace (apt-get install strace).
 faults  Each system call on its files and streams fails in turn with ENOSPC, EIO or EINTR, or fails with EIO from then on:
         while it opens a new queue, one that was closed, or one that was killed, while it stores lines, and while it closes.
         N of these are tried, or all if N is as large. It needs strace.
 full    N times no file may grow past some length, and N / 5 times a file system is full (root alone may make it). Then there is
         space again.
-calls   The process gets SIGKILL at each of these calls in turn. It needs strace.
+calls   The process gets SIGKILL at each of these calls in turn, also while it saves the images. It needs strace.
 syncs   Each acknowledgement has to be written after a sync of the log that follows the last write to it. It needs strace.
 memory  Growths of memory are refused, by the library of docs/refused_memory.py: N growths of `cq log`, `write`, `take`, `drop`,
         `read` and `check` each on a folder with a log, or all if N is as large. It needs cc.
-wrong   The mode torn has to find four wrong programs: one prints an index before the line is stored, one never syncs, and two
-        sync once for a batch, one of them before its gate is opened and one after. It needs strace and cc.
+wrong   The mode torn has to find wrong programs: one prints an index before the line is stored, one never syncs, whether a batch
+        has two syncs or one, and two sync once for a batch of two, before its gate is opened or after. It needs strace and cc.
 
 After each kill `cq read` has to print what was there before, and then a beginning of the lines that came, each once and in
 order: at least all that were acknowledged, with the indexes that were printed. `take` has to give the next message, and again

@@ -36,7 +36,7 @@ TEXTS = re.compile(
 def calls_on(life, trace):
     """Each system call of `cq log` from the first on its folder on: its name, its number among those of this name, and whether
     its failure loses nothing."""
-    served_one_by_one(life.tried.program, [*STRACE, "-o", trace], life.folder, LINES)
+    served_one_by_one([*STRACE, "-o", trace, life.tried.program], life.folder, LINES)
     numbers, found, is_there, seen = collections.Counter(), [], False, Seen()
     with open(trace, encoding="utf-8", errors="replace") as lines:
         for line in lines:
@@ -98,7 +98,7 @@ def is_served(life, what):
     """Whether the log is saved, and a service without a fault does all."""
     if not life.is_saved(what):
         return False
-    status, acks, said = served_one_by_one(life.tried.program, [], life.folder, LINES)
+    status, acks, said = served_one_by_one([life.tried.program], life.folder, LINES)
     if status or said or len(acks) != len(LINES):
         return life.fails(what, f"status {status}, {len(acks)} lines acknowledged, said {said!r}")
     return life.compared(LINES, acks, what)
@@ -128,7 +128,7 @@ def try_faults(tried, runs):
     for state, name, number, is_silent, (error, how) in cases if runs >= len(cases) else tried.dice.sample(cases, runs):
         life, what = lives[state].copied("faults"), f"{state}, {error} at {name} {number}{how}"
         front = [*STRACE, "-o", trace, "-e", f"trace={name}", "-e", f"inject={name}:error={error}:when={number}{how}"]
-        answer = served_one_by_one(tried.program, front, life.folder, LINES)
+        answer = served_one_by_one([*front, tried.program], life.folder, LINES)
         with open(trace, encoding="utf-8", errors="replace") as lines:
             if "(INJECTED)" not in lines.read():
                 tried.wrong.append(f"{what}: nothing was injected")

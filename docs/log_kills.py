@@ -8,6 +8,9 @@ from log_service import STRACE, Service, served_one_by_one, some_lines
 # The system calls at which the process is killed.
 CALLS = ["openat", "flock", "read", "write", "pwrite64", "fdatasync", "fsync", "ftruncate", "rename", "unlink", "close"]
 
+# The images are saved after each second of three short lines.
+CHECKPOINTS = ["--checkpoint", "5"]
+
 # A folder is made anew after this many kills, before its cycles are full.
 KILLS_IN_FOLDER = 25
 
@@ -77,11 +80,11 @@ def left_by_a_kill(life, what):
     return life.compared([b"more"], acks, what)
 
 
-def is_killed_at(life, call, number):
+def is_killed_at(life, call, number, options):
     """Kills `cq log` at a system call with this number. Returns whether all is as said, and whether it came to that call."""
-    lines, what = [b"one", b"two", b"three"], f"kill at {call} {number}"
+    lines, what = [b"one", b"two", b"three"], f"kill at {call} {number} {' '.join(options)}"
     front = [*STRACE, "-o", os.devnull, "-e", f"inject={call}:signal=KILL:when={number}"]
-    status, acks, said = served_one_by_one(life.tried.program, front, life.folder, lines)
+    status, acks, said = served_one_by_one([*front, life.tried.program], life.folder, lines, options)
     if said or (status == 0 and len(acks) != len(lines)):
         life.fails(what, f"status {status}, {len(acks)} lines acknowledged, said {said!r}")
     life.tried.counts["kills at calls"] += status != 0
@@ -95,22 +98,31 @@ def try_calls(tried, _runs):
     if not tried.has("strace", "calls"):
         return
     for call in CALLS:
-        life, number, is_well, is_killed = Life(tried, f"calls-{call}"), 0, True, True
-        while is_killed and is_well:
-            number += 1
-            # Each second start finds the log of a queue that was killed.
-            is_well = number % 2 == 0 or left_by_a_kill(life, f"before a kill at {call} {number}")
-            if is_well:
-                is_well, is_killed = is_killed_at(life, call, number)
-        life.end()
+        for options in ([], CHECKPOINTS):
+            try_call(tried, call, options)
+
+
+def try_call(tried, call, options):
+    life, number, is_well, is_killed = Life(tried, f"calls-{call}"), 0, True, True
+    while is_killed and is_well:
+        number += 1
+        # Each second start finds the log of a queue that was killed.
+        is_well = number % 2 == 0 or left_by_a_kill(life, f"before a kill at {call} {number}")
+        if is_well:
+            is_well, is_killed = is_killed_at(life, call, number, options)
+    life.end()
 
 
 def try_syncs(tried, _runs):
-    if not tried.has("strace", "syncs"):
-        return
-    life, trace = Life(tried, "syncs"), os.path.join(tried.room, "trace")
+    if tried.has("strace", "syncs"):
+        for syncs in ("2", "1"):
+            try_order(tried, syncs)
+
+
+def try_order(tried, syncs_wanted):
+    life, trace = Life(tried, f"syncs-{syncs_wanted}"), os.path.join(tried.room, "trace")
     front = [*STRACE, "-o", trace, "-e", "trace=pwrite64,fdatasync,write"]
-    status, acks, said = served_one_by_one(tried.program, front, life.folder, [b"one", b"two", b"three"])
+    status, acks, said = served_one_by_one([*front, tried.program], life.folder, [b"one", b"two", b"three"], ["--syncs", syncs_wanted])
     if status or said or len(acks) != 3:
         tried.wrong.append(f"syncs: status {status}, {len(acks)} lines acknowledged, said {said!r}")
     is_synced, syncs = False, 0
@@ -123,5 +135,5 @@ def try_syncs(tried, _runs):
                 is_synced, syncs = name.rstrip().endswith("= 0"), syncs + 1
             elif name.startswith("write(1, ") and not is_synced:
                 tried.wrong.append(f"syncs: no sync before {name.strip()}")
-    tried.counts["syncs for three lines, an opening and a closing"] = syncs
+    tried.counts[f"syncs for three lines, an opening and a closing, with {syncs_wanted} for a batch"] = syncs
     life.end()

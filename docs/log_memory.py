@@ -52,7 +52,7 @@ class Refusals:
 
 def serve(life, refusals, number, what):
     """`cq log` has to say that memory was refused, or to do without."""
-    status, acks, said = served_one_by_one(life.tried.program, refusals.front(number), life.folder, LINES)
+    status, acks, said = served_one_by_one([*refusals.front(number), life.tried.program], life.folder, LINES)
     is_done = status == 0 and not said and len(acks) == len(LINES)
     if not is_done and not (status == 1 and any(text in said for text in REFUSED)):
         life.fails(what, f"status {status}, {len(acks)} lines acknowledged, said {said!r}")

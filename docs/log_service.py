@@ -22,6 +22,8 @@ class Tried:
 
     def __init__(self, program, room, dice):
         self.program, self.room, self.dice = program, room, dice
+        # How many syncs a batch may have where a power cut comes, and whether images are saved while lines come.
+        self.syncs, self.has_checkpoints = (1, 2), True
         self.counts, self.wrong, self.untried = collections.Counter(), [], []
 
     def run(self, *words, given=b"", front=(), moment=None):
@@ -43,6 +45,15 @@ class Tried:
 
 def some_lines(dice, most=40):
     return [b"%0*d" % (dice.choice([1, 8, 90, 400]), dice.randrange(10**8)) for _ in range(dice.randint(1, most))]
+
+
+def some_options(tried, syncs):
+    """How many syncs a batch has, one of these numbers. Half of the services save the images while lines come, some of them after
+    each line, if any may."""
+    dice, options = tried.dice, ["--syncs", str(tried.dice.choice(syncs))]
+    if not tried.has_checkpoints or dice.random() < 0.5:
+        return options
+    return [*options, "--checkpoint", str(dice.choice([1, 200, 2000]))]
 
 
 def feed(stream, lines, dice, is_closed):
@@ -75,9 +86,12 @@ class Service:
     """`cq log` on a folder: a thread gives it lines, and another keeps what it prints. Its input ends after them if that is
     wanted."""
 
-    def __init__(self, tried, folder, lines, front=(), is_closed=False):
+    def __init__(self, tried, folder, lines, front=(), is_closed=False, syncs=(0, 1, 2)):
         self.tried, self.folder, self.printed, self.first = tried, folder, b"", threading.Event()
-        self.process = subprocess.Popen([*front, tried.program, "log", folder], **PIPES)
+        self.options = some_options(tried, syncs)
+        tried.counts["services with checkpoints"] += "--checkpoint" in self.options
+        tried.counts["services with one sync"] += "1" in self.options[:2]
+        self.process = subprocess.Popen([*front, tried.program, "log", folder, *self.options], **PIPES)
         feeding = (self.process.stdin, lines, random.Random(tried.dice.random()), is_closed)
         self.threads = [threading.Thread(target=feed, args=feeding), threading.Thread(target=self.keep)]
         for thread in self.threads:
@@ -119,9 +133,9 @@ class Service:
         return acks, status == -9
 
 
-def served_one_by_one(program, front, folder, lines):
+def served_one_by_one(command, folder, lines, options=()):
     """Gives lines to `cq log`, each once the one before is acknowledged. Returns its status, the indexes, and what it said."""
-    process = subprocess.Popen([*front, program, "log", folder], **PIPES)
+    process = subprocess.Popen([*command, "log", folder, *options], **PIPES)
     end = threading.Timer(NO_END, process.kill)
     end.start()
     printed = b""

@@ -1,7 +1,8 @@
 """What a power cut may leave of a log: the mode torn of docs/kill_log.py.
 
 strace shows what was written to `queue.log`, what was synced, and what was acknowledged in between. So the file is known that
-is on the disk for certain at each moment, and the writes since then, of which a crash may leave anything.
+is on the disk for certain at each moment, and the writes since then. Of these a crash may leave anything, or, where the log has one
+sync a batch, of each byte the old one or the new one.
 """
 import os
 import subprocess
@@ -17,13 +18,14 @@ KILLS_IN_FOLDER = 50
 # After each kill this number of logs is tried: the last one in the folder itself, and the others in copies of it.
 LOGS = 3
 
-# What may become of a write.
-KINDS = ["whole", "whole", "none", "front", "back", "sectors", "bytes", "zeros", "ones", "garbage"]
+# What may become of a write where of each byte the old one or the new one is left, and where any bytes are.
+BYTEWISE = ["whole", "whole", "none", "front", "back", "sectors", "bytes", "bytes"]
+KINDS = [*BYTEWISE, "zeros", "ones", "garbage"]
 
 
-def part_of(dice, before, data, place):
+def part_of(dice, before, data, place, kinds):
     """What a crash may leave where `data` was written over `before`, at this place of the file."""
-    length, kind = len(data), dice.choice(KINDS)
+    length, kind = len(data), dice.choice(kinds)
     if kind == "whole":
         return data
     if kind == "none":
@@ -52,22 +54,23 @@ def forged(length):
     return (block * (length // len(block) + 1))[:length]
 
 
-def torn(dice, log):
-    """What a crash may leave of a log: what was synced, and anything where it was written since. The length is the old one, the
-    new one, or between."""
+def torn(dice, log, is_bytewise):
+    """What a crash may leave of a log: what was synced, and where it was written since anything, or of each byte the old one or the
+    new one. The length is the old one, the new one, or between."""
+    kinds = BYTEWISE if is_bytewise else KINDS
     old, new = len(log.synced), max([len(log.synced), *(place + len(data) for place, data in log.writes)])
     held = log.synced.ljust(new, b"\0")
     # Later writes may come to the disk before earlier ones.
     for place, data in dice.sample(log.writes, len(log.writes)):
-        held = put_over(held, place, part_of(dice, held[place:place + len(data)], data, place))
-    if new > old and dice.random() < 0.25:
+        held = put_over(held, place, part_of(dice, held[place:place + len(data)], data, place, kinds))
+    if new > old and not is_bytewise and dice.random() < 0.25:
         held = held[:old] + forged(new - old)
     return held[:dice.choice([old, new, new, dice.randint(old, new)])]
 
 
 def traced_service(tried, life, lines, trace, number):
     """`cq log` seen by strace, and killed at a call or a moment, or ended after a sync that fails. Returns the indexes, whether it
-    was killed, and its process."""
+    was killed, its process, and whether a power cut may leave of each byte only the old one or the new one."""
     front = [*STRACE, *TRACED, "-o", trace]
     dice, way = tried.dice, number % 5
     if way in (0, 2):
@@ -75,7 +78,7 @@ def traced_service(tried, life, lines, trace, number):
         front += ["-e", f"inject={call}:signal=KILL:when={dice.randint(1, 5 if call == 'rename' else 24)}"]
     elif way == 4:
         front += ["-e", f"inject=fdatasync:error=EIO:when={dice.randint(1, 16)}"]
-    service = Service(tried, life.folder, lines, front, is_closed=dice.random() < 0.2)
+    service = Service(tried, life.folder, lines, front, is_closed=dice.random() < 0.2, syncs=tried.syncs)
     # Not before it has printed or ended: strace may hang if what it is to see is killed before it sees it.
     service.first.wait(NO_END)
     if way in (1, 3):
@@ -86,7 +89,7 @@ def traced_service(tried, life, lines, trace, number):
         except subprocess.TimeoutExpired:
             pass
     acks, is_killed = service.kill(f"torn {number}", b"cq: the log" if way == 4 else None)
-    return acks, is_killed, service.process.pid
+    return acks, is_killed, service.process.pid, service.options[:2] == ["--syncs", "1"]
 
 
 def put_log(life, held):
@@ -116,10 +119,11 @@ def is_seen(life, log, trace, what):
     return held == log.shown or life.fails(what, f"the log has {len(held)} bytes, and by its calls {len(log.shown)}")
 
 
-def is_torn(life, log, lines, acks, what):
+def is_torn(life, log, is_bytewise, lines, acks, what):
     """Puts what a crash may leave of a log into a folder. Returns whether the folder holds what it has to, now and then."""
-    counts, held = life.tried.counts, torn(life.tried.dice, log)
+    counts, held = life.tried.counts, torn(life.tried.dice, log, is_bytewise)
     counts["torn logs"] += 1
+    counts["torn logs with one sync"] += is_bytewise
     counts["torn logs with writes after the last sync"] += bool(log.writes)
     counts["torn logs other than the one that was there"] += held != log.shown
     put_log(life, held)
@@ -144,7 +148,7 @@ def some_count(dice, trace):
 
 def is_one_more_torn(tried, life, number):
     lines, trace_file, before = some_lines(tried.dice), os.path.join(tried.room, "trace"), held_in(life.log())
-    acks, is_killed, process = traced_service(tried, life, lines, trace_file, number)
+    acks, is_killed, process, is_bytewise = traced_service(tried, life, lines, trace_file, number)
     trace, what = Trace(trace_file, process), f"torn {number}"
     os.remove(trace_file)
     tried.counts["kills"] += is_killed
@@ -157,11 +161,11 @@ def is_one_more_torn(tried, life, number):
         count = some_count(tried.dice, trace)
         earlier, acked = trace.log_after(count, before)
         copy = life.copied(f"torn-copy-{place}")
-        is_well = is_torn(copy, earlier, lines, acks[:acked], f"{what}, after {count} of {len(trace.calls)} calls")
+        is_well = is_torn(copy, earlier, is_bytewise, lines, acks[:acked], f"{what}, after {count} of {len(trace.calls)} calls")
         copy.end()
         if not is_well:
             return False
-    return is_torn(life, log, lines, acks, what)
+    return is_torn(life, log, is_bytewise, lines, acks, what)
 
 
 def try_torn(tried, runs, is_one_enough=False):

@@ -17,7 +17,8 @@ import subprocess
 import sys
 import time
 
-WRONG = ["early", "unsynced", "frames", "gates"]
+# Each with the syncs of a batch with which it is tried.
+WRONG = [("early", 2), ("unsynced", 2), ("frames", 2), ("gates", 2), ("unsynced", 1)]
 
 # This many kills have to be enough to find each.
 KILLS = 200
@@ -50,17 +51,19 @@ def try_wrong(tried, _runs):
     pathlib.Path(source).write_text(SYNCS, encoding="ascii")
     subprocess.run(["cc", "-O2", "-shared", "-fPIC", "-o", shim, source], check=True)
     os.environ.update(RIGHT_CQ=tried.program, WRONG_SYNCS=shim)
-    for name in WRONG:
+    for name, syncs in WRONG:
         os.environ["WRONG_CQ"] = name
-        room = os.path.join(tried.room, name)
+        room = os.path.join(tried.room, f"{name}-{syncs}")
         os.mkdir(room)
         found = Tried(os.path.abspath(__file__), room, random.Random(tried.dice.random()))
+        # With checkpoints other syncs come in between.
+        found.syncs, found.has_checkpoints = (syncs,), False
         try_torn(found, KILLS, is_one_enough=True)
         if found.wrong:
             tried.counts["wrong programs found"] += 1
-            print(f"the wrong program {name}: {found.wrong[0]}")
+            print(f"the wrong program {name} with {syncs} for a batch: {found.wrong[0]}")
         else:
-            tried.wrong.append(f"wrong: {name} was not found by {KILLS} kills")
+            tried.wrong.append(f"wrong: {name} with {syncs} for a batch was not found by {KILLS} kills")
 
 
 def next_index(folder):
@@ -77,10 +80,10 @@ def end_with_parent():
     ctypes.CDLL(None).prctl(1, signal.SIGKILL)
 
 
-def log_early(folder):
-    index = next_index(folder)
+def log_early(words):
+    index = next_index(words[0])
     how = {"stdin": subprocess.PIPE, "stdout": subprocess.DEVNULL, "preexec_fn": end_with_parent}
-    real = subprocess.Popen([os.environ["RIGHT_CQ"], "log", folder], **how)
+    real = subprocess.Popen([os.environ["RIGHT_CQ"], "log", *words], **how)
     for line in sys.stdin.buffer:
         os.write(1, b"%016x\n" % index)
         index += 1
@@ -93,7 +96,7 @@ def log_early(folder):
 def main(words):
     right = os.environ["RIGHT_CQ"]
     if words[0] == "log" and os.environ["WRONG_CQ"] == "early":
-        return log_early(words[1])
+        return log_early(words[1:])
     if words[0] == "log":
         os.environ["LD_PRELOAD"] = os.environ["WRONG_SYNCS"]
     return os.execv(right, [right, *words])

@@ -8,7 +8,7 @@ use Rattle.clap.specs.declared.builder.ArgAction.TheVariants.{Append, Set, SetTr
 use Rattle.clap.specs.declared.builder.value_parser.ValueParser.TheVariants.{Unsigned}
 use Rattle.cq_command_line.specs.declared.arguments.Argument.{Argument}
 use Rattle.cq_command_line.specs.declared.commands.Description.{Description}
-use Rattle.cq_command_line.specs.declared.arguments.Argument.TheVariants.{Word, Number, Between, Words, Flag, Option}
+use Rattle.cq_command_line.specs.declared.arguments.Argument.TheVariants.{Word, Number, Between, Words, Flag, Option, OptionBetween}
 use Rattle.cq_orders.specs.declared.order.Order.{Order}
 use Rattle.cq_orders.specs.declared.order.Order.TheVariants.{Echo, Cycle, Init, Write, Log, Read, Take, Check, Dump, Salvage, Race, DropBefore, Migrate}
 
@@ -18,7 +18,7 @@ word_of Echo = codes "echo"
 word_of (Cycle roll epoch moment) = codes "cycle"
 word_of (Init folder settings) = codes "init"
 word_of (Write folder moment) = codes "write"
-word_of (Log folder) = codes "log"
+word_of (Log folder settings) = codes "log"
 word_of (Read folder back begin) = codes "read"
 word_of (Take folder name) = codes "take"
 word_of (DropBefore folder cycle) = codes "drop"
@@ -52,6 +52,10 @@ flag_rule name = record (new_rule name) { long = Some name; action = Some SetTru
 abbrev pub option_rule : List ℕ → Rule
 option_rule name = record (new_rule name) { long = Some name; action = Some Set; value_names = 1 }
 
+-- an option with a number between two others as its value
+abbrev pub option_between_rule : List ℕ → ℕ → ℕ → Rule
+option_between_rule name low high = record (option_rule name) { parser = Some (Unsigned low high) }
+
 -- the rule of an argument
 abbrev pub rule_for : Argument → Rule
 rule_for (Word name help) = word_rule name.now
@@ -60,6 +64,7 @@ rule_for (Between name low high help) = between_rule name.now low high
 rule_for (Words name help) = words_rule name.now
 rule_for (Flag name help) = flag_rule name.now
 rule_for (Option name value_name help) = option_rule name.now
+rule_for (OptionBetween name value_name low high help) = option_between_rule name.now low high
 
 -- the command with these arguments behind those that it has
 abbrev pub with_arguments : App → List Argument → App
@@ -108,7 +113,9 @@ write_command = with_rule (with_rule (new_app (codes "write")) (word_rule (codes
 
 -- the command `log`
 abbrev pub log_command : App
-log_command = with_rule (new_app (codes "log")) (word_rule (codes "DIR"))
+log_command =
+    with_rule (with_rule (with_rule (with_rule (new_app (codes "log")) (word_rule (codes "DIR"))) (option_between_rule (codes "for") 1 (2 ^ 32 - 1)))
+    (option_between_rule (codes "syncs") 0 2)) (option_between_rule (codes "checkpoint") 1 (2 ^ 32 - 1))
 
 -- the command `read`
 abbrev pub read_command : App

@@ -1,8 +1,9 @@
 -- What an order takes from the words of its command: each value under the name of its argument.
-use Rattle.std.specs.Prelude.{◌≡◌, ℕ, Bool, List, [], true, false, codes, Option, Some, map, option_map, unwrap_or, string_bytes, String, ⊤}
+use Rattle.std.specs.Prelude.{◌≡◌, ℕ, Bool, List, [], true, false, codes, None, Option, Some, map, option_map, unwrap_or, string_bytes, String, ⊤}
 use Rattle.std.specs.Str.Parse.{IsNumeral, digits_value, without_leading_plus}
 use Rattle.clap.specs.Words.{Row, Text, all_of, first_of, one_of}
 use Rattle.cq_orders.specs.declared.settings.InitSettings.{InitSettings}
+use Rattle.cq_orders.specs.declared.settings.LogSettings.{LogSettings}
 use Rattle.cq_orders.specs.declared.order.Order.{Order}
 use Rattle.cq_orders.specs.declared.order.Order.TheVariants.{Echo, Cycle, Init, Write, Log, Read, Take, Check, Dump, Salvage, Race, DropBefore, Migrate}
 
@@ -15,6 +16,11 @@ abbrev pub IsNumber : List Row → Text → ℕ → Type 0
 IsNumber rows name number =
     (word : Text) × (one_of name rows ≡ Some word) × IsNumeral 10 (without_leading_plus word)
     × (number ≡ digits_value 10 (without_leading_plus word))
+
+-- the number is the one that was given under this name, where one was
+abbrev pub IsNumberOption : List Row → Text → Option ℕ → Type 0
+IsNumberOption rows name None = first_of name rows ≡ None
+IsNumberOption rows name (Some number) = IsNumber rows name number
 
 -- the texts are all the words that were given under this name
 abbrev pub AreWords : {A : Type 0} → List Row → Text → List (String A) → Type 0
@@ -38,6 +44,12 @@ pub record AreSettings (rows : List Row) (settings : InitSettings) : Type 0 wher
   pub cycles : IsNumber rows (codes "CYCLES") settings.cycles
   pub names : AreWords rows (codes "NAMES") settings.names.items
 
+-- a queue is kept open as it was given
+pub record AreLogSettings (rows : List Row) (settings : LogSettings) : Type 0 where
+  pub seconds : IsNumberOption rows (codes "for") settings.seconds
+  pub syncs : IsNumberOption rows (codes "syncs") settings.syncs
+  pub checkpoint : IsNumberOption rows (codes "checkpoint") settings.checkpoint
+
 -- the order's values are those that were given
 abbrev pub TakesValues : List Row → Order → Type 0
 TakesValues rows Echo = ⊤
@@ -45,7 +57,7 @@ TakesValues rows (Cycle roll epoch moment) =
     IsWord rows (codes "ROLL") roll × IsNumber rows (codes "EPOCH") epoch × IsNumber rows (codes "MOMENT") moment
 TakesValues rows (Init folder settings) = IsWord rows (codes "DIR") folder × AreSettings rows settings
 TakesValues rows (Write folder moment) = IsWord rows (codes "DIR") folder × IsNumber rows (codes "MOMENT") moment
-TakesValues rows (Log folder) = IsWord rows (codes "DIR") folder
+TakesValues rows (Log folder settings) = IsWord rows (codes "DIR") folder × AreLogSettings rows settings
 TakesValues rows (Read folder back begin) =
     IsWord rows (codes "DIR") folder × IsFlag rows (codes "back") back × IsOption rows (codes "from") begin
 TakesValues rows (Take folder name) = IsWord rows (codes "DIR") folder × IsWord rows (codes "NAME") name

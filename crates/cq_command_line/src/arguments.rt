@@ -1,6 +1,6 @@
 //! The arguments of a command.
 ghost use Rattle.cq_command_line.specs.CommandLine.{Follows, rule_for};
-ghost use Rattle.cq_command_line.specs.CommandLine.{flag_rule, number_rule, option_rule, word_rule, words_rule, between_rule};
+ghost use Rattle.cq_command_line.specs.CommandLine.{flag_rule, number_rule, option_between_rule, option_rule, word_rule, words_rule, between_rule};
 
 use clap::builder::ValueParser;
 use clap::{Arg, ArgAction, value_parser};
@@ -21,6 +21,8 @@ pub(crate) enum Argument {
     Flag(&'static str, &'static str),
     /// An option with one word as its value, which may be left out. Help calls the word by the second name.
     Option(&'static str, &'static str, &'static str),
+    /// An option with a number between two others as its value, which may be left out. Help calls the number by the second name.
+    OptionBetween(&'static str, &'static str, u64, u64, &'static str),
 }
 
 /// Returns the argument as a value of `clap`.
@@ -34,6 +36,9 @@ pub(crate) fn arg<'a>(alloc: Global, argument: Argument) -> Arg<'a>
         Argument::Words(name, help) => words(alloc, name, help),
         Argument::Flag(name, help) => flag(alloc, name, help),
         Argument::Option(name, value_name, help) => option(alloc, name, value_name, help),
+        Argument::OptionBetween(name, value_name, low, high, help) => {
+            option(alloc, name, value_name, help).value_parser(ValueParser::unsigned(low, high))
+        }
     }
 }
 

@@ -116,7 +116,32 @@ const LOG: Description = Description {
      then on the line survives a crash. At the end of the input the images are saved. After a crash\n\
      the next command that may write saves them from the log.\n\n\
      Example:\n  printf 'hello\\nworld\\n' | cq log journal",
-    arguments: &[FOLDER],
+    arguments: &[
+        FOLDER,
+        Argument::OptionBetween(
+            "for",
+            "SECONDS",
+            1,
+            4_294_967_295,
+            "Ends after this time too. A line that has not ended by then is not appended",
+        ),
+        Argument::OptionBetween(
+            "syncs",
+            "SYNCS",
+            0,
+            2,
+            "The syncs before the index of a line is printed. 2, which is the default, survives any loss of\n\
+             power. 1 survives one that leaves of each byte the old one or the new one. 0 survives the end of\n\
+             the process alone",
+        ),
+        Argument::OptionBetween(
+            "checkpoint",
+            "BYTES",
+            1,
+            4_294_967_295,
+            "Saves the images each time that this many bytes of lines came: 4,194,304 by default",
+        ),
+    ],
 };
 
 const READ: Description = Description {

@@ -2,10 +2,10 @@
 ghost use Rattle.std.specs.Prelude.{◌≡◌, [], ◌∷◌, List, map, option_map, codes, string_bytes, IfOk, IfSome, Ok, Some};
 ghost use Rattle.clap.specs.Words.{found_of, rows_of, subcommand_rows_of};
 ghost use Rattle.cq_command_line.specs.CommandLine.{word_of};
-ghost use Rattle.cq_command_line.specs.OrderValues.{AreSettings, AreWords, IsFlag, IsNumber, IsOption, IsWord, TakesValues};
+ghost use Rattle.cq_command_line.specs.OrderValues.{AreLogSettings, AreSettings, AreWords, IsFlag, IsNumber, IsNumberOption, IsOption, IsWord, TakesValues};
 
 use clap::ArgMatches;
-use cq_orders::{InitSettings, Order};
+use cq_orders::{InitSettings, LogSettings, Order};
 use std::alloc::{AllocError, Global};
 
 /// Why what was found is no order.
@@ -113,6 +113,18 @@ fn log_order(alloc: Global, values: &ArgMatches<'_>) -> Result<Order, OrderFault
 {
     Ok(Order::Log {
         folder: word(alloc, values, "DIR")?,
+        settings: log_settings(values)?,
+    })
+}
+
+/// Returns how a queue is kept open.
+fn log_settings(values: &ArgMatches<'_>) -> Result<LogSettings, OrderFault>
+    ensures { IfOk result (λ settings. AreLogSettings (rows_of (found_of values.now)) settings) }
+{
+    Ok(LogSettings {
+        seconds: number_option(values, "for")?,
+        syncs: number_option(values, "syncs")?,
+        checkpoint: number_option(values, "checkpoint")?,
     })
 }
 
@@ -212,6 +224,16 @@ fn number(values: &ArgMatches<'_>, name: &str) -> Result<u64, OrderFault>
     match values.get_one(name) {
         Some(given) => Ok(given),
         None => Err(OrderFault::NoOrder),
+    }
+}
+
+/// Returns the number that was given under this name, if one was.
+fn number_option(values: &ArgMatches<'_>, name: &str) -> Result<Option<u64>, OrderFault>
+    ensures { IfOk result (λ given. IsNumberOption (rows_of (found_of values.now)) name.now given) }
+{
+    match values.get_str(name) {
+        Some(_) => Ok(Some(number(values, name)?)),
+        None => Ok(None),
     }
 }
 

@@ -149,7 +149,7 @@ fn ran<F: Folder>(alloc: Global, folder: &mut F, order: &Order) -> Said {
     let mut output = Vec::new(alloc);
     let mut rest: &[u8] = b"hello\n";
     let done = match order {
-        Order::Race { messages: _ } | Order::Log { folder: _ } => {
+        Order::Race { messages: _ } | Order::Log { .. } => {
             return Ok(String::from_str(alloc, "not for one caller")?);
         }
         _ => run(alloc, order, folder, &mut rest, &mut output),

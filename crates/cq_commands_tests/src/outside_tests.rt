@@ -27,7 +27,7 @@ fn said_outside(
         is_entered,
     };
     let done = match order {
-        Order::Race { messages: _ } | Order::Log { folder: _ } => {
+        Order::Race { messages: _ } | Order::Log { .. } => {
             return Ok(String::from_str(alloc, "not for one caller")?);
         }
         _ => run(alloc, order, folder, &mut input, &mut output),

@@ -9,7 +9,7 @@ folder_of Echo = None
 folder_of (Cycle roll epoch moment) = None
 folder_of (Init folder settings) = Some (string_bytes folder)
 folder_of (Write folder moment) = Some (string_bytes folder)
-folder_of (Log folder) = Some (string_bytes folder)
+folder_of (Log folder settings) = Some (string_bytes folder)
 folder_of (Read folder back from) = Some (string_bytes folder)
 folder_of (Take folder name) = Some (string_bytes folder)
 folder_of (DropBefore folder cycle) = Some (string_bytes folder)
@@ -26,5 +26,5 @@ IsRace _ = ⊥
 
 -- the order keeps a queue open
 abbrev pub IsLog : Order → Type 0
-IsLog (Log folder) = ⊤
+IsLog (Log folder settings) = ⊤
 IsLog _ = ⊥

@@ -1,11 +1,11 @@
 //! The commands of the program `cq` as plain values. Nothing is checked here.
 //!
-//! `Order` is a command with its values; that of `init` has its settings in `InitSettings`. `cq_command_line` makes an
-//! `Order` from the words of a command line, and `cq_commands` runs it.
+//! `Order` is a command with its values. The settings of `init` are in `InitSettings`, and those of `log` in `LogSettings`.
+//! `cq_command_line` makes an `Order` from the words of a command line, and `cq_commands` runs it.
 #![tactic(auto)]
 
 mod order;
 mod settings;
 
 pub use order::Order;
-pub use settings::InitSettings;
+pub use settings::{InitSettings, LogSettings};

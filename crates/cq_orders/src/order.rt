@@ -1,7 +1,7 @@
 ghost use Rattle.std.specs.Prelude.{◌≡◌, option_map};
 ghost use Rattle.cq_orders.specs.OrderFolder.{folder_of};
 
-use crate::settings::InitSettings;
+use crate::settings::{InitSettings, LogSettings};
 
 /// What the program is asked to do.
 #[derive(Debug, Drop)]
@@ -35,6 +35,8 @@ pub enum Order {
     Log {
         /// The folder.
         folder: String,
+        /// How the queue is kept open.
+        settings: LogSettings,
     },
     /// Print the messages in order.
     Read {
@@ -100,7 +102,7 @@ impl Order {
             Order::Echo | Order::Cycle { .. } | Order::Race { .. } => None,
             Order::Init { folder, .. }
             | Order::Write { folder, .. }
-            | Order::Log { folder }
+            | Order::Log { folder, .. }
             | Order::Read { folder, .. }
             | Order::Take { folder, .. }
             | Order::DropBefore { folder, .. }

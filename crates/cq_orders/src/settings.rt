@@ -16,3 +16,14 @@ pub struct InitSettings {
     /// The names of the tailers.
     pub names: Vec<String>,
 }
+
+/// How a queue is kept open, as it was given. `None` is a value that was not given.
+#[derive(Debug, Drop)]
+pub struct LogSettings {
+    /// After how many seconds it ends, if the input has not ended before.
+    pub seconds: Option<u64>,
+    /// How many syncs there are between a line and its acknowledgement: 0 to 2.
+    pub syncs: Option<u64>,
+    /// After how many bytes of lines the images are saved.
+    pub checkpoint: Option<u64>,
+}

@@ -23,6 +23,9 @@ pub(crate) enum StartFault {
     /// No more lines were taken in.
     #[error("{0}")]
     Ingest(IngestFault),
+    /// The folder holds something else than the queue that is kept open.
+    #[error("the folder holds something else than the queue: all lines with an index were in its queue.log")]
+    OtherQueue,
     /// All lines that were acknowledged are stored in the log, which was not saved in the images.
     #[error("{0}: all lines with an index are in queue.log, and once this is mended the next command that may write saves them")]
     Unsaved(FoldFault),

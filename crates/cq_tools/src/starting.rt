@@ -17,6 +17,7 @@ use std::alloc::AllocError;
 use std::fs::File;
 use std::io::{self, ErrorKind};
 use std::rt::{Clock, Files};
+use std::sync::Wait;
 use std::thread::Threads;
 
 /// The command was done.
@@ -35,7 +36,19 @@ pub const NOT_UNDERSTOOD: u8 = 2;
 /// come together is only tested.
 pub fn status<R, E>(rt: &R, errors: &E, words: io::Result<Vec<String>>, process: u32) -> u8
 where
-    R: AllocGlobal + Files<File = File> + Input + Print + Clock + Threads + Sync + Clone + Drop,
+    R: AllocGlobal
+        + Files<File = File>
+        + Input
+        + Print
+        + Clock
+        + Threads
+        + Wait
+        + Sync
+        + Clone
+        + Send
+        + Drop
+        + 'static,
+    R::Reader: Send + Drop + 'static,
     E: Eprint,
 {
     let words = match words {
@@ -73,12 +86,24 @@ fn fault<E: Eprint>(errors: &E, fault: StartFault) -> u8
 /// Runs an order, over the folder that it names and the standard streams.
 fn run<R, E>(rt: &R, errors: &E, process: u32, order: &Order) -> Result<(), StartFault>
 where
-    R: AllocGlobal + Files<File = File> + Input + Print + Clock + Threads + Sync + Clone + Drop,
+    R: AllocGlobal
+        + Files<File = File>
+        + Input
+        + Print
+        + Clock
+        + Threads
+        + Wait
+        + Sync
+        + Clone
+        + Send
+        + Drop
+        + 'static,
+    R::Reader: Send + Drop + 'static,
     E: Eprint,
 {
     match order {
         Order::Race { messages } => Ok(race(rt, *messages, &OpenGate, &mut io::writer(rt))?),
-        Order::Log { folder } => log(rt, errors, process, folder.as_str()),
+        Order::Log { folder, settings } => log(rt, errors, process, folder.as_str(), settings),
         _ => run_alone(rt, errors, process, order),
     }
 }

@@ -26,7 +26,11 @@ impl<'a, R: Files<File = File> + AllocGlobal + Clone + Drop> RealFolder<'a, R> {
         self.lock = Some(lock);
         self.record = self.record_there(alloc)?;
         if access == Access::Alone {
+            let had_record = self.record.is_some();
             self.settle()?;
+            if had_record {
+                self.confirm_removal()?;
+            }
             // Without locks, a part may be that of a process that is running.
             if is_held {
                 self.sweep(alloc)?;
@@ -90,9 +94,7 @@ impl<'a, R: Files<File = File> + AllocGlobal + Clone + Drop> RealFolder<'a, R> {
             unless_missing(self.place(name.as_str(), record.process))?;
         }
         self.sync()?;
-        fs::remove_file(self.rt, self.path_of(RECORD_FILE)?.as_str())?;
-        // Else the record could come back after the machine stops, when a later save writes parts of the same names.
-        self.sync()
+        fs::remove_file(self.rt, self.path_of(RECORD_FILE)?.as_str())
     }
 
     /// Removes the parts of saves that were cut short before their record was there.

@@ -37,8 +37,8 @@ impl<'a, R: Files<File = File> + AllocGlobal + Clone + Drop> RealFolder<'a, R> {
     }
 
     /// Writes files together. All of them then hold their bytes, or all hold what they held. Once the record is on the
-    /// device the files are saved. An error after that is not returned: the next command that is alone does what is
-    /// left.
+    /// device the files are saved. An error after that is not returned while the record is there: the next command that is
+    /// alone does what is left.
     fn replace_all(&mut self, changes: &[NewFile]) -> io::Result<()>
         ensures failures { self.new.failures ≡ self.old.failures }
         ensures locked { self.new.lock ≡ self.old.lock }
@@ -51,8 +51,10 @@ impl<'a, R: Files<File = File> + AllocGlobal + Clone + Drop> RealFolder<'a, R> {
         let promised = self.confirm();
         self.record = Some(record);
         promised?;
-        let _ = self.settle();
-        Ok(())
+        if self.settle().is_err() {
+            return Ok(());
+        }
+        self.confirm_removal()
     }
 
     /// Returns the record of a save: this process, and the files in their order. It returns an error if the record
@@ -143,6 +145,12 @@ impl<'a, R: Files<File = File> + AllocGlobal + Clone + Drop> RealFolder<'a, R> {
             }
             synced => synced,
         }
+    }
+
+    /// Syncs that the record of a save was removed. Else the record could come back after the machine stops, when a later save of
+    /// this process has written parts of the same names.
+    pub(super) fn confirm_removal(&self) -> io::Result<()> {
+        self.confirm()
     }
 
     /// Renames the part of a file that the process with this number wrote to the file.
