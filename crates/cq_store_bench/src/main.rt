@@ -2,7 +2,7 @@
 //!
 //! The arguments are a folder, the number of threads, how many messages each of them appends in a batch, and for how many seconds. The
 //! threads wait until each batch is stored. With a batch of 1 each message is appended by `append_stored`. A word before the folder says
-//! otherwise: with `--kept` they do not wait, and another thread stores what came; with `--alone` nothing is stored. Without an argument it
+//! otherwise: with `--one-sync` the log has one sync for a batch in place of two; with `--kept` they do not wait, and another thread stores what came; with `--alone` nothing is stored. Without an argument it
 //! prints what they are. The exit status is:
 //!
 //! - 0: all was measured.
@@ -42,7 +42,7 @@ const NOT_UNDERSTOOD: u8 = 2;
 
 /// What the arguments are.
 const USAGE: &str =
-    "cq_store_bench [--kept|--alone] FOLDER THREADS BATCH SECONDS: appends messages of 64 bytes to a queue with a log in the folder, in 1 to 256 threads, for 1 to 3600 seconds. Each thread appends 1 to 10000 messages and waits until they are stored. With --kept it does not wait, and another thread stores them; with --alone nothing is stored.";
+    "cq_store_bench [--one-sync|--kept|--alone] FOLDER THREADS BATCH SECONDS: appends messages of 64 bytes to a queue with a log in the folder, in 1 to 256 threads, for 1 to 3600 seconds. Each thread appends 1 to 10000 messages and waits until they are stored. With --one-sync the log has one sync for a batch. With --kept it does not wait, and another thread stores them; with --alone nothing is stored.";
 
 fn main(rt: HostRuntime) -> ExitCode {
     ExitCode::from(status(&rt))

@@ -4,6 +4,7 @@ use crate::fault::BenchFault;
 use cq_cycle::Roll;
 use cq_kept::{KeptQueue, Opened};
 use cq_layout::{MAX_CELLS, Shape};
+use cq_log::Damage;
 use cq_log_file::{LogFileOf, SystemFile};
 use cq_model::{Config, Contents, CycleList, Items};
 use std::alloc::{AllocError, Global};
@@ -40,10 +41,11 @@ fn beginning(alloc: Global) -> Result<Contents, AllocError> {
     })
 }
 
-/// Opens an empty queue with a new log at this path.
+/// Opens an empty queue with a new log at this path, which survives this damage.
 pub fn opened<R: AllocGlobal + Files<File = File>>(
     rt: &R,
     path: &str,
+    damage: Damage,
 ) -> Result<Opened<CountedLog>, BenchFault> {
     let alloc = rt.alloc();
     let config = config(alloc)?;
@@ -54,7 +56,7 @@ pub fn opened<R: AllocGlobal + Files<File = File>>(
     let Ok(log) = LogFileOf::begin_empty(CountedFile::new(file), alloc) else {
         return Err(BenchFault::NoLog);
     };
-    match KeptQueue::open(alloc, config, &contents, log) {
+    match KeptQueue::open(alloc, config, &contents, log.supposing(damage)) {
         Ok(opened) => Ok(opened),
         Err(_) => Err(BenchFault::NoQueue),
     }

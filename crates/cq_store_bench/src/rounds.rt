@@ -80,7 +80,9 @@ fn done<R: Threads + Wait + Clock + AllocGlobal + Sync>(
     task: Task,
 ) -> Result<Done, BenchFault> {
     match task.waiting {
-        Waiting::Stored | Waiting::Alone => Ok(work_all(rt, stored, workers, task)?),
+        Waiting::Stored | Waiting::StoredByOneSync | Waiting::Alone => Ok(work_all(
+            rt, stored, workers, task,
+        )?),
         Waiting::Kept => {
             let (done, kept) = work_kept(rt, stored, workers, task);
             match kept {
@@ -130,7 +132,7 @@ fn add_queue<R>(
 where
     R: Threads + Wait + Clock + AllocGlobal + Files<File = File> + Sync,
 {
-    let queue = opened(rt, path)?;
+    let queue = opened(rt, path, settings.waiting.damage())?;
     let done = add_round(rt, settings, queue, time, measured);
     remove(rt, path)?;
     done

@@ -1,4 +1,5 @@
 //! What is measured.
+use cq_log::Damage;
 use std::time::Duration;
 
 /// What the threads wait for.
@@ -6,6 +7,8 @@ use std::time::Duration;
 pub enum Waiting {
     /// Each batch is stored before the next one.
     Stored,
+    /// The same, by a log that has one sync for a batch.
+    StoredByOneSync,
     /// Nothing. Another thread stores what came, once a millisecond.
     Kept,
     /// Nothing, and nothing is stored.
@@ -16,9 +19,18 @@ impl Waiting {
     /// Reads it from the word for it, if that is one.
     fn of_word(word: &str) -> Option<Waiting> {
         match word {
+            "--one-sync" => Some(Waiting::StoredByOneSync),
             "--kept" => Some(Waiting::Kept),
             "--alone" => Some(Waiting::Alone),
             _ => None,
+        }
+    }
+
+    /// What its log survives: one sync for a batch is enough where a crash leaves each byte old or new.
+    pub fn damage(self) -> Damage {
+        match self {
+            Waiting::StoredByOneSync => Damage::OldOrNew,
+            Waiting::Stored | Waiting::Kept | Waiting::Alone => Damage::AnyBytes,
         }
     }
 
@@ -26,6 +38,7 @@ impl Waiting {
     pub fn name(self) -> &'static str {
         match self {
             Waiting::Stored => "cq",
+            Waiting::StoredByOneSync => "cq --one-sync",
             Waiting::Kept => "cq --kept",
             Waiting::Alone => "cq --alone",
         }

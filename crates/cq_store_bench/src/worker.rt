@@ -173,7 +173,7 @@ impl Worker {
         task: Task,
     ) -> Result<bool, BenchFault> {
         match task.waiting {
-            Waiting::Stored => self.store_batch(rt, stored, task.batch),
+            Waiting::Stored | Waiting::StoredByOneSync => self.store_batch(rt, stored, task.batch),
             Waiting::Kept | Waiting::Alone => Ok(self.append_batch(task.batch)?.is_some()),
         }
     }
