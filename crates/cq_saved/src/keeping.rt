@@ -14,7 +14,7 @@ impl Saved {
     /// them. So they have to be saved elsewhere before an older log is given up. Errors:
     ///
     /// - `BadContents`: the last cycle is not open, or no queue can hold these contents.
-    /// - `LongHead`: the settings make a first frame of 2^32 bytes or more.
+    /// - `LongHead`: the settings make a first frame of 2^32 - 1 bytes or more.
     /// - `OutOfMemory`: out of memory. It can come before each other error.
     ///
     /// It never returns `Failed`.

@@ -1,5 +1,5 @@
 -- What the calls say that open a queue with a keeper, and make its turns.
-use Rattle.std.specs.Prelude.{◌≡◌, ◌≤◌, ◌^◌, ℕ, Result, Ok, Err, false, length, true}
+use Rattle.std.specs.Prelude.{◌≡◌, ◌≤◌, ◌-◌, ◌^◌, ℕ, Result, Ok, Err, false, length, true}
 use Rattle.cq_handle.specs.declared.held.Held.{Held}
 use Rattle.cq_handle.specs.declared.held.Held.TheVariants as held
 use Rattle.cq_keeper.specs.declared.fault.KeepFault.{KeepFault}
@@ -38,7 +38,7 @@ HandsOutBoth called old new _ = ⊥
 abbrev pub KeepsQueue : SavedFacts → Pair → Pair → Status → Type 0
 KeepsQueue saved old new status.Done = HandsOutKept saved new.0 new.1
 KeepsQueue saved old new status.BadContents = (¬ CanOpen saved) × (new ≡ old)
-KeepsQueue saved old new status.LongHead = (2 ^ 32 ≤ length (first_frame saved.settings saved.contents)) × (new ≡ old)
+KeepsQueue saved old new status.LongHead = (2 ^ 32 - 1 ≤ length (first_frame saved.settings saved.contents)) × (new ≡ old)
 KeepsQueue saved old new status.OutOfMemory = new ≡ old
 KeepsQueue saved old new _ = ⊥
 

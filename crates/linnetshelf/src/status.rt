@@ -88,11 +88,11 @@ pub enum Status {
     NoCall,
     /// A call of the log failed, or memory for one was refused: the log has stopped.
     LogStopped,
-    /// What came makes a frame of 2^32 bytes or more.
+    /// What came makes a frame of 2^32 - 1 bytes or more.
     LongFrame,
     /// The blocks of the log have 2^60 bytes or more.
     LogFull,
-    /// The settings make a first frame of 2^32 bytes or more.
+    /// The settings make a first frame of 2^32 - 1 bytes or more.
     LongHead,
     /// The first frame of the log is not one with which a log begins.
     BadHead,
