@@ -7,6 +7,7 @@
 #include <fcntl.h>
 #include <inttypes.h>
 #include <pthread.h>
+#include <sched.h>
 #include <stdio.h>
 #include <stdlib.h>
 #include <string.h>
@@ -229,19 +230,23 @@ static void give_up(int folder, const save *given) {
     errno = error;
 }
 
+/* The text of the record of a save. */
+static int record_text(const save *files, unsigned long process, bytes *record) {
+    char line[NAME_SIZE + 32];
+    snprintf(line, sizeof line, "cq save 1\n%lu\n", process);
+    int result = add_text(record, line);
+    for (size_t i = 0; i < files->count && !result; i++) {
+        snprintf(line, sizeof line, "%s\n", files->names[i]);
+        result = add_text(record, line);
+    }
+    return result ? result : add_text(record, "end\n");
+}
+
 /* Saves the files whose parts were written: from the rename of the record on, all of them. */
 static int commit(int folder, const save *files) {
     unsigned long process = (unsigned long)getpid();
-    char line[NAME_SIZE + 32];
     bytes record = {0};
-    snprintf(line, sizeof line, "cq save 1\n%lu\n", process);
-    int result = add_text(&record, line);
-    for (size_t i = 0; i < files->count && !result; i++) {
-        snprintf(line, sizeof line, "%s\n", files->names[i]);
-        result = add_text(&record, line);
-    }
-    if (!result)
-        result = add_text(&record, "end\n");
+    int result = record_text(files, process, &record);
     if (!result)
         result = write_part(folder, RECORD, record.at, record.length);
     if (!result)
@@ -260,29 +265,42 @@ static bool may_be_saved(const char *name) {
            (length >= 4 && length < NAME_SIZE && !strcmp(name + length - 4, ".cqi") && !strchr(name, '/'));
 }
 
+/* Reads the text that `record_text` makes. */
+static int parse_record(const bytes *text, save *files, unsigned long *process) {
+    int at = 0, more = 0;
+    char name[NAME_SIZE];
+    files->count = 0;
+    if (sscanf(text->at, "cq save 1 %lu %n", process, &at) != 1)
+        return fail(EBADMSG);
+    while (files->count < MOST_CYCLES + 2 && sscanf(text->at + at, "%63[^\n] %n", name, &more) == 1 && may_be_saved(name)) {
+        snprintf(files->names[files->count++], NAME_SIZE, "%s", name);
+        at += more;
+    }
+    bytes same = {0};
+    int result = record_text(files, *process, &same);
+    if (!result && (!files->count || *process > UINT32_MAX || same.length != text->length || memcmp(same.at, text->at, same.length)))
+        result = fail(EBADMSG);
+    free(same.at);
+    return result;
+}
+
 /* Finishes a save that was cut short after its record was there. */
 static int finish_left(int folder) {
     bytes record = {0};
-    if (read_file(folder, RECORD, &record, MOST_TEXT_BYTES) || reserve(&record, record.length + 1)) {
-        free(record.at);
-        return errno == ENOENT ? 0 : -1;
-    }
-    record.at[record.length] = 0;
-    save left = {.count = 0};
+    save left;
     unsigned long process = 0;
-    char *rest = NULL, *line = strtok_r(record.at, "\n", &rest);
-    bool is_record = line && !strcmp(line, "cq save 1") && (line = strtok_r(NULL, "\n", &rest)) && sscanf(line, "%lu", &process) == 1;
-    bool has_end = false;
-    while (is_record && !has_end && (line = strtok_r(NULL, "\n", &rest))) {
-        has_end = !strcmp(line, "end");
-        if (has_end)
-            break;
-        is_record = may_be_saved(line) && left.count < MOST_CYCLES + 2;
-        if (is_record)
-            snprintf(left.names[left.count++], NAME_SIZE, "%s", line);
+    int result = read_file(folder, RECORD, &record, MOST_TEXT_BYTES);
+    bool is_none = result && errno == ENOENT;
+    if (!result)
+        result = reserve(&record, record.length + 1);
+    if (!result) {
+        record.at[record.length] = 0;
+        result = parse_record(&record, &left, &process);
     }
+    if (!result)
+        result = finish_save(folder, &left, process);
     free(record.at);
-    return is_record && has_end ? finish_save(folder, &left, process) : fail(EBADMSG);
+    return is_none ? 0 : result;
 }
 
 /* The configuration. */
@@ -592,7 +610,8 @@ static int make_call(const journal *of, const linnetshelf_call *call) {
 
 /* Makes all calls of the log that are left. `count` is how many. */
 static int make_calls(journal *of, size_t *count) {
-    for (*count = 0;; ++*count) {
+    *count = 0;
+    for (;;) {
         char none;
         linnetshelf_call call = linnetshelf_log_call(&of->keeper, of->room.size ? of->room.at : &none, of->room.size);
         if (call.status == LINNETSHELF_NO_ROOM) {
@@ -608,6 +627,7 @@ static int make_calls(journal *of, size_t *count) {
             return fail(error);
         }
         linnetshelf_log_done(&of->keeper, true);
+        ++*count;
     }
 }
 
@@ -618,8 +638,10 @@ static int turn(journal *of, bool *is_idle) {
     size_t count = 0;
     uint32_t status = linnetshelf_turn(&of->keeper);
     *is_idle = false;
-    if (status == LINNETSHELF_OUT_OF_MEMORY)
+    if (status == LINNETSHELF_OUT_OF_MEMORY) {
+        sched_yield();
         return 0; /* a later turn keeps it all */
+    }
     if (status != LINNETSHELF_DONE)
         return (int)status;
     int result = make_calls(of, &count);

@@ -5,7 +5,8 @@
  * refused, and so is a second journal.
  *
  * Each call returns 0 if it is done, -1 with errno if a call of the system failed, and else a linnetshelf_status. errno is EAGAIN if
- * another has the queue, ENOENT if the folder has none, and EBADMSG if a file of the folder is not one of such a queue.
+ * another has the queue, ENOENT if the folder has none, EBADMSG if a file of the folder is not one of such a queue, and EFBIG if the
+ * log has more than 1 GiB.
  */
 #ifndef LINNETSHELF_JOURNAL_H
 #define LINNETSHELF_JOURNAL_H

@@ -121,7 +121,24 @@ static void keeps_others_out(void) {
     init(CONFIG);
     write_file("queue.log", "not a log");
     CHECK(count_in_folder() == 0); /* it has no frame */
+    init(CONFIG);
+    write_file("queue.save", "cq save 1\n12\nqueue.cqc\n");
+    CHECK(journal_open(folder, MOMENT, &other, &none) == -1 && errno == EBADMSG); /* it has no end */
+    write_file("queue.save", "cq save 1\n12\n../x\nend\n");
+    CHECK(journal_open(folder, MOMENT, &other, &none) == -1 && errno == EBADMSG);
     CHECK(journal_open("/tmp/no.such.folder", MOMENT, &other, &none) == -1 && errno == ENOENT);
+}
+
+/* A save that was cut short after its record was there is finished. */
+static void finishes_a_save(void) {
+    init("cq 1\n");
+    write_file("queue.cqc.77.part", CONFIG);
+    write_file("queue.log.77.part", "");
+    write_file("queue.save", "cq save 1\n77\nqueue.cqc\nqueue.log\nend\n");
+    CHECK(count_in_folder() == 0);
+    char path[256];
+    snprintf(path, sizeof path, "%s/queue.save", folder);
+    CHECK(access(path, F_OK) == -1);
 }
 
 /* In a child: appends, and writes each number to a pipe once it is stored, until it is killed. */
@@ -241,6 +258,7 @@ int main(int count, char **words) {
     CHECK(mkdtemp(folder) != NULL);
     keeps();
     keeps_others_out();
+    finishes_a_save();
     shares();
     if (rounds)
         survives_kills(rounds);
