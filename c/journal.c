@@ -7,7 +7,6 @@
 #include <fcntl.h>
 #include <inttypes.h>
 #include <pthread.h>
-#include <sched.h>
 #include <stdio.h>
 #include <stdlib.h>
 #include <string.h>
@@ -51,8 +50,8 @@ struct journal {
     pthread_mutex_t lock;
     pthread_cond_t wake, stored_more;
     uint64_t stored;
-    int waiting;
     bool has_begun, is_closing, has_ended;
+    bool is_woken; /* somebody began to wait, or to close, since the last turn began */
     int fault, error; /* what the thread ended with, and errno of it */
     uint64_t moment;
     linnetshelf_handle endpoint; /* the first one, for the caller */
@@ -188,6 +187,8 @@ static int write_part(int folder, const char *name, const char *from, size_t len
         result = sync_file(file, fsync);
     int error = errno;
     close(file);
+    if (result)
+        unlinkat(folder, part, 0);
     errno = error;
     return result;
 }
@@ -217,10 +218,15 @@ static int add_file(int folder, save *to, const char *name, const char *from, si
     return 0;
 }
 
-/* Removes the parts of a save that is given up. */
+/* Removes the parts of a save that is given up. A rename may return an error and be done nevertheless, so the record is removed
+ * first; if it cannot be removed, the parts stay. */
 static void give_up(int folder, const save *given) {
     char part[NAME_SIZE + 32];
     int error = errno;
+    if (unlinkat(folder, RECORD, 0) && errno != ENOENT) {
+        errno = error;
+        return;
+    }
     for (size_t i = 0; i < given->count; i++) {
         part_of(part, given->names[i], (unsigned long)getpid());
         unlinkat(folder, part, 0);
@@ -416,8 +422,11 @@ static int compare_names(const void *one, const void *other) {
 static int list_images(int folder, char names[][NAME_SIZE], size_t *count) {
     int again = openat(folder, ".", O_RDONLY | O_DIRECTORY | O_CLOEXEC);
     DIR *entries = again < 0 ? NULL : fdopendir(again);
-    if (!entries)
+    if (!entries) {
+        if (again >= 0)
+            close(again);
         return -1;
+    }
     struct dirent *entry;
     int result = 0;
     *count = 0;
@@ -638,10 +647,6 @@ static int turn(journal *of, bool *is_idle) {
     size_t count = 0;
     uint32_t status = linnetshelf_turn(&of->keeper);
     *is_idle = false;
-    if (status == LINNETSHELF_OUT_OF_MEMORY) {
-        sched_yield();
-        return 0; /* a later turn keeps it all */
-    }
     if (status != LINNETSHELF_DONE)
         return (int)status;
     int result = make_calls(of, &count);
@@ -649,15 +654,14 @@ static int turn(journal *of, bool *is_idle) {
     return result;
 }
 
-/* Waits until somebody waits for a message, or for a while. */
+/* Waits until somebody begins to wait for a message, or for a while. */
 static void rest(journal *of) {
     struct timespec until;
     clock_gettime(CLOCK_REALTIME, &until);
     until.tv_nsec += IDLE_MILLIS * 1000000;
     until.tv_sec += until.tv_nsec / 1000000000;
     until.tv_nsec %= 1000000000;
-    if (!of->waiting && !of->is_closing)
-        pthread_cond_timedwait(&of->wake, &of->lock, &until);
+    pthread_cond_timedwait(&of->wake, &of->lock, &until);
 }
 
 /* Makes turns until the journal is closed and all is stored, or until one fails. The lock is held. */
@@ -665,17 +669,22 @@ static void make_turns(journal *of) {
     bool is_idle = false, is_last = false;
     while (!of->fault && !(is_last && is_idle)) {
         is_last = of->is_closing;
+        of->is_woken = false;
         pthread_mutex_unlock(&of->lock);
         int fault = turn(of, &is_idle), error = errno;
         uint64_t stored = linnetshelf_stored(&of->keeper).index;
         pthread_mutex_lock(&of->lock);
+        /* A later turn keeps what one without memory did not. At the end there is none. */
+        bool is_refused = fault == LINNETSHELF_OUT_OF_MEMORY && !is_last;
+        if (is_refused)
+            fault = 0;
         of->fault = fault;
         of->error = error;
         if (stored != of->stored || fault) {
             of->stored = stored;
             pthread_cond_broadcast(&of->stored_more);
         }
-        if (is_idle && !fault)
+        if (is_refused || (is_idle && !fault && !of->is_woken))
             rest(of);
     }
 }
@@ -779,12 +788,10 @@ int journal_open(const char *folder, uint64_t moment, journal **out, linnetshelf
 
 int journal_wait(journal *open, uint64_t index) {
     pthread_mutex_lock(&open->lock);
-    open->waiting++;
-    while (open->stored <= index && !open->fault && !open->has_ended) {
-        pthread_cond_signal(&open->wake);
+    open->is_woken = true;
+    pthread_cond_signal(&open->wake);
+    while (open->stored <= index && !open->fault && !open->has_ended)
         pthread_cond_wait(&open->stored_more, &open->lock);
-    }
-    open->waiting--;
     int result = open->stored > index ? 0 : open->fault;
     if (result < 0)
         errno = open->error;
@@ -801,7 +808,7 @@ uint64_t journal_stored(journal *open) {
 
 int journal_close(journal *open) {
     pthread_mutex_lock(&open->lock);
-    open->is_closing = true;
+    open->is_closing = open->is_woken = true;
     pthread_cond_signal(&open->wake);
     pthread_mutex_unlock(&open->lock);
     return end(open);

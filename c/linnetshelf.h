@@ -76,9 +76,10 @@
  *
  *     linnetshelf_turn(&keeper);
  *     linnetshelf_call call;
- *     while ((call = linnetshelf_log_call(&keeper, room, sizeof room)).status == LINNETSHELF_DONE)
+ *     while ((call = linnetshelf_log_call(&keeper, room, size)).status == LINNETSHELF_DONE)
  *         linnetshelf_log_done(&keeper, make(file, &call, room));
  *
+ * At NO_ROOM call again with `call.length` bytes of room. NO_CALL says that all calls were made.
  * - The file is new, without bytes, and nobody else writes to it. A write puts all of its bytes, or it failed.
  * - A call that a signal interrupted may be made again. A sync that failed may not: a second one may succeed although bytes were lost.
  * - A turn is one frame of the log. It is stored with the next turn, or with linnetshelf_settle, once their calls were made. A crash

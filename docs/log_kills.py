@@ -8,7 +8,7 @@ from log_service import STRACE, Service, served_one_by_one, some_lines
 # The system calls at which the process is killed.
 CALLS = ["openat", "flock", "read", "write", "pwrite64", "fdatasync", "fsync", "ftruncate", "rename", "unlink", "close"]
 
-# The images are saved after each second of three short lines.
+# The images are saved after the second and the third of three short lines.
 CHECKPOINTS = ["--checkpoint", "5"]
 
 # A folder is made anew after this many kills, before its cycles are full.

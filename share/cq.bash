@@ -16,7 +16,10 @@ _cq() {
         _cq_offer "$word" < <(printf '%s\n' echo cycle race init write log read take drop check dump salvage migrate help --help)
     elif [ "${word#-}" != "$word" ]; then
         _cq_offer "$word" <<<--help
-        [ "$command" != read ] || _cq_offer "$word" < <(printf '%s\n' --back --from)
+        case $command in
+        read) _cq_offer "$word" < <(printf '%s\n' --back --from) ;;
+        log) _cq_offer "$word" < <(printf '%s\n' --for --syncs --checkpoint) ;;
+        esac
     else
         case $command:$COMP_CWORD in
         cycle:2 | init:3) _cq_offer "$word" < <(printf '%s\n' daily hourly minutely) ;;

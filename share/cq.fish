@@ -28,6 +28,9 @@ complete -c cq -n __fish_use_subcommand -a migrate -d 'Make a folder of version 
 complete -c cq -n __fish_use_subcommand -a help -d 'Print the help of a command'
 complete -c cq -n '__fish_seen_subcommand_from read' -l back -d 'From the end on, towards the first message'
 complete -c cq -n '__fish_seen_subcommand_from read' -l from -x -d 'The index to begin at'
+complete -c cq -n '__fish_seen_subcommand_from log' -l for -x -d 'End after this many seconds too'
+complete -c cq -n '__fish_seen_subcommand_from log' -l syncs -x -a '0 1 2' -d 'The syncs before the index of a line is printed'
+complete -c cq -n '__fish_seen_subcommand_from log' -l checkpoint -x -d 'Save the images each time that this many bytes of lines came'
 for command in init write log read take drop check dump salvage migrate
     complete -c cq -n "__cq_arguments $command 0" -a '(__fish_complete_directories)'
 end

@@ -12,9 +12,10 @@ const READ_BYTES: usize = 65_536;
 /// The bytes of one read, or why it failed.
 type Chunk = Result<Vec<u8>, ErrorKind>;
 
-/// An input that another thread reads, up to a deadline (ours). From then on reads fail with `TimedOut`, also in the middle of a line.
+/// An input that another thread reads, up to a deadline (ours). From then on each read that needs a new chunk fails with `TimedOut`, also
+/// in the middle of a line.
 ///
-/// The thread reads ahead, at most three chunks of 65,536 bytes. It ends with the input, or at its next read once this value is dropped:
+/// The thread reads ahead, at most three chunks of 65,536 bytes, which are lost at the deadline. It ends with the input, or at its next read once this value is dropped:
 /// a read that waits for ever keeps the thread until the process ends.
 #[derive(Drop)]
 pub struct TimedInput<'a, R> {

@@ -2,8 +2,8 @@
 //!
 //! The arguments are a folder, the number of threads, how many messages each of them appends in a batch, and for how many seconds. The
 //! threads wait until each batch is stored. With a batch of 1 each message is appended by `append_stored`. A word before the folder says
-//! otherwise: with `--one-sync` the log has one sync for a batch in place of two; with `--kept` they do not wait, and another thread stores what came; with `--alone` nothing is stored. Without an argument it
-//! prints what they are. The exit status is:
+//! otherwise: with `--one-sync` the log has one sync for a batch in place of two; with `--kept` they do not wait, and another thread stores
+//! what came; with `--alone` nothing is stored. Without an argument it prints what they are. The exit status is:
 //!
 //! - 0: all was measured.
 //! - 1: it was not.
