@@ -8,6 +8,7 @@ use std::fs::File;
 use std::io::{self, Stdout};
 use std::process::{self, ExitCode};
 use std::rt::{Clock, Files};
+use std::sync::Wait;
 use std::thread::Threads;
 
 /// The words of each start, after the program's name.
@@ -80,7 +81,19 @@ fn main(rt: HostRuntime) -> ExitCode {
 /// Starts the program with these words, and prints them and its status.
 fn start<R>(rt: &R, errors: &OnOutput, words: &[&str], process: u32) -> u8
 where
-    R: AllocGlobal + Files<File = File> + Input + Print + Clock + Threads + Sync + Clone + Drop,
+    R: AllocGlobal
+        + Files<File = File>
+        + Input
+        + Print
+        + Clock
+        + Threads
+        + Wait
+        + Sync
+        + Clone
+        + Send
+        + Drop
+        + 'static,
+    R::Reader: Send + Drop + 'static,
 {
     let _ = print!(rt; "cq");
     for word in words {
