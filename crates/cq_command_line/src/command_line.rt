@@ -112,9 +112,9 @@ const LOG: Description = Description {
     name: "log",
     about: "Keeps a queue open: appends each line as it comes, and prints its index once it is stored",
     after_help: "Input: until it ends, lines that are not empty, each in a cycle with room for it. A line has the time\n\
-     of the machine's clock. The index of a line is printed after a sync of queue.log in DIR: from\n\
-     then on the line survives a crash. At the end of the input the images are saved. After a crash\n\
-     the next command that may write saves them from the log.\n\n\
+     of the machine's clock. The index of a line is printed once the line is stored in queue.log in DIR:\n\
+     from then on it survives a crash, of the kind that --syncs says. At the end of the input the images\n\
+     are saved. After a crash the next command that may write saves them from the log.\n\n\
      Example:\n  printf 'hello\\nworld\\n' | cq log journal",
     arguments: &[
         FOLDER,

@@ -199,7 +199,7 @@ fn parses_the_words_of_a_reader(rt: HostRuntime) -> Result<(), Fail> {
 }
 
 /// Arguments of the other commands on a folder, each line with what it is.
-static OTHERS: [(&str, &str); 38] = [
+static OTHERS: [(&str, &str); 42] = [
     (
         "cq|write|q|18446744073709551615",
         "Write { folder: \"q\", moment: 18446744073709551615 }",
@@ -211,6 +211,22 @@ static OTHERS: [(&str, &str); 38] = [
     (
         "cq|log|q|--syncs|0",
         "Log { folder: \"q\", settings: LogSettings { seconds: None, syncs: Some(0), checkpoint: None } }",
+    ),
+    (
+        "cq|log|q|--for|1|--syncs|2|--checkpoint|4294967295",
+        "Log { folder: \"q\", settings: LogSettings { seconds: Some(1), syncs: Some(2), checkpoint: Some(4294967295) } }",
+    ),
+    (
+        "cq|log|q|--for|0",
+        "invalid value '0' for '--for <SECONDS>'",
+    ),
+    (
+        "cq|log|q|--syncs|3",
+        "invalid value '3' for '--syncs <SYNCS>'",
+    ),
+    (
+        "cq|log|q|--checkpoint|4294967296",
+        "invalid value '4294967296' for '--checkpoint <BYTES>'",
     ),
     ("cq|log", "<DIR>"),
     ("cq|log|q|now", "unexpected argument 'now'"),
