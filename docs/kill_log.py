@@ -17,7 +17,8 @@ faults  Each system call on its files and streams fails in turn with ENOSPC, EIO
 full    N times no file may grow past some length, and N / 5 times a file system is full (root alone may make it). Then there is
         space again.
 calls   The process gets SIGKILL at each of these calls in turn, also while it saves the images. It needs strace.
-syncs   Each acknowledgement has to be written after a sync of the log that follows the last write to it. It needs strace.
+syncs   With two syncs for each acknowledgement, one, or none: just as many come before it, and the last one after the last write to
+        the log. It needs strace.
 memory  Growths of memory are refused, by the library of docs/refused_memory.py: N growths of `cq log`, `write`, `take`, `drop`,
         `read` and `check` each on a folder with a log, or all if N is as large. It needs cc.
 wrong   The mode torn has to find wrong programs: one prints an index before the line is stored, one never syncs, whether a batch

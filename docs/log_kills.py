@@ -115,25 +115,34 @@ def try_call(tried, call, options):
 
 def try_syncs(tried, _runs):
     if tried.has("strace", "syncs"):
-        for syncs in ("2", "1"):
+        for syncs in (2, 1, 0):
             try_order(tried, syncs)
 
 
-def try_order(tried, syncs_wanted):
-    life, trace = Life(tried, f"syncs-{syncs_wanted}"), os.path.join(tried.room, "trace")
+def try_order(tried, syncs):
+    life, trace = Life(tried, f"syncs-{syncs}"), os.path.join(tried.room, "trace")
     front = [*STRACE, "-o", trace, "-e", "trace=pwrite64,fdatasync,write"]
-    status, acks, said = served_one_by_one([*front, tried.program], life.folder, [b"one", b"two", b"three"], ["--syncs", syncs_wanted])
+    status, acks, said = served_one_by_one([*front, tried.program], life.folder, [b"one", b"two", b"three"], ["--syncs", str(syncs)])
     if status or said or len(acks) != 3:
         tried.wrong.append(f"syncs: status {status}, {len(acks)} lines acknowledged, said {said!r}")
-    is_synced, syncs = False, 0
+    for made, is_synced in acknowledged(trace)[1:]:
+        tried.counts[f"acknowledgements after {syncs} syncs"] += 1
+        if made != syncs or not (is_synced or syncs == 0):
+            tried.wrong.append(f"syncs: {made} and not {syncs} before an index, the last one {'after' if is_synced else 'before'} the last write")
+    life.end()
+
+
+def acknowledged(trace):
+    """For each index that was printed: the syncs since the one before, and whether a sync came after the last write to the log."""
+    found, made, is_synced = [], 0, False
     with open(trace, encoding="ascii", errors="replace") as calls:
         for call in calls:
             name = call.split(None, 1)[1] if " " in call else call
             if name.startswith("pwrite64("):
                 is_synced = False
             elif name.startswith("fdatasync("):
-                is_synced, syncs = name.rstrip().endswith("= 0"), syncs + 1
-            elif name.startswith("write(1, ") and not is_synced:
-                tried.wrong.append(f"syncs: no sync before {name.strip()}")
-    tried.counts[f"syncs for three lines, an opening and a closing, with {syncs_wanted} for a batch"] = syncs
-    life.end()
+                is_synced, made = name.rstrip().endswith("= 0"), made + 1
+            elif name.startswith("write(1, "):
+                found.append((made, is_synced))
+                made = 0
+    return found
