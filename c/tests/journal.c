@@ -9,6 +9,7 @@
 #include <sched.h>
 #include <signal.h>
 #include <stdlib.h>
+#include <string.h>
 #include <sys/resource.h>
 #include <sys/stat.h>
 #include <sys/wait.h>
@@ -154,7 +155,41 @@ static void append_until_killed(int to) {
     }
 }
 
-/* Kills a process that appends, again and again: each message that was stored is there. */
+static double now(void) {
+    struct timespec at;
+    CHECK(clock_gettime(CLOCK_MONOTONIC, &at) == 0);
+    return (double)at.tv_sec + (double)at.tv_nsec / 1e9;
+}
+
+/* Kills a process while it opens the folder, where it saves what the log has: after this share of the time that an opening takes. */
+static void kill_while_it_opens(double share) {
+    static double seconds = 0.002;
+    int ends[2];
+    CHECK(pipe(ends) == 0);
+    double began = now();
+    pid_t child = fork();
+    if (child == 0) {
+        journal *open = NULL;
+        linnetshelf_handle queue = {0};
+        if (journal_open(folder, MOMENT, &open, &queue) || write(ends[1], "", 1) != 1)
+            _exit(1);
+        pause();
+    }
+    close(ends[1]);
+    char byte;
+    if (share < 1) {
+        struct timespec part = {0, (long)(share * seconds * 1e9)};
+        nanosleep(&part, NULL);
+    } else if (read(ends[0], &byte, 1) == 1) {
+        seconds = now() - began < 0.5 ? now() - began : 0.5;
+    }
+    kill(child, SIGKILL);
+    close(ends[0]);
+    int status = 0;
+    CHECK(waitpid(child, &status, 0) == child && WIFSIGNALED(status));
+}
+
+/* Kills a process that appends, again and again, and then others that open what it left: each message that was stored is there. */
 static void survives_kills(int rounds) {
     init(CONFIG);
     uint32_t stored = 0;
@@ -178,6 +213,8 @@ static void survives_kills(int rounds) {
         close(ends[0]);
         int status = 0;
         CHECK(waitpid(child, &status, 0) == child && WIFSIGNALED(status));
+        for (int i = 0; i < 3; i++)
+            kill_while_it_opens((round * 3 + i) % 10 / 9.0);
         uint32_t found = count_in_folder();
         CHECK(found >= stored && found <= stored + 1);
         stored = found;
@@ -253,7 +290,26 @@ static void shares(void) {
     CHECK(journal_close(open) == 0);
 }
 
+/* Holds the queue of a folder: appends and stores a message, prints its index, and closes at the end of the input. */
+static void hold(const char *held) {
+    journal *open = NULL;
+    linnetshelf_handle queue = {0};
+    CHECK(journal_open(held, MOMENT, &open, &queue) == 0);
+    uint64_t index = linnetshelf_append(&queue, MOMENT, "held", 4).index;
+    CHECK(journal_wait(open, index) == 0);
+    CHECK(printf("%016llx\n", (unsigned long long)index) > 0 && fflush(stdout) == 0);
+    while (getchar() != EOF)
+        ;
+    linnetshelf_destroy(queue);
+    CHECK(journal_close(open) == 0);
+}
+
+/* With `hold FOLDER` it holds that queue for c/tests/live.py. Else it makes the tests, with this number of kills. */
 int main(int count, char **words) {
+    if (count == 3 && strcmp(words[1], "hold") == 0) {
+        hold(words[2]);
+        return failures != 0;
+    }
     int rounds = count > 1 ? atoi(words[1]) : 10;
     CHECK(mkdtemp(folder) != NULL);
     keeps();

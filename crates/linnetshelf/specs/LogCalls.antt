@@ -1,6 +1,6 @@
 -- What the calls say that hand out the calls of a log.
 use Rattle.std.specs.Prelude.{◌≡◌, ◌⊎◌, ◌<◌, ◌++◌, ℕ, Bool, List, Result, Ok, Err, Some, drop, false, length, slice_get, true}
-use Rattle.cq_kept_calls.specs.CallKeepers.{AreAllMade, CallKeeperFacts, calls_of, let_go_of}
+use Rattle.cq_kept_calls.specs.CallKeepers.{AreAllMade, CallKeeperFacts, asked_calls, let_go_of}
 use Rattle.cq_kept_calls.specs.Turns.{Notes}
 use Rattle.cq_kept_calls.specs.declared.fault.CallFault.{CallFault}
 use Rattle.cq_kept_calls.specs.declared.fault.CallFault.TheVariants as unnoted
@@ -17,7 +17,7 @@ use Rattle.linnetshelf.specs.declared.status.Status.TheVariants as status
 -- the oldest call that is left, with its bytes
 pub record IsNextCall (keeper : CallKeeperFacts) (which : Call) (bytes : List ℕ) : Type 0 where
   pub event : Event
-  pub at : slice_get (calls_of keeper.kept) keeper.made ≡ Some event
+  pub at : slice_get (asked_calls keeper.kept) keeper.made ≡ Some event
   pub which_is : which ≡ event.call
   pub bytes_are : bytes ≡ event.bytes
 

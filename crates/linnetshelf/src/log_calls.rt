@@ -8,7 +8,7 @@ ghost use Rattle.linnetshelf.specs.declared.status.Status.TheVariants.{WrongKind
 
 use crate::status::Status;
 use cq_handle::{Handle, Held};
-use cq_kept_calls::{CallFault, CallKeeper, Stopped};
+use cq_kept_calls::{CallFault, CallKeeper, KeeperStopped};
 use cq_log_calls::LogCall;
 use cq_log_file::Call;
 
@@ -64,7 +64,7 @@ fn call_into(keeper: &CallKeeper, room: &mut [u8]) -> CallInto
     match keeper.next_call() {
         Ok(Some(call)) => copy_into(call, room),
         Ok(None) => CallInto::NoCall,
-        Err(Stopped) => CallInto::Stopped,
+        Err(KeeperStopped) => CallInto::Stopped,
     }
 }
 
