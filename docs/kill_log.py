@@ -12,11 +12,12 @@ torn    N times the process is killed at a random moment or call, or a sync fail
         such as blocks with open gates, and the file has the old length, the new one, or one between. Where lines are acknowledged
         after one sync, each byte is the old one or the new one. Each kill is tried with three such logs. It needs strace (apt-get install strace).
 faults  Each system call on its files and streams fails in turn with ENOSPC, EIO or EINTR, or fails with EIO from then on:
-        while it opens a new queue, one that was closed, or one that was killed, while it stores lines, and while it closes.
-        N of these are tried, or all if N is as large. It needs strace.
+        while it opens a new queue, one that was closed, or one that was killed, while it stores lines, while it saves the images,
+        and while it closes. N of these are tried, or all if N is as large. It needs strace.
 full    N times no file may grow past some length, and N / 5 times a file system is full (root alone may make it). Then there is
-        space again.
-calls   The process gets SIGKILL at each of these calls in turn, also while it saves the images. It needs strace.
+        space again. Some of these services save the images while lines come.
+calls   The process gets SIGKILL at each of these calls in turn, also while it saves the images, and with one sync for each
+        acknowledgement. It needs strace.
 syncs   With two syncs for each acknowledgement, one, or none: just as many come before it, and the last one after the last write to
         the log. It needs strace.
 memory  Growths of memory are refused, by the library of docs/refused_memory.py: N growths of `cq log`, `write`, `take`, `drop`,

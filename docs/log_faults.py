@@ -1,5 +1,6 @@
 """System calls of `cq log` that fail, and devices that are full: the modes faults and full of docs/kill_log.py."""
 import collections
+import itertools
 import os
 import re
 import resource
@@ -25,6 +26,15 @@ SILENT = {"unlink", "lseek", "fchmod"}
 
 LINES = [b"one", b"two", b"three"]
 
+# With each of these options each call fails. The images are saved after the second and the third line.
+OPTIONS = [[], ["--checkpoint", "5", "--syncs", "1"]]
+
+# With one of these a device becomes full.
+FULL_OPTIONS = [[], ["--checkpoint", "20000"], ["--checkpoint", "20000", "--syncs", "1"]]
+
+# What is said where a checkpoint is not made, and the queue goes on.
+UNSAVED = re.compile(rb"(cq: [^\n]+: the images are not saved yet, and the queue goes on\n)+")
+
 # What is said of a fault. ERRORS.md has these texts. That the log was changed is said where a rename to it failed.
 TEXTS = re.compile(
     rb"(cq: (folder fault|no queue here|file fault: [\w.-]+|read fault|write fault|the log could not be begun: [^\n]+|"
@@ -33,10 +43,10 @@ TEXTS = re.compile(
 )
 
 
-def calls_on(life, trace):
+def calls_on(life, trace, options):
     """Each system call of `cq log` from the first on its folder on: its name, its number among those of this name, and whether
     its failure loses nothing."""
-    served_one_by_one([*STRACE, "-o", trace, life.tried.program], life.folder, LINES)
+    served_one_by_one([*STRACE, "-o", trace, life.tried.program], life.folder, LINES, options)
     numbers, found, is_there, seen = collections.Counter(), [], False, Seen()
     with open(trace, encoding="utf-8", errors="replace") as lines:
         for line in lines:
@@ -82,9 +92,10 @@ def is_well_after(life, is_silent, answer, lines, what):
 def is_answer(life, is_silent, answer, lines, what):
     status, acks, said = answer
     if status == 0:
-        if len(acks) != len(lines) or said:
+        is_unsaved = UNSAVED.fullmatch(said)
+        if len(acks) != len(lines) or said and not is_unsaved:
             life.fails(what, f"status 0, {len(acks)} lines acknowledged, said {said!r}")
-        if not is_silent:
+        if not is_silent and not is_unsaved:
             life.fails(what, "status 0: the fault was not named")
         life.tried.counts["faults: done without"] += 1
     elif status == 1 and TEXTS.fullmatch(said):
@@ -118,17 +129,18 @@ def try_faults(tried, runs):
         return
     trace, cases = os.path.join(tried.room, "trace"), []
     lives = ready_lives(tried)
-    for state, life in lives.items():
+    for (state, life), options in itertools.product(lives.items(), OPTIONS):
         copy = life.copied("traced")
-        calls = calls_on(copy, trace)
+        calls = calls_on(copy, trace, options)
         tried.counts["faults: calls that may fail"] += len(calls)
         # Where all writes fail nothing can be said.
-        cases += [(state, *call, error) for call in calls for error in ERRORS if (call[0], error) != ("write", ("EIO", "+"))]
+        errors = [(call, error) for call in calls for error in ERRORS if (call[0], error) != ("write", ("EIO", "+"))]
+        cases += [(state, options, *call, error) for call, error in errors]
         copy.end()
-    for state, name, number, is_silent, (error, how) in cases if runs >= len(cases) else tried.dice.sample(cases, runs):
-        life, what = lives[state].copied("faults"), f"{state}, {error} at {name} {number}{how}"
+    for state, options, name, number, is_silent, (error, how) in cases if runs >= len(cases) else tried.dice.sample(cases, runs):
+        life, what = lives[state].copied("faults"), " ".join([f"{state}, {error} at {name} {number}{how}", *options])
         front = [*STRACE, "-o", trace, "-e", f"trace={name}", "-e", f"inject={name}:error={error}:when={number}{how}"]
-        answer = served_one_by_one([*front, tried.program], life.folder, LINES)
+        answer = served_one_by_one([*front, tried.program], life.folder, LINES, options)
         with open(trace, encoding="utf-8", errors="replace") as lines:
             if "(INJECTED)" not in lines.read():
                 tried.wrong.append(f"{what}: nothing was injected")
@@ -137,7 +149,7 @@ def try_faults(tried, runs):
         life.end()
 
 
-def limited(program, folder, limit):
+def limited(program, folder, limit, options):
     """What `cq log` gives where no file may have more bytes than this."""
 
     def begin():
@@ -145,7 +157,8 @@ def limited(program, folder, limit):
         resource.setrlimit(resource.RLIMIT_FSIZE, (limit, limit))
 
     given = b"".join(line + b"\n" for line in LINES)
-    done = subprocess.run([program, "log", folder], input=given, capture_output=True, preexec_fn=begin, check=False)
+    words = [program, "log", folder, *options]
+    done = subprocess.run(words, input=given, capture_output=True, preexec_fn=begin, check=False)
     return done.returncode, indexes_of(done.stdout), done.stderr
 
 
@@ -153,10 +166,10 @@ def try_limits(tried, runs):
     """Files that may not grow past a limit, of which an append may write the first bytes."""
     ready, limits = Life(tried, "ready"), [*range(400), *range(400, 10_000, 40)]
     for limit in limits if runs >= len(limits) else tried.dice.sample(limits, runs):
-        life = ready.copied("limit")
-        answer = limited(tried.program, life.folder, limit)
+        life, options = ready.copied("limit"), tried.dice.choice(OPTIONS)
+        answer = limited(tried.program, life.folder, limit, options)
         tried.counts["full: files that might not grow"] += answer[0] != 0
-        is_well_after(life, True, answer, LINES, f"files of at most {limit} bytes")
+        is_well_after(life, True, answer, LINES, " ".join([f"files of at most {limit} bytes", *options]))
         life.end()
 
 
@@ -166,12 +179,12 @@ def try_device(tried, place, what):
     state = os.statvfs(place)
     with open(filler, "wb") as file:
         file.write(bytes(max(0, state.f_bavail * state.f_bsize - tried.dice.randint(0, 300_000))))
-    lines = [b"%0400d" % number for number in range(300)]
+    lines, options = [b"%0400d" % number for number in range(300)], tried.dice.choice(FULL_OPTIONS)
     given = b"".join(line + b"\n" for line in lines)
-    status, printed, said = tried.run("log", life.folder, given=given)
+    status, printed, said = tried.run("log", life.folder, *options, given=given)
     if status:
         acked = len(lines_of(printed))
-        stage = "opening" if acked == 0 else "closing" if acked == len(lines) else "storing lines"
+        stage = "opening" if acked == 0 else "closing" if acked == len(lines) else "storing lines or saving them"
         tried.counts[f"full: no space while {stage}"] += 1
     is_well = is_answer(life, True, (status, indexes_of(printed), said), lines, what) and is_written_or_refused(life, what)
     os.remove(filler)

@@ -8,8 +8,8 @@ from log_service import STRACE, Service, served_one_by_one, some_lines
 # The system calls at which the process is killed.
 CALLS = ["openat", "flock", "read", "write", "pwrite64", "fdatasync", "fsync", "ftruncate", "rename", "unlink", "close"]
 
-# The images are saved after the second and the third of three short lines.
-CHECKPOINTS = ["--checkpoint", "5"]
+# With each of these options each call comes. The images are saved after the second and the third of three short lines.
+OPTIONS = [[], ["--checkpoint", "5"], ["--checkpoint", "5", "--syncs", "1"]]
 
 # A folder is made anew after this many kills, before its cycles are full.
 KILLS_IN_FOLDER = 25
@@ -98,7 +98,7 @@ def try_calls(tried, _runs):
     if not tried.has("strace", "calls"):
         return
     for call in CALLS:
-        for options in ([], CHECKPOINTS):
+        for options in OPTIONS:
             try_call(tried, call, options)
 
 
@@ -122,13 +122,15 @@ def try_syncs(tried, _runs):
 def try_order(tried, syncs):
     life, trace = Life(tried, f"syncs-{syncs}"), os.path.join(tried.room, "trace")
     front = [*STRACE, "-o", trace, "-e", "trace=pwrite64,fdatasync,write"]
-    status, acks, said = served_one_by_one([*front, tried.program], life.folder, [b"one", b"two", b"three"], ["--syncs", str(syncs)])
+    lines = [b"one", b"two", b"three"]
+    status, acks, said = served_one_by_one([*front, tried.program], life.folder, lines, ["--syncs", str(syncs)])
     if status or said or len(acks) != 3:
         tried.wrong.append(f"syncs: status {status}, {len(acks)} lines acknowledged, said {said!r}")
     for made, is_synced in acknowledged(trace)[1:]:
         tried.counts[f"acknowledgements after {syncs} syncs"] += 1
         if made != syncs or not (is_synced or syncs == 0):
-            tried.wrong.append(f"syncs: {made} and not {syncs} before an index, the last one {'after' if is_synced else 'before'} the last write")
+            end = "after" if is_synced else "before"
+            tried.wrong.append(f"syncs: {made} and not {syncs} before an index, the last one {end} the last write")
     life.end()
 
 

@@ -1,9 +1,11 @@
 """Memory that is refused to `cq log`, and to commands that find a log: the mode memory of docs/kill_log.py."""
+import functools
 import os
 import pathlib
 import subprocess
 
 import refused_memory
+from log_faults import OPTIONS, UNSAVED
 from log_kills import left_by_a_kill
 from log_life import Life
 from log_service import indexes_of, served_one_by_one
@@ -50,10 +52,10 @@ class Refusals:
         return is_there
 
 
-def serve(life, refusals, number, what):
+def serve(life, refusals, number, what, options=()):
     """`cq log` has to say that memory was refused, or to do without."""
-    status, acks, said = served_one_by_one([*refusals.front(number), life.tried.program], life.folder, LINES)
-    is_done = status == 0 and not said and len(acks) == len(LINES)
+    status, acks, said = served_one_by_one([*refusals.front(number), life.tried.program], life.folder, LINES, options)
+    is_done = status == 0 and len(acks) == len(LINES) and (not said or UNSAVED.fullmatch(said))
     if not is_done and not (status == 1 and any(text in said for text in REFUSED)):
         life.fails(what, f"status {status}, {len(acks)} lines acknowledged, said {said!r}")
     life.compared(LINES, acks, what)
@@ -112,7 +114,8 @@ def check(life, refusals, number, what):
         life.fails(what, f"{status} {printed!r} {said!r}")
 
 
-COMMANDS = {"log": serve, "write": write, "take": take, "drop": drop, "read": read, "check": check}
+SERVICES = {" ".join(["log", *options]): functools.partial(serve, options=options) for options in OPTIONS}
+COMMANDS = {**SERVICES, "write": write, "take": take, "drop": drop, "read": read, "check": check}
 
 
 def try_memory(tried, runs):
