@@ -39,7 +39,7 @@ UNSAVED = re.compile(rb"(cq: [^\n]+: the images are not saved yet, and the queue
 TEXTS = re.compile(
     rb"(cq: (folder fault|no queue here|file fault: [\w.-]+|read fault|write fault|the log could not be begun: [^\n]+|"
     rb"the log is not opened: [^\n]+|the log was changed while the queue was opened: [^\n]+|the log has stopped: [^\n]+|"
-    rb"[^\n]*: all lines with an index are in queue\.log[^\n]*)\n)+"
+    rb"[^\n]*: all lines with an index are in queue\.log[^\n]*|[^\n]+: the images are not saved yet, and the queue goes on)\n)+"
 )
 
 
