@@ -116,6 +116,10 @@
 extern "C" {
 #endif
 
+/* The version of this header: a million for each of its first number, a thousand for each of its second, and one for each of its
+ * third. linnetshelf_version returns that of the library. */
+#define LINNETSHELF_VERSION 1000 /* 0.1.0 */
+
 /* How a call went. linnetshelf_text has a text for each. */
 typedef enum {
     LINNETSHELF_DONE = 0, /* done */
@@ -512,11 +516,14 @@ linnetshelf_answer linnetshelf_shelf_queue(linnetshelf_handle *user);
  * moment. A dropped queue that somebody still reads has no place. */
 linnetshelf_answer linnetshelf_shelf_living(linnetshelf_handle *writer);
 
-/* Texts. */
+/* Texts, sizes and the version. */
 
 /* Copies the text of a status and a zero byte after it to `room`, if it has space for both. Returns the length of the text,
  * which is below 128. A number that is no status has a text too. */
 size_t linnetshelf_text(uint32_t status, char *room, size_t size);
+
+/* Returns the version of the library. It is LINNETSHELF_VERSION if the library is of the same version as this header. */
+uint32_t linnetshelf_version(void);
 
 /* Returns the size in bytes of a struct, for a caller that declares it itself: of a handle (0), of settings (1), of an answer
  * (2), of an answer of a shelf (3), of the settings of a shelf (4), of a call of a log (5). For other numbers it is 0. */

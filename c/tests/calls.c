@@ -592,6 +592,7 @@ static void statuses_have_texts(void) {
 
 int main(void) {
     settings_are_tested();
+    CHECK(linnetshelf_version() == LINNETSHELF_VERSION);
     messages_are_appended_and_read();
     a_small_room_passes_over_what_was_dropped();
     a_cycle_gets_full();

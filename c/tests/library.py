@@ -54,6 +54,7 @@ CALLS = {
     "shelf_next": (ShelfAnswer, HANDLE, BYTES, SIZE),
     "text": (SIZE, WORD, BYTES, SIZE),
     "size": (SIZE, WORD),
+    "version": (WORD,),
 }
 
 

@@ -75,6 +75,7 @@ CALLS = {
     "saved_set_floor": (_WORD, _HANDLE, _WORD),
     "open": (_WORD, _HANDLE, _HANDLE),
     "text": (_SIZE, _WORD, _BYTES, _SIZE),
+    "version": (_WORD,),
     "size": (_SIZE, _WORD),
 }
 

@@ -24,7 +24,7 @@
 //! | `linnetshelf_shelf_next`, `_read_at`, `_take` | read and take its messages, into a buffer of the caller |
 //! | `linnetshelf_shelf_direction`, `_to_start`, `_to_end`, `_move_to` | move a reader |
 //! | `linnetshelf_shelf_position`, `_queue`, `_living` | say where it is, and how many queues live |
-//! | `linnetshelf_size`, `_text` | sizes of types, and texts of statuses |
+//! | `linnetshelf_size`, `_text`, `_version` | sizes of types, texts of statuses, and the version |
 #![tactic(auto)]
 
 mod answer;
@@ -50,3 +50,4 @@ mod shelf_settings;
 mod shelf_taking;
 mod status;
 mod text;
+mod version;
