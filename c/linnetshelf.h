@@ -37,9 +37,9 @@
  * and is destroyed there: that it may go to another is not proved. Make no call from a signal handler, nor in a child after fork().
  *
  * BYTES. `bytes`, `names` and `name` point to bytes to read, and a pointer `room` to a buffer of yours to write. The length in
- * bytes is the next argument. The library keeps none of these addresses. They are never NULL, even if the length is 0, and
- * nobody else writes to the bytes during the call. `settings` and `out` are not NULL, and `out` is not the handle that the same
- * call is made on.
+ * bytes is the next argument. `lengths` and `answers` point to as many as `count` says. The library keeps none of these addresses.
+ * They are never NULL, even if the length is 0, and nobody else writes to what is there during the call. `settings` and `out` are
+ * not NULL, and `out` is not the handle that the same call is made on.
  *
  * A BUFFER THAT IS TOO SMALL. A read or a take returns NO_ROOM if the message is longer than the buffer; the answer has the
  * length that is needed. The message was not read or taken: nothing is recorded, the endpoint has not seen it, and neither the
@@ -115,6 +115,10 @@
 #ifdef __cplusplus
 extern "C" {
 #endif
+
+/* The version of this header: a million for each of its first number, a thousand for each of its second, and one for each of its
+ * third. linnetshelf_version returns that of the library. */
+#define LINNETSHELF_VERSION 1000 /* 0.1.0 */
 
 /* How a call went. linnetshelf_text has a text for each. */
 typedef enum {
@@ -205,6 +209,14 @@ typedef struct {
     uint32_t status; /* a linnetshelf_status */
 } linnetshelf_answer;
 
+/* What a call returns that appends or reads many messages. Fields that it does not report are 0. */
+typedef struct {
+    uint64_t index;  /* of the last message that was appended or read, as in linnetshelf_answer */
+    uint64_t count;  /* how many messages were appended or read */
+    uint32_t length; /* in bytes; at NO_ROOM the length of the next message, for which too few bytes are left */
+    uint32_t status; /* a linnetshelf_status: DONE if that was all, and else why the next message was not appended or read */
+} linnetshelf_many;
+
 /* How a shelf is made. */
 typedef struct {
     linnetshelf_settings queue; /* how each of its queues is made */
@@ -260,6 +272,15 @@ void linnetshelf_destroy(linnetshelf_handle handle);
  * NO_CYCLE_LEFT, CLOSED. */
 linnetshelf_answer linnetshelf_append(linnetshelf_handle *endpoint, uint64_t moment, const void *bytes, size_t length);
 
+/* Appends `count` messages, as that many calls of linnetshelf_append with this moment, and stops at the first that is refused.
+ * Their bytes follow each other in the `size` bytes at `bytes`, and lengths[k] is the length of message k. Returns how many were
+ * appended, the index of the last of them, and why the next one was not. What was appended stays so. Messages of others may come
+ * between them.
+ * NO_ROOM (fewer bytes are left than the next message has), and all that linnetshelf_append returns. After BUSY call again with
+ * the messages that are left. */
+linnetshelf_many linnetshelf_append_many(linnetshelf_handle *endpoint, uint64_t moment, const void *bytes, size_t size,
+                                         const uint32_t *lengths, size_t count);
+
 /* Begins a message of at most `most` bytes, which is put in parts. Until it is completed or given up, others that want to write
  * are BUSY. Refused as linnetshelf_append is. */
 uint32_t linnetshelf_begin(linnetshelf_handle *endpoint, uint64_t moment, uint32_t most);
@@ -292,6 +313,15 @@ uint32_t linnetshelf_close(linnetshelf_handle *endpoint);
  * stays where it is then. */
 linnetshelf_answer linnetshelf_next(linnetshelf_handle *endpoint, void *room, size_t size);
 
+/* Reads up to `count` next messages, as that many calls of linnetshelf_next, and stops at the first that reads none. Their bytes
+ * follow each other in the buffer `room`, and answers[k] is what linnetshelf_next returns for message k: its index and length.
+ * Answers after the last message are unchanged. Returns how many were read, the index of the last of them, and why the next one
+ * was not.
+ * NOT_YET and FINISHED (forwards), BEFORE_START (backwards), NO_ROOM (the next message is longer than what is left of the buffer;
+ * it is not read, and the next call finds it). */
+linnetshelf_many linnetshelf_next_many(linnetshelf_handle *endpoint, void *room, size_t size, linnetshelf_answer *answers,
+                                       size_t count);
+
 /* Reads the message with this index into the buffer `room`, and returns its length. The endpoint stays where it is. NOT_YET,
  * FINISHED, NEVER, GONE, NO_ROOM (see above). */
 linnetshelf_answer linnetshelf_read_at(linnetshelf_handle *endpoint, uint64_t index, void *room, size_t size);
@@ -308,6 +338,10 @@ uint32_t linnetshelf_to_start(linnetshelf_handle *endpoint);
 
 /* Moves to the end, and returns it: the index that the next message of the current cycle gets. */
 linnetshelf_answer linnetshelf_to_end(linnetshelf_handle *endpoint);
+
+/* Returns the end: the index that the next message of the current cycle gets. The endpoint stays where it is, and has seen this
+ * end. OUT_OF_MEMORY: the queue has as many endpoints as it may have. */
+linnetshelf_answer linnetshelf_end(linnetshelf_handle *endpoint);
 
 /* Returns where the endpoint is: the message that it reads next forwards has this index or a later one. */
 linnetshelf_answer linnetshelf_cursor(linnetshelf_handle *endpoint);
@@ -512,14 +546,18 @@ linnetshelf_answer linnetshelf_shelf_queue(linnetshelf_handle *user);
  * moment. A dropped queue that somebody still reads has no place. */
 linnetshelf_answer linnetshelf_shelf_living(linnetshelf_handle *writer);
 
-/* Texts. */
+/* Texts, sizes and the version. */
 
 /* Copies the text of a status and a zero byte after it to `room`, if it has space for both. Returns the length of the text,
  * which is below 128. A number that is no status has a text too. */
 size_t linnetshelf_text(uint32_t status, char *room, size_t size);
 
+/* Returns the version of the library. It is LINNETSHELF_VERSION if the library is of the same version as this header. */
+uint32_t linnetshelf_version(void);
+
 /* Returns the size in bytes of a struct, for a caller that declares it itself: of a handle (0), of settings (1), of an answer
- * (2), of an answer of a shelf (3), of the settings of a shelf (4), of a call of a log (5). For other numbers it is 0. */
+ * (2), of an answer of a shelf (3), of the settings of a shelf (4), of a call of a log (5), of what a call returns that appends
+ * or reads many messages (6). For other numbers it is 0. */
 size_t linnetshelf_size(uint32_t which);
 
 #ifdef __cplusplus

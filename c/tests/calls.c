@@ -100,6 +100,127 @@ static void messages_are_appended_and_read(void) {
     linnetshelf_destroy(queue);
 }
 
+static int is_many(linnetshelf_many many, uint64_t count, uint64_t index, uint32_t length, uint32_t status) {
+    return many.count == count && many.index == index && many.length == length && many.status == status;
+}
+
+static int is_answer(linnetshelf_answer answer, uint64_t index, uint32_t length) {
+    return answer.index == index && answer.length == length && answer.status == STATUS(DONE);
+}
+
+static void many_messages_are_appended(void) {
+    linnetshelf_handle queue = queue_of("", 5 * DAY), other = {0};
+    const uint32_t lengths[] = {3, 5, 1, 4}, empty[] = {2, 0, 1};
+    uint64_t first = 5ull << 32;
+    char room[64];
+    CHECK(is_many(linnetshelf_append_many(&queue, 5 * DAY, "", 0, lengths, 0), 0, 0, 0, STATUS(DONE)));
+    CHECK(linnetshelf_end(&queue).index == first);
+    CHECK(is_many(linnetshelf_append_many(&queue, 5 * DAY, "onethree!four", 13, lengths, 4), 4, first + 3, 0, STATUS(DONE)));
+    /* Bytes after the last message are no part of it, and each append is as one of linnetshelf_append. */
+    CHECK(is_many(linnetshelf_append_many(&queue, 5 * DAY, "more than", 9, lengths, 1), 1, first + 4, 0, STATUS(DONE)));
+    CHECK(is_many(linnetshelf_append_many(&queue, 5 * DAY, "abcdefgh", 8, lengths, 4), 2, first + 6, 1, STATUS(NO_ROOM)));
+    CHECK(is_many(linnetshelf_append_many(&queue, 5 * DAY, "abc", 2, lengths, 4), 0, 0, 3, STATUS(NO_ROOM)));
+    CHECK(is_many(linnetshelf_append_many(&queue, 5 * DAY, "abc", 3, empty, 3), 1, first + 7, 0, STATUS(BAD_ROOM)));
+    CHECK(is_many(linnetshelf_append_many(&queue, UINT64_MAX, "abc", 3, lengths, 1), 0, 0, 0, STATUS(BAD_MOMENT)));
+    static const char *const texts[] = {"one", "three", "!", "four", "mor", "abc", "defgh", "ab"};
+    for (uint64_t k = 0; k < 8; k++)
+        CHECK(is_message(linnetshelf_next(&queue, room, sizeof room), first + k, room, texts[k]));
+    CHECK(linnetshelf_next(&queue, room, sizeof room).status == STATUS(NOT_YET));
+
+    CHECK(linnetshelf_split(&queue, &other) == STATUS(DONE));
+    CHECK(linnetshelf_begin(&other, 5 * DAY, 4) == STATUS(DONE));
+    CHECK(is_many(linnetshelf_append_many(&queue, 5 * DAY, "abc", 3, lengths, 1), 0, 0, 0, STATUS(BUSY)));
+    CHECK(is_many(linnetshelf_append_many(&other, 5 * DAY, "abc", 3, lengths, 1), 0, 0, 0, STATUS(WRITING)));
+    CHECK(linnetshelf_roll_back(&other) == STATUS(DONE));
+    linnetshelf_destroy(other);
+    CHECK(linnetshelf_close(&queue) == STATUS(DONE));
+    CHECK(is_many(linnetshelf_append_many(&queue, 5 * DAY, "abc", 3, lengths, 1), 0, 0, 0, STATUS(CLOSED)));
+    linnetshelf_destroy(queue);
+}
+
+/* The messages before one that is refused stay, and its cycle gets no later one of the same call. */
+static void many_messages_fill_a_cycle(void) {
+    linnetshelf_settings tiny = SMALL;
+    tiny.cells = 64;
+    tiny.index_count = 8;
+    linnetshelf_handle queue = {0};
+    char messages[201];
+    const uint32_t lengths[] = {40, 60, 100, 1};
+    memset(messages, 'x', sizeof messages);
+    CHECK(linnetshelf_create(&tiny, "", 0, 0, &queue) == STATUS(DONE));
+    CHECK(is_many(linnetshelf_append_many(&queue, 0, messages, sizeof messages, lengths, 4), 2, 1, 0, STATUS(CYCLE_FULL)));
+    CHECK(linnetshelf_end(&queue).index == 2);
+    CHECK(is_many(linnetshelf_append_many(&queue, DAY, messages, 101, lengths + 2, 2), 2, (1ull << 32) + 1, 0, STATUS(DONE)));
+    linnetshelf_destroy(queue);
+}
+
+static void many_messages_are_read(void) {
+    linnetshelf_handle queue = queue_of("", 5 * DAY);
+    uint64_t first = 5ull << 32, second = 7ull << 32;
+    const uint32_t lengths[] = {3, 5, 1};
+    char room[16];
+    linnetshelf_answer answers[4] = {{9, 9, 9}, {9, 9, 9}, {9, 9, 9}, {9, 9, 9}};
+    CHECK(is_many(linnetshelf_next_many(&queue, room, sizeof room, answers, 4), 0, 0, 0, STATUS(NOT_YET)));
+    CHECK(linnetshelf_append_many(&queue, 5 * DAY, "onethree!", 9, lengths, 3).status == STATUS(DONE));
+    CHECK(linnetshelf_append(&queue, 7 * DAY, "later", 5).index == second);
+
+    /* A message that does not fit in what is left is not passed over. */
+    memset(room, '.', sizeof room);
+    CHECK(is_many(linnetshelf_next_many(&queue, room, 7, answers, 4), 1, first, 5, STATUS(NO_ROOM)));
+    CHECK(is_answer(answers[0], first, 3) && answers[1].status == 9 && memcmp(room, "one.............", 16) == 0);
+    CHECK(linnetshelf_cursor(&queue).index == first + 1);
+    CHECK(is_many(linnetshelf_next_many(&queue, room, 4, answers, 4), 0, 0, 5, STATUS(NO_ROOM)));
+    CHECK(is_many(linnetshelf_next_many(&queue, room, sizeof room, answers, 0), 0, 0, 0, STATUS(DONE)));
+    CHECK(is_many(linnetshelf_next_many(&queue, room, sizeof room, answers, 2), 2, first + 2, 0, STATUS(DONE)));
+    CHECK(is_answer(answers[0], first + 1, 5) && is_answer(answers[1], first + 2, 1) && answers[2].status == 9);
+    CHECK(memcmp(room, "three!..........", 16) == 0);
+
+    /* The messages of one call may be of several cycles. */
+    CHECK(linnetshelf_to_start(&queue) == STATUS(DONE));
+    CHECK(is_many(linnetshelf_next_many(&queue, room, 14, answers, 4), 4, second, 0, STATUS(DONE)));
+    CHECK(is_answer(answers[2], first + 2, 1) && is_answer(answers[3], second, 5) && memcmp(room, "onethree!later..", 16) == 0);
+    CHECK(is_many(linnetshelf_next_many(&queue, room, 14, answers, 4), 0, 0, 0, STATUS(NOT_YET)));
+    CHECK(linnetshelf_direction(&queue, LINNETSHELF_BACKWARDS) == STATUS(DONE));
+    CHECK(is_many(linnetshelf_next_many(&queue, room, 16, answers, 3), 3, first + 1, 0, STATUS(DONE)));
+    CHECK(is_answer(answers[0], second, 5) && is_answer(answers[2], first + 1, 5) && memcmp(room, "later!three", 11) == 0);
+    CHECK(is_many(linnetshelf_next_many(&queue, room, 16, answers, 3), 1, first, 0, STATUS(BEFORE_START)));
+    CHECK(linnetshelf_direction(&queue, LINNETSHELF_FORWARDS) == STATUS(DONE));
+    CHECK(linnetshelf_close(&queue) == STATUS(DONE));
+    CHECK(is_many(linnetshelf_next_many(&queue, room, 16, answers, 4), 4, second, 0, STATUS(DONE)));
+    CHECK(is_many(linnetshelf_next_many(&queue, room, 16, answers, 4), 0, 0, 0, STATUS(FINISHED)));
+
+    CHECK(linnetshelf_stop(&queue) == STATUS(DONE));
+    CHECK(is_many(linnetshelf_next_many(&queue, room, 16, answers, 4), 0, 0, 0, STATUS(WRONG_KIND)));
+    CHECK(is_many(linnetshelf_append_many(&queue, 0, "abc", 3, lengths, 1), 0, 0, 0, STATUS(WRONG_KIND)));
+    CHECK(linnetshelf_end(&queue).status == STATUS(WRONG_KIND));
+    linnetshelf_destroy(queue);
+}
+
+/* The end is looked up without moving, and counts as seen. */
+static void the_end_is_looked_up(void) {
+    linnetshelf_handle one = queue_of("", 0), two = {0};
+    char room[8];
+    CHECK(linnetshelf_end(&one).index == 0);
+    CHECK(linnetshelf_split(&one, &two) == STATUS(DONE));
+    CHECK(linnetshelf_append(&one, 0, "a", 1).index == 0);
+    CHECK(linnetshelf_append(&one, 3 * DAY, "b", 1).index == 3ull << 32);
+    CHECK(linnetshelf_drop_before(&two, 3).status == STATUS(NOT_SEEN));
+    for (int again = 0; again < 3; again++)
+        CHECK(linnetshelf_end(&two).index == (3ull << 32) + 1);
+    CHECK(linnetshelf_cursor(&two).index == 0);
+    CHECK(is_message(linnetshelf_next(&two, room, sizeof room), 0, room, "a"));
+    CHECK(linnetshelf_drop_before(&two, 3).index == 3);
+    CHECK(linnetshelf_begin(&one, 0, 8) == STATUS(DONE));
+    CHECK(linnetshelf_end(&one).index == (3ull << 32) + 1);
+    CHECK(linnetshelf_put(&one, "c", 1) == STATUS(DONE));
+    CHECK(linnetshelf_complete(&one).index == (3ull << 32) + 1);
+    CHECK(linnetshelf_end(&two).index == (3ull << 32) + 2);
+    /* No endpoint of it is left over. */
+    linnetshelf_destroy(two);
+    CHECK(linnetshelf_stop(&one) == STATUS(DONE));
+    linnetshelf_destroy(one);
+}
+
 /* A buffer that is too small for a message whose cycle was dropped: reads and takes go on, or return that nothing
  * is there. */
 static void a_small_room_passes_over_what_was_dropped(void) {
@@ -592,7 +713,12 @@ static void statuses_have_texts(void) {
 
 int main(void) {
     settings_are_tested();
+    CHECK(linnetshelf_version() == LINNETSHELF_VERSION);
     messages_are_appended_and_read();
+    many_messages_are_appended();
+    many_messages_fill_a_cycle();
+    many_messages_are_read();
+    the_end_is_looked_up();
     a_small_room_passes_over_what_was_dropped();
     a_cycle_gets_full();
     messages_are_put_in_parts();

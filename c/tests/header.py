@@ -1,5 +1,6 @@
 """The header against the library: each status has its name, its number, a comment and a text; each roll has its number, and so
-have what happens at the limit of a shelf, and the calls of a log."""
+have what happens at the limit of a shelf, and the calls of a log. The version is one in the header, in the library, in its
+packages and in the changelog."""
 import ctypes
 import re
 from pathlib import Path
@@ -84,7 +85,41 @@ def calls_in_source():
     return [(snake(name), int(number)) for name, number in found]
 
 
+def found(path, pattern):
+    """What a file has in the one place that a pattern finds, or else fails."""
+    (only,) = re.findall(pattern, (TOP / path).read_text(), re.M)
+    return only
+
+
+def numbers_of_version():
+    """The number of the version: in the header, in the library's source, and as the library returns it."""
+    source = found("crates/linnetshelf/src/version.rt", r"^const VERSION: u32 = ([\d_]+);")
+    return [int(found("c/linnetshelf.h", r"^#define LINNETSHELF_VERSION (\d+) ")), int(source.replace("_", "")), call("version")]
+
+
+def texts_of_version():
+    """The text of the version, wherever a file has it. The changelog names it first."""
+    return [
+        re.search(r"^## (\S+)", (TOP / "CHANGELOG.md").read_text(), re.M)[1],
+        found("c/linnetshelf.h", r"^#define LINNETSHELF_VERSION \d+ /\* (\S+) \*/"),
+        found("python/pyproject.toml", r'^version = "(.*)"'),
+        found("python/linnetshelf/__init__.py", r'^__version__ = "(.*)"'),
+        found("rust/linnetshelf/Cargo.toml", r'^version = "(.*)"'),
+    ]
+
+
+def check_versions():
+    """All have one version. The file for pkg-config gets it from the changelog."""
+    texts, numbers = texts_of_version(), numbers_of_version()
+    assert len(set(texts)) == 1, texts
+    one, two, three = (int(it) for it in texts[0].split("."))
+    assert max(two, three) < 1000
+    assert set(numbers) == {1_000_000 * one + 1_000 * two + three}, numbers
+    assert found("share/linnetshelf.pc.in", "^Version: (.*)") == "@VERSION@"
+
+
 def main():
+    check_versions()
     source = in_source()
     assert in_header() == [(name, number) for number, (name, _) in enumerate(source)]
     assert in_library() == [text for _, text in source]

@@ -15,6 +15,11 @@ _Static_assert(sizeof(linnetshelf_answer) == 16, "answer");
 _Static_assert(offsetof(linnetshelf_answer, index) == 0, "index");
 _Static_assert(offsetof(linnetshelf_answer, length) == 8, "length");
 _Static_assert(offsetof(linnetshelf_answer, status) == 12, "status");
+_Static_assert(sizeof(linnetshelf_many) == 24, "answer of many messages");
+_Static_assert(offsetof(linnetshelf_many, index) == 0, "index of the last message");
+_Static_assert(offsetof(linnetshelf_many, count) == 8, "count");
+_Static_assert(offsetof(linnetshelf_many, length) == 16, "length of the next message");
+_Static_assert(offsetof(linnetshelf_many, status) == 20, "status of the next message");
 _Static_assert(sizeof(linnetshelf_shelf_answer) == 24, "answer of a shelf");
 _Static_assert(offsetof(linnetshelf_shelf_answer, queue) == 0, "queue");
 _Static_assert(offsetof(linnetshelf_shelf_answer, index) == 8, "index in a queue");
@@ -56,10 +61,11 @@ static void shelves_have_the_layout(void) {
 int main(void) {
     static const size_t wanted[] = {
         sizeof(linnetshelf_handle), sizeof(linnetshelf_settings), sizeof(linnetshelf_answer),
-        sizeof(linnetshelf_shelf_answer), sizeof(linnetshelf_shelf_settings), sizeof(linnetshelf_call)};
-    for (uint32_t k = 0; k < 6; k++)
+        sizeof(linnetshelf_shelf_answer), sizeof(linnetshelf_shelf_settings), sizeof(linnetshelf_call),
+        sizeof(linnetshelf_many)};
+    for (uint32_t k = 0; k < 7; k++)
         CHECK(linnetshelf_size(k) == wanted[k]);
-    CHECK(linnetshelf_size(6) == 0);
+    CHECK(linnetshelf_size(7) == 0);
 
     linnetshelf_settings settings = {.epoch = 2 * DAY, .cells = 64, .index_count = 8, .index_spacing = 1, .cycles = 3,
                                      .roll = LINNETSHELF_DAILY};

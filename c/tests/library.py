@@ -18,6 +18,10 @@ class Answer(ctypes.Structure):
     _fields_ = [("index", ctypes.c_uint64), ("length", ctypes.c_uint32), ("status", ctypes.c_uint32)]
 
 
+class Many(ctypes.Structure):
+    _fields_ = [("index", ctypes.c_uint64), ("count", ctypes.c_uint64), ("length", ctypes.c_uint32), ("status", ctypes.c_uint32)]
+
+
 class ShelfSettings(ctypes.Structure):
     _fields_ = [("queue", Settings), ("most", ctypes.c_uint32), ("at_limit", ctypes.c_uint32)]
 
@@ -29,12 +33,15 @@ class ShelfAnswer(ctypes.Structure):
 DONE, NOT_YET, BUSY, FINISHED = 0, 1, 8, 36
 HANDLE, BYTES, SIZE = ctypes.POINTER(Handle), ctypes.c_char_p, ctypes.c_size_t
 WORD, LONG = ctypes.c_uint32, ctypes.c_uint64
+LENGTHS, ANSWERS = ctypes.POINTER(WORD), ctypes.POINTER(Answer)
 CALLS = {
     "create": (WORD, ctypes.POINTER(Settings), BYTES, SIZE, LONG, HANDLE),
     "split": (WORD, HANDLE, HANDLE),
     "destroy": (None, Handle),
     "append": (Answer, HANDLE, LONG, BYTES, SIZE),
     "next": (Answer, HANDLE, BYTES, SIZE),
+    "append_many": (Many, HANDLE, LONG, BYTES, SIZE, LENGTHS, SIZE),
+    "next_many": (Many, HANDLE, BYTES, SIZE, ANSWERS, SIZE),
     "take": (Answer, HANDLE, BYTES, SIZE, BYTES, SIZE),
     "stop": (WORD, HANDLE),
     "saved_count": (Answer, HANDLE),
@@ -54,6 +61,7 @@ CALLS = {
     "shelf_next": (ShelfAnswer, HANDLE, BYTES, SIZE),
     "text": (SIZE, WORD, BYTES, SIZE),
     "size": (SIZE, WORD),
+    "version": (WORD,),
 }
 
 
@@ -63,8 +71,8 @@ def call(name, *arguments):
     return function(*arguments)
 
 
-STRUCTS = (Handle, Settings, Answer, ShelfAnswer, ShelfSettings)
-assert [call("size", k) for k in range(len(STRUCTS))] == [ctypes.sizeof(it) for it in STRUCTS]
+STRUCTS = {0: Handle, 1: Settings, 2: Answer, 3: ShelfAnswer, 4: ShelfSettings, 6: Many}
+assert all(call("size", which) == ctypes.sizeof(it) for which, it in STRUCTS.items())
 
 
 def images_of(saved):

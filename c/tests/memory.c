@@ -31,6 +31,20 @@ void __wrap_free(void *at) {
     __real_free(at);
 }
 
+/* Appends and reads many messages, and looks up the end, while each allocation would be refused. */
+static void allocate_nothing(linnetshelf_handle *endpoint) {
+    const uint32_t lengths[] = {1, 2};
+    linnetshelf_answer answers[4];
+    char room[16];
+    long before = left;
+    left = 0;
+    CHECK(linnetshelf_append_many(endpoint, 0, "abb", 3, lengths, 2).count == 2);
+    CHECK(linnetshelf_next_many(endpoint, room, sizeof room, answers, 4).count == 3);
+    CHECK(linnetshelf_end(endpoint).index == 3);
+    CHECK(left == 0);
+    left = before;
+}
+
 /* Makes a queue, uses it, stops it, and opens it again. Returns whether all was done. If memory is refused it ends
  * what there is. */
 static int use_queue(void) {
@@ -42,6 +56,7 @@ static int use_queue(void) {
         return 0;
     if (linnetshelf_split(&queue, &other) == STATUS(DONE)) {
         CHECK(linnetshelf_append(&other, 0, "hello", 5).status == STATUS(DONE));
+        allocate_nothing(&other);
         CHECK(linnetshelf_next(&queue, room, sizeof room).status == STATUS(DONE));
         CHECK(linnetshelf_take(&queue, "reader", 6, room, sizeof room).status == STATUS(DONE));
         linnetshelf_destroy(other);

@@ -1,11 +1,14 @@
 """Endpoints: they append messages and read them."""
 from __future__ import annotations
 
+import collections
 import contextlib
 import ctypes
 import os
+import struct
 import time
 import weakref
+from array import array
 from collections.abc import Callable, Iterable, Iterator
 from dataclasses import dataclass
 from enum import IntEnum
@@ -21,6 +24,12 @@ Buffer = Union[bytes, bytearray, memoryview]
 T = TypeVar("T")
 
 FORWARDS, BACKWARDS = 0, 1
+
+# One call of the library appends or reads at most this many messages, of about this many bytes.
+MANY, MANY_BYTES = 512, 65536
+
+# An answer of the library, as bytes: an index, a length and a status.
+ANSWER = struct.Struct("=QII")
 
 # A wait yields the processor this many times before it sleeps, at first this many seconds and at most that many.
 YIELDS, FIRST_PAUSE, LONGEST_PAUSE = 50, 0.00001, 0.001
@@ -127,6 +136,21 @@ def address_of(data: Buffer) -> object:
     return (ctypes.c_char * view.nbytes).from_buffer(view)
 
 
+def batches_of(messages: Iterable[Buffer]) -> Iterator[list[bytes]]:
+    """Returns messages in groups, as many as one call appends."""
+    parts: list[bytes] = []
+    size = 0
+    for data in messages:
+        part = data if isinstance(data, bytes) else memoryview(data).tobytes()
+        parts.append(part)
+        size += len(part)
+        if len(parts) == MANY or size >= MANY_BYTES:
+            yield parts
+            parts, size = [], 0
+    if parts:
+        yield parts
+
+
 def names_of(names: Iterable[str]) -> tuple[tuple[str, ...], bytes]:
     """Returns names, and the text of lines that the library takes."""
     found = tuple(names)
@@ -201,6 +225,11 @@ class Endpoint(Owner):
         super().__init__(handle)
         self._queue = queue
         queue.endpoints.add(self)
+        # What an iteration has read and not yet returned, and the index of the last message that it returned.
+        self._ahead: collections.deque[Message] = collections.deque()
+        self._returned = Index(0)
+        self._way = FORWARDS
+        self._answers = bytearray(MANY * ANSWER.size)
         self._grow(4096)
 
     @property
@@ -245,6 +274,47 @@ class Endpoint(Owner):
         if index is None:
             raise error_of(Status.BUSY)
         return index
+
+    def append_all(self, messages: Iterable[Buffer], moment: int | None = None, timeout: float | None = None) -> Index | None:
+        """Appends messages, one after the other, and returns the index of the last one, or None if there is none.
+
+        Each is appended as by `append`, and other endpoints may append between them. While another endpoint writes it tries
+        again, at most `timeout` seconds for some hundred messages. If one is refused, those before it stay: `appended` of the
+        error is their number.
+        """
+        last, appended = None, 0
+        for parts in batches_of(messages):
+            count, index, status = self._append_batch(parts, moment, timeout)
+            appended += count
+            last = index if count else last
+            if status == Status.WRONG_KIND:
+                check(status)
+            if status != Status.DONE:
+                error = error_of(status, f"after {appended} messages")
+                error.appended = appended
+                raise error
+        return last
+
+    def _append_batch(self, parts: list[bytes], moment: int | None, timeout: float | None) -> tuple[int, Index, int]:
+        """Appends messages; returns how many, the index of the last of them, and why there are no more."""
+        data = bytearray().join(parts)
+        lengths = array("I", [number(len(part), 32, Status.BAD_ROOM) for part in parts])
+        address, (places, _) = ctypes.addressof((ctypes.c_char * len(data)).from_buffer(data)), lengths.buffer_info()
+        count, start, last = 0, 0, Index(0)
+
+        def attempt() -> int | None:
+            nonlocal count, start, last
+            many = library.append_many(
+                self._live(), moment_of(moment), address + start, len(data) - start, places + 4 * count, len(parts) - count
+            )
+            if many.count:
+                start += sum(lengths[count : count + many.count])
+                count += many.count
+                last = Index(many.index)
+            return None if many.status == Status.BUSY else many.status
+
+        status = until(attempt, timeout)
+        return count, last, Status.BUSY if status is None else status
 
     @contextlib.contextmanager
     def begin(self, most: int, moment: int | None = None, timeout: float | None = None) -> Iterator[Begun]:
@@ -319,8 +389,48 @@ class Endpoint(Owner):
                 return answer, memoryview(buffer)[: answer.length]
             self._grow(max(answer.length, 2 * size))
 
+    def _read_ahead(self) -> bool:
+        """Reads the next messages by one call, and keeps them until they are returned. Returns False if there is none yet."""
+        if self._buffer[2] < MANY_BYTES:
+            self._grow(MANY_BYTES)
+        while True:
+            buffer, address, size = self._buffer
+            answers = ctypes.addressof((ctypes.c_char * len(self._answers)).from_buffer(self._answers))
+            many = library.next_many(self._live(), address, size, answers, MANY)
+            if many.count or many.status != Status.NO_ROOM:
+                break
+            self._grow(max(many.length, 2 * size))
+        if not many.count:
+            if many.status in (Status.NOT_YET, Status.BEFORE_START):
+                return False
+            check(many.status)
+        start = 0
+        for index, length, _ in ANSWER.iter_unpack(memoryview(self._answers)[: many.count * ANSWER.size]):
+            end = start + length
+            self._ahead.append(Message(Index(index), bytes(buffer[start:end])))
+            start = end
+        return True
+
+    def _return_next(self) -> Message:
+        """Returns the next message of those that were read ahead."""
+        self._live()
+        message = self._ahead.popleft()
+        self._returned = message.index
+        return message
+
+    def _give_back(self) -> None:
+        """Moves back to where the messages begin that were read ahead and not returned. What was dropped meanwhile is skipped."""
+        places = [self._returned] if self._way == BACKWARDS else [it.index for it in self._ahead]
+        if self._ahead:
+            self._ahead.clear()
+            for index in places:
+                if library.move_to(self._live(), index) == Status.DONE:
+                    return
+
     def next(self) -> Message | None:
         """Reads the next message in the direction of reading; returns None if there is none yet. Finished: none will come."""
+        if self._ahead:
+            return self._return_next()
         answer, data = self._read(library.next)
         if answer.status in (Status.NOT_YET, Status.BEFORE_START):
             return None
@@ -328,13 +438,19 @@ class Endpoint(Owner):
         return Message(Index(answer.index), bytes(data))
 
     def __iter__(self) -> Iterator[Message]:
-        """Reads message after message, up to the last one that has come."""
+        """Reads message after message, up to the last one that has come.
+
+        It reads some hundred of them by one call of the library. If it ends early, the next read goes on after the last one
+        that it returned.
+        """
         with contextlib.suppress(Finished):
-            yield from iter(self.next, None)
+            while self._ahead or self._read_ahead():
+                yield self._return_next()
 
     def views(self) -> Iterator[tuple[Index, memoryview]]:
         """Reads message after message without copying it. A view is valid until the next message is read."""
         while True:
+            self._give_back()
             answer, data = self._read(library.next)
             if answer.status in (Status.NOT_YET, Status.FINISHED, Status.BEFORE_START):
                 return
@@ -349,6 +465,7 @@ class Endpoint(Owner):
         view = memoryview(buffer)
         if view.readonly or not view.c_contiguous:
             raise ValueError("the buffer is read-only, or not contiguous")
+        self._give_back()
         answer = library.next(self._live(), address_of(view), view.nbytes)
         if answer.status in (Status.NOT_YET, Status.BEFORE_START):
             return None
@@ -362,6 +479,9 @@ class Endpoint(Owner):
 
     def peek(self) -> int | None:
         """Returns the length of the next message, or None if there is none yet. It is not read. Finished: none will come."""
+        if self._ahead:
+            self._live()
+            return len(self._ahead[0].data)
         _, address, _ = self._buffer
         answer = library.next(self._live(), address, 0)
         if answer.status == Status.FINISHED:
@@ -379,9 +499,7 @@ class Endpoint(Owner):
         """Reads message after message as they come. It ends if none came for `timeout` seconds, or none will come."""
         with contextlib.suppress(Finished):
             while self.wait(timeout):
-                message = self.next()
-                if message is not None:
-                    yield message
+                yield from self
 
     def __getitem__(self, index: int) -> bytes:
         """Returns the message with this index. NoMessage: none has it. The endpoint stays where it is."""
@@ -398,25 +516,34 @@ class Endpoint(Owner):
 
     def backwards(self) -> Iterator[Message]:
         """Reads the messages before this place, the last one first. Afterwards the endpoint reads forwards again."""
-        check(library.direction(self._live(), BACKWARDS))
+        self._turn(BACKWARDS)
         try:
             yield from self
         finally:
             if not self.closed:
-                library.direction(self._live(), FORWARDS)
+                self._turn(FORWARDS)
+
+    def _turn(self, way: int) -> None:
+        """Sets the direction of reading. The endpoint stays where it is."""
+        self._give_back()
+        check(library.direction(self._live(), way))
+        self._way = way
 
     def to_start(self) -> None:
         """Moves before the first message."""
+        self._ahead.clear()
         check(library.to_start(self._live()))
 
     def to_end(self) -> Index:
         """Moves to the end, and returns it: the index that the next message of the current cycle gets."""
+        self._ahead.clear()
         answer = library.to_end(self._live())
         check(answer.status)
         return Index(answer.index)
 
     def move_to(self, index: int) -> bool:
         """Moves to the message with this index, which is read next. Returns False if none has it, and stays."""
+        self._give_back()
         status = library.move_to(self._live(), index) if 0 <= index < 1 << 64 else Status.NO_MESSAGE
         if status == Status.NO_MESSAGE:
             return False
@@ -426,7 +553,15 @@ class Endpoint(Owner):
     @property
     def cursor(self) -> Index:
         """Where the endpoint is: the message that it reads next has this index or a later one."""
+        self._give_back()
         answer = library.cursor(self._live())
+        check(answer.status)
+        return Index(answer.index)
+
+    @property
+    def end(self) -> Index:
+        """The end: the index that the next message of the current cycle gets. The endpoint stays where it is."""
+        answer = library.end(self._live())
         check(answer.status)
         return Index(answer.index)
 
@@ -435,17 +570,11 @@ class Endpoint(Owner):
 
         A cycle above the current one counts as that. The endpoint stays where it is.
         """
-        end = self._see_end()
+        self._give_back()
+        end = self.end
         answer = library.drop_before(self._live(), max(0, min(cycle, end.cycle)))
         check(answer.status)
         return answer.index
-
-    def _see_end(self) -> Index:
-        """Returns the end, which this endpoint has seen then. It stays where it is."""
-        with self.split() as other:
-            end = other.to_end()
-            self.meet(other)
-            return end
 
     # Names
 
@@ -478,7 +607,8 @@ class Endpoint(Owner):
 
     def seek(self, name: str, to: int, *, expect: int | None = None) -> None:
         """Moves a name to a position. Moved: it was not at `expect`, or another endpoint moved it meanwhile."""
-        self._see_end()
+        # It sees the end, up to which a name may be moved.
+        check(library.end(self._live()).status)
         word = name.encode()
         before = self.position(name) if expect is None else number(expect, 64, Status.NOT_SEEN)
         answer = library.seek(self._live(), word, len(word), before, number(to, 64, Status.NOT_SEEN))

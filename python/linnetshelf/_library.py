@@ -35,6 +35,10 @@ class Answer(ctypes.Structure):
     _fields_ = [("index", ctypes.c_uint64), ("length", ctypes.c_uint32), ("status", ctypes.c_uint32)]
 
 
+class Many(ctypes.Structure):
+    _fields_ = [("index", ctypes.c_uint64), ("count", ctypes.c_uint64), ("length", ctypes.c_uint32), ("status", ctypes.c_uint32)]
+
+
 _HANDLE, _SETTINGS = ctypes.POINTER(Handle), ctypes.POINTER(RawSettings)
 _BYTES, _SIZE, _WORD, _LONG = ctypes.c_void_p, ctypes.c_size_t, ctypes.c_uint32, ctypes.c_uint64
 
@@ -45,6 +49,7 @@ CALLS = {
     "meet": (_WORD, _HANDLE, _HANDLE),
     "destroy": (None, Handle),
     "append": (Answer, _HANDLE, _LONG, _BYTES, _SIZE),
+    "append_many": (Many, _HANDLE, _LONG, _BYTES, _SIZE, _BYTES, _SIZE),
     "begin": (_WORD, _HANDLE, _LONG, _WORD),
     "put": (_WORD, _HANDLE, _BYTES, _SIZE),
     "complete": (Answer, _HANDLE),
@@ -52,11 +57,13 @@ CALLS = {
     "advance": (Answer, _HANDLE, _LONG),
     "close": (_WORD, _HANDLE),
     "next": (Answer, _HANDLE, _BYTES, _SIZE),
+    "next_many": (Many, _HANDLE, _BYTES, _SIZE, _BYTES, _SIZE),
     "read_at": (Answer, _HANDLE, _LONG, _BYTES, _SIZE),
     "direction": (_WORD, _HANDLE, _WORD),
     "move_to": (_WORD, _HANDLE, _LONG),
     "to_start": (_WORD, _HANDLE),
     "to_end": (Answer, _HANDLE),
+    "end": (Answer, _HANDLE),
     "cursor": (Answer, _HANDLE),
     "drop_before": (Answer, _HANDLE, _WORD),
     "take": (Answer, _HANDLE, _BYTES, _SIZE, _BYTES, _SIZE),
@@ -75,6 +82,7 @@ CALLS = {
     "saved_set_floor": (_WORD, _HANDLE, _WORD),
     "open": (_WORD, _HANDLE, _HANDLE),
     "text": (_SIZE, _WORD, _BYTES, _SIZE),
+    "version": (_WORD,),
     "size": (_SIZE, _WORD),
 }
 
@@ -95,11 +103,13 @@ class Library:
     def __init__(self, path: str) -> None:
         library = ctypes.PyDLL(path)
         for name, (result, *arguments) in CALLS.items():
-            function = getattr(library, f"linnetshelf_{name}")
+            function = getattr(library, f"linnetshelf_{name}", None)
+            if function is None:
+                raise ImportError(f"{path} is an earlier version of the library: it has no linnetshelf_{name}")
             function.restype, function.argtypes = result, arguments
             setattr(self, name, function)
-        sizes = [ctypes.sizeof(it) for it in (Handle, RawSettings, Answer)]
-        if [self.size(which) for which in range(len(sizes))] != sizes:
+        structs = {0: Handle, 1: RawSettings, 2: Answer, 6: Many}
+        if any(self.size(which) != ctypes.sizeof(struct) for which, struct in structs.items()):
             raise ImportError(f"{path} is another version of the library")
 
 

@@ -59,7 +59,12 @@ class Status(enum.IntEnum):
 
 
 class LinnetshelfError(Exception):
-    """A call was refused. `status` is the library's, if it was the library that refused."""
+    """A call was refused. `status` is the library's, if it was the library that refused.
+
+    `appended` is how many messages `append_all` had appended before.
+    """
+
+    appended = 0
 
     def __init__(self, text: str, status: Status | None = None) -> None:
         super().__init__(text)

@@ -66,7 +66,7 @@ class Header(unittest.TestCase):
         of_logs = {"play", "keep", "turn", "settle", "log_call", "log_done", "stored"}
         self.assertEqual({name for name in declared if not name.startswith("shelf_")} - of_logs, set(_library.CALLS))
         for name, (_, *arguments) in _library.CALLS.items():
-            self.assertEqual(len(arguments), len(declared[name].split(",")), name)
+            self.assertEqual(len(arguments), 0 if declared[name] == "void" else len(declared[name].split(",")), name)
 
     def test_each_status_has_a_text(self):
         texts = [linnetshelf.text_of(status) for status in linnetshelf.Status]
@@ -123,6 +123,66 @@ class Calls(unittest.TestCase):
         self.assertEqual((self.queue.next_into(buffer), self.queue.peek()), (None, None))
         with self.assertRaises(ValueError):
             self.queue.next_into(memoryview(b"read-only"))
+
+    def test_many_messages(self):
+        data = [b"%d" % k * (k % 7 + 1) for k in range(3000)]
+        with linnetshelf.create(moment=0) as queue:
+            self.assertEqual(queue.append_all(data[:2000], 0), 1999)
+            self.assertEqual(queue.append_all((bytearray(it) for it in data[2000:]), 0), 2999)
+            self.assertIsNone(queue.append_all([], 0))
+            self.assertEqual([(message.index, message.data) for message in queue], list(enumerate(data)))
+            self.assertEqual((queue.cursor, queue.end), (3000, 3000))
+            self.assertEqual(data_of(queue.backwards()), data[::-1])
+            queue.append_all([b"x" * 200_000, b"y"], 0)
+            queue.to_end()
+            queue.move_to(2999)
+            self.assertEqual([len(message.data) for message in queue.follow(0)], [len(data[2999]), 200_000, 1])
+
+    def test_a_message_of_many_is_refused(self):
+        def refused(error, messages, **how):
+            with self.assertRaises(error) as fault:
+                self.queue.append_all(messages, 0, **how)
+            return fault.exception.appended
+
+        self.assertEqual(refused(linnetshelf.BadValue, [b"a", b"b", b"", b"c"]), 2)
+        count = refused(linnetshelf.Full, itertools.repeat(b"x" * 1000, 4000))
+        self.assertEqual(data_of(self.queue), [b"a", b"b"] + [b"x" * 1000] * count)
+        self.assertEqual(self.queue.end, count + 2)
+        with self.queue.split() as other, other.begin(4, DAY) as message:
+            self.assertEqual(refused(linnetshelf.Busy, [b"d"], timeout=0), 0)
+            message.put(b"e")
+        self.queue.close_queue()
+        self.assertEqual(refused(linnetshelf.Closed, [b"d"]), 0)
+        self.queue.close()
+        with self.assertRaises(ValueError):
+            self.queue.append_all([b"d"], 0)
+
+    def test_an_iteration_ends_early(self):
+        indices = [self.queue.append(b"%d" % k, k // 2 * DAY) for k in range(6)]
+        self.assertEqual(data_of(itertools.islice(self.queue, 2)), [b"0", b"1"])
+        self.assertEqual((self.queue.peek(), self.queue.next().data), (1, b"2"))
+        self.assertEqual(next(iter(self.queue)).data, b"3")
+        self.assertEqual(self.queue.cursor, indices[4])
+        self.assertEqual(data_of(itertools.islice(self.queue.backwards(), 2)), [b"3", b"2"])
+        self.assertEqual(self.queue.cursor, indices[2])
+        self.assertEqual(data_of(itertools.islice(self.queue, 1)), [b"2"])
+        self.assertFalse(self.queue.move_to(99))
+        self.assertEqual([bytes(view) for _, view in itertools.islice(self.queue.views(), 1)], [b"3"])
+        self.assertEqual(data_of(itertools.islice(self.queue, 1)), [b"4"])
+        buffer = bytearray(1)
+        self.assertEqual((self.queue.next_into(buffer), bytes(buffer)), ((indices[5], 1), b"5"))
+        self.queue.to_start()
+        self.assertEqual(data_of(itertools.islice(self.queue, 1)), [b"0"])
+        self.assertEqual(self.queue.drop_before(1), 1)
+        self.assertEqual(data_of(itertools.islice(self.queue, 1)), [b"2"])
+        self.queue.to_start()
+        self.assertEqual(data_of(self.queue), [b"2", b"3", b"4", b"5"])
+        iteration = iter(self.queue)
+        self.queue.to_start()
+        next(iteration)
+        self.queue.close()
+        with self.assertRaises(ValueError):
+            next(iteration)
 
     def test_a_view_is_kept_when_the_buffer_grows(self):
         self.queue.append(b"first", 0)

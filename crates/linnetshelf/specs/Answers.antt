@@ -103,6 +103,11 @@ abbrev pub direction_answer : Option Direction → ℕ
 direction_answer (Some turned) = number status.Done
 direction_answer None = number status.BadDirection
 
+-- what `end` answers
+abbrev pub end_answer : Option ℕ → Answer
+end_answer (Some end) = done end
+end_answer None = plain status.OutOfMemory
+
 -- what `move_to` answers
 abbrev pub move_answer : Bool → ℕ
 move_answer true = number status.Done

@@ -5,6 +5,7 @@ pub mod Handles
 pub mod Keeps
 pub mod LogCalls
 pub mod Makes
+pub mod Many
 pub mod Meets
 pub mod Plays
 pub mod Reads

@@ -2,21 +2,23 @@
 use Rattle.std.specs.Prelude.{◌≡◌, ◌≢◌, ◌⊎◌, ℕ, ◌<◌, ◌≤◌, List, Option, Some, None, Result, Ok, Err}
 use Rattle.std.specs.Str.{IsUtf8}
 use Rattle.cq_cycle.specs.Index.{cycle_in}
-use Rattle.cq_endpoint.specs.Endpoints.{EndpointFacts}
+use Rattle.cq_endpoint.specs.Endpoints.{EndpointFacts, child, endpoint_of}
 use Rattle.cq_endpoint.specs.Faults.{SeekFails}
+use Rattle.cq_endpoint.specs.Meetings.{EndpointsMet}
 use Rattle.cq_endpoint.specs.Reads.{TakeIntoSays}
 use Rattle.cq_endpoint.specs.declared.answers.TakenInto.{TakenInto}
 use Rattle.cq_endpoint.specs.declared.fault.NotSeen.{NotSeen}
 use Rattle.cq_endpoint.specs.declared.fault.SeekFault.{SeekFault}
 use Rattle.cq_endpoint.specs.declared.fault.SeekFault.TheVariants as unsought
-use Rattle.cq_model.specs.declared.history.Answer.TheVariants.{Floor}
-use Rattle.cq_model.specs.declared.history.Event.TheVariants.{DropBefore}
+use Rattle.cq_model.specs.declared.history.Answer.TheVariants.{Ends, Floor}
+use Rattle.cq_model.specs.declared.history.Event.TheVariants.{DropBefore, End}
 use Rattle.cq_tail.specs.Names.{NameFails, Seeks, TellsPosition}
-use Rattle.cq_tail.specs.Tailers.{Answered}
+use Rattle.cq_tail.specs.Tailers.{Answered, TailerFacts}
 use Rattle.cq_tail.specs.declared.answers.Direction.{Direction}
 use Rattle.cq_tail.specs.declared.answers.Direction.TheVariants as direction
 use Rattle.cq_tail.specs.declared.answers.Sought.{Sought}
 use Rattle.cq_tail.specs.declared.error.NoSuchName.{NoSuchName}
+use Rattle.linnetshelf.specs.Makes.{parent_of}
 
 -- the number that C has for a direction
 abbrev pub direction_number : Direction → ℕ
@@ -28,6 +30,21 @@ abbrev pub Turns : EndpointFacts → EndpointFacts → ℕ → Option Direction 
 Turns old new way (Some turned) = (direction_number turned ≡ way)
     × (new ≡ record old { tailer = record old.tailer { direction = turned } })
 Turns old new way None = ((turned : Direction) → direction_number turned ≢ way) × (new ≡ old)
+
+-- an endpoint that was split off moved to the end, which was answered to it; then it met the one that it was split off, which
+-- has seen that end and stays where it is
+pub record LooksUpEnd (old new : EndpointFacts) (end : ℕ) : Type 0 where
+  pub looked : TailerFacts
+  pub told : Answered old.queue (endpoint_of old.queue (child old.parent)).tailer looked End (Ends end) end
+  pub other : EndpointFacts
+  pub met : EndpointsMet (parent_of old) (record (endpoint_of old.queue (child old.parent)) { tailer = looked }) new other
+  pub stays : new.tailer ≡ record old.tailer { caller = new.tailer.caller }
+  pub seen : end ≤ new.tailer.caller.seen_end
+
+-- the end was looked up; or no endpoint can be split off, and nothing changed
+abbrev pub SeesEnd : EndpointFacts → EndpointFacts → Option ℕ → Type 0
+SeesEnd old new (Some end) = LooksUpEnd old new end
+SeesEnd old new None = new ≡ old
 
 -- the cycles below this one were dropped; or it lies behind the end that the endpoint has seen, and nothing changed
 abbrev pub Drops : EndpointFacts → EndpointFacts → ℕ → Result ℕ NotSeen → Type 0

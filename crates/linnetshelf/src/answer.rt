@@ -1,6 +1,6 @@
 //! What calls return to C.
 ghost use Rattle.std.specs.Prelude.{◌≡◌};
-ghost use Rattle.linnetshelf.specs.Answers.{append_answer, append_status, begin_answer, close_answer, complete_answer, done, drop_answer, move_answer, moved, plain, position_answer, put_answer, refusal_status, roll_back_answer, seek_answer};
+ghost use Rattle.linnetshelf.specs.Answers.{append_answer, append_status, begin_answer, close_answer, complete_answer, done, drop_answer, end_answer, move_answer, moved, plain, position_answer, put_answer, refusal_status, roll_back_answer, seek_answer};
 
 use crate::status::Status;
 use cq_cycle::Index;
@@ -77,7 +77,7 @@ pub(crate) fn begin_answer(said: Result<(), AppendFault>) -> u32
 }
 
 /// Says why nothing was appended or begun.
-fn append_status(fault: AppendFault) -> Status
+pub(crate) fn append_status(fault: AppendFault) -> Status
     ensures { result ≡ append_status fault }
 {
     match fault {
@@ -145,6 +145,16 @@ pub(crate) fn roll_back_answer(said: Result<(), NotWriting>) -> u32
         Err(NotWriting) => Status::NotWriting,
     };
     status.number()
+}
+
+/// Makes the answer of `end`.
+pub(crate) fn end_answer(said: Option<u64>) -> Answer
+    ensures { result ≡ end_answer said }
+{
+    match said {
+        Some(end) => done(end),
+        None => plain(Status::OutOfMemory),
+    }
 }
 
 /// Makes the answer of `move_to`.

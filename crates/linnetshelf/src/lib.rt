@@ -9,11 +9,12 @@
 //! | calls | what they are for |
 //! |---|---|
 //! | `linnetshelf_create`, `_split`, `_meet`, `_destroy` | make a queue, and endpoints of it |
-//! | `linnetshelf_append`, `_begin`, `_put`, `_complete`, `_roll_back` | append messages, whole or in parts |
+//! | `linnetshelf_append`, `_append_many`, `_begin`, `_put`, `_complete`, `_roll_back` | append messages, whole or in parts |
 //! | `linnetshelf_advance` | begins a cycle |
 //! | `linnetshelf_close` | closes a queue |
-//! | `linnetshelf_next`, `_read_at`, `_take` | read and take messages, into a buffer of the caller |
+//! | `linnetshelf_next`, `_next_many`, `_read_at`, `_take` | read and take messages, into a buffer of the caller |
 //! | `linnetshelf_cursor`, `_direction`, `_to_start`, `_to_end`, `_move_to` | move an endpoint |
+//! | `linnetshelf_end` | looks up the end of the queue |
 //! | `linnetshelf_position`, `_seek`, `_drop_before` | read and set the position of a name, and drop old cycles |
 //! | `linnetshelf_stop`, `_saved_..`, `_open` | stop a queue, save what it held, and open it again |
 //! | `linnetshelf_play`, `_keep`, `_turn`, `_settle`, `_stored` | play a log, and keep what comes to a queue in one |
@@ -24,20 +25,23 @@
 //! | `linnetshelf_shelf_next`, `_read_at`, `_take` | read and take its messages, into a buffer of the caller |
 //! | `linnetshelf_shelf_direction`, `_to_start`, `_to_end`, `_move_to` | move a reader |
 //! | `linnetshelf_shelf_position`, `_queue`, `_living` | say where it is, and how many queues live |
-//! | `linnetshelf_size`, `_text` | sizes of types, and texts of statuses |
+//! | `linnetshelf_size`, `_text`, `_version` | sizes of types, texts of statuses, and the version |
 #![tactic(auto)]
 
 mod answer;
 mod appending;
+mod appending_many;
 mod closing;
 mod keeping;
 mod layout;
 mod log_calls;
 mod making;
+mod many;
 mod meeting;
 mod naming;
 mod playing;
 mod reading;
+mod reading_many;
 mod rooms;
 mod saving;
 mod settings;
@@ -50,3 +54,4 @@ mod shelf_settings;
 mod shelf_taking;
 mod status;
 mod text;
+mod version;

@@ -4,13 +4,13 @@ ghost use Rattle.cq_endpoint.specs.Endpoints.{ChangesTailer};
 ghost use Rattle.cq_model.specs.declared.history.Answer.TheVariants.{Ends};
 ghost use Rattle.cq_model.specs.declared.history.Event.TheVariants.{End};
 ghost use Rattle.cq_tail.specs.Tailers.{Answered, MovesTo};
-ghost use Rattle.linnetshelf.specs.Answers.{Tells, direction_answer, done, drop_answer, move_answer, plain};
+ghost use Rattle.linnetshelf.specs.Answers.{Tells, direction_answer, done, drop_answer, end_answer, move_answer, plain};
 ghost use Rattle.linnetshelf.specs.Handles.{OnEndpoint};
-ghost use Rattle.linnetshelf.specs.Reads.{Drops, Turns};
+ghost use Rattle.linnetshelf.specs.Reads.{Drops, SeesEnd, Turns};
 ghost use Rattle.linnetshelf.specs.Statuses.{number};
 ghost use Rattle.linnetshelf.specs.declared.status.Status.TheVariants.{Done, WrongKind};
 
-use crate::answer::{Answer, done, drop_answer, move_answer, plain};
+use crate::answer::{Answer, done, drop_answer, end_answer, move_answer, plain};
 use crate::status::Status;
 use cq_cycle::Index;
 use cq_endpoint::{Direction, Endpoint};
@@ -89,6 +89,38 @@ pub extern "C" fn linnetshelf_to_end(handle: &mut Handle) -> Answer
         Held::Stopped(_) | Held::Saved(_) | Held::Keeper(_) | Held::Shelf(_) => plain(
             Status::WrongKind,
         ),
+    }
+}
+
+/// Returns the end of the queue: the index that the next message of the current cycle gets. The endpoint stays where it
+/// is, and has seen this end.
+///
+/// - `OutOfMemory`: the queue has as many endpoints as it may have, and the end is looked up by one more.
+#[unsafe(no_mangle)]
+pub extern "C" fn linnetshelf_end(handle: &mut Handle) -> Answer
+    ensures { OnEndpoint handle.old.held handle.new.held (result ≡ plain WrongKind) (λ old new.
+        Tells (SeesEnd old new) end_answer result) }
+{
+    match handle.held_mut() {
+        Held::Endpoint(endpoint) => end_answer(see_end(endpoint)),
+        Held::Stopped(_) | Held::Saved(_) | Held::Keeper(_) | Held::Shelf(_) => plain(
+            Status::WrongKind,
+        ),
+    }
+}
+
+/// Returns the end, which another endpoint moves to that is split off and meets this one. Returns `None` if none can be
+/// split off.
+fn see_end(endpoint: &mut Endpoint) -> Option<u64>
+    ensures { SeesEnd endpoint.old endpoint.new result }
+{
+    match endpoint.split() {
+        Ok(mut other) => {
+            let end = other.to_end();
+            endpoint.meet(&mut other);
+            Some(end)
+        }
+        Err(_) => None,
     }
 }
 

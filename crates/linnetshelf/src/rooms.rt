@@ -105,7 +105,7 @@ pub(crate) fn too_long(length: u32) -> Answer
 }
 
 /// Makes the answer of `next`.
-fn found_answer(said: NextInto) -> Answer
+pub(crate) fn found_answer(said: NextInto) -> Answer
     ensures { result ≡ found_answer said }
 {
     match said {

@@ -269,10 +269,7 @@ impl Endpoint {
     ///
     /// [`Error::OutOfMemory`].
     pub fn see_end(&mut self) -> Result<Index, Error> {
-        let mut other = self.split()?;
-        let end = other.move_to_end()?;
-        self.meet(&mut other)?;
-        Ok(end)
+        Error::done(self.handle.end()).map(|answer| Index(answer.index))
     }
 
     /// Drops the cycles before this one: reads of all endpoints skip them. Returns the cycle below which all are skipped.

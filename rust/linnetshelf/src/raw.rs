@@ -60,6 +60,7 @@ unsafe extern "C" {
     fn linnetshelf_move_to(endpoint: *mut Handle, index: u64) -> u32;
     fn linnetshelf_to_start(endpoint: *mut Handle) -> u32;
     fn linnetshelf_to_end(endpoint: *mut Handle) -> Answer;
+    fn linnetshelf_end(endpoint: *mut Handle) -> Answer;
     fn linnetshelf_cursor(endpoint: *mut Handle) -> Answer;
     fn linnetshelf_drop_before(endpoint: *mut Handle, cycle: u32) -> Answer;
     fn linnetshelf_take(endpoint: *mut Handle, name: *const u8, length: usize, room: *mut u8, size: usize) -> Answer;
@@ -233,6 +234,11 @@ impl Owned {
         unsafe { linnetshelf_to_end(&mut self.handle) }
     }
 
+    pub(crate) fn end(&mut self) -> Answer {
+        // SAFETY: HANDLES, THREADS.
+        unsafe { linnetshelf_end(&mut self.handle) }
+    }
+
     pub(crate) fn cursor(&mut self) -> Answer {
         // SAFETY: HANDLES, THREADS.
         unsafe { linnetshelf_cursor(&mut self.handle) }
@@ -326,8 +332,9 @@ mod tests {
         assert_eq!([size(0), size(1), size(2)], sizes);
     }
 
-    /// The calls on logs, which this crate does not have.
-    const OF_LOGS: [&str; 7] = [
+    /// The calls that this crate does not make: those on logs, those of many messages, since one call costs little from Rust, and
+    /// that of the version.
+    const LEFT_OUT: [&str; 10] = [
         "linnetshelf_play",
         "linnetshelf_keep",
         "linnetshelf_turn",
@@ -335,6 +342,9 @@ mod tests {
         "linnetshelf_log_call",
         "linnetshelf_log_done",
         "linnetshelf_stored",
+        "linnetshelf_append_many",
+        "linnetshelf_next_many",
+        "linnetshelf_version",
     ];
 
     #[test]
@@ -346,7 +356,7 @@ mod tests {
                 let name = &rest[..rest.find(|it: char| !it.is_alphanumeric() && it != '_').unwrap()];
                 let arguments = &rest[name.len()..];
                 let before = text[..start].chars().next_back();
-                let is_ours = !name.starts_with("linnetshelf_shelf_") && !OF_LOGS.contains(&name);
+                let is_ours = !name.starts_with("linnetshelf_shelf_") && !LEFT_OUT.contains(&name);
                 if arguments.starts_with('(') && before == Some(' ') && is_ours {
                     let count = arguments[..arguments.find(')').unwrap()].trim_end_matches(['\n', ' ', ',']);
                     names.insert((name.to_owned(), count.matches(',').count()));
