@@ -1,0 +1,6 @@
+pub mod Readable
+pub mod Facts
+pub mod StatText
+pub mod StatJson
+pub mod StatOut
+pub mod StatFaults
