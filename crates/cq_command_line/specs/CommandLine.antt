@@ -10,7 +10,7 @@ use Rattle.cq_command_line.specs.declared.arguments.Argument.{Argument}
 use Rattle.cq_command_line.specs.declared.commands.Description.{Description}
 use Rattle.cq_command_line.specs.declared.arguments.Argument.TheVariants.{Word, Number, Between, Words, Flag, Option, OptionBetween}
 use Rattle.cq_orders.specs.declared.order.Order.{Order}
-use Rattle.cq_orders.specs.declared.order.Order.TheVariants.{Echo, Cycle, Init, Write, Log, Read, Take, Check, Dump, Salvage, Race, DropBefore, Migrate}
+use Rattle.cq_orders.specs.declared.order.Order.TheVariants.{Echo, Cycle, Init, Write, Log, Read, Take, Check, Stat, Dump, Salvage, Race, DropBefore, Migrate}
 
 -- the word that names the command
 abbrev pub word_of : Order → List ℕ
@@ -23,6 +23,7 @@ word_of (Read folder back begin) = codes "read"
 word_of (Take folder name) = codes "take"
 word_of (DropBefore folder cycle) = codes "drop"
 word_of (Check folder) = codes "check"
+word_of (Stat folder json) = codes "stat"
 word_of (Dump folder file) = codes "dump"
 word_of (Salvage folder file) = codes "salvage"
 word_of (Migrate folder) = codes "migrate"
@@ -134,6 +135,10 @@ drop_command = with_rule (with_rule (new_app (codes "drop")) (word_rule (codes "
 abbrev pub check_command : App
 check_command = with_rule (new_app (codes "check")) (word_rule (codes "DIR"))
 
+-- the command `stat`
+abbrev pub stat_command : App
+stat_command = with_rule (with_rule (new_app (codes "stat")) (word_rule (codes "DIR"))) (flag_rule (codes "json"))
+
 -- the command `dump`
 abbrev pub dump_command : App
 dump_command = with_rule (with_rule (new_app (codes "dump")) (word_rule (codes "DIR"))) (word_rule (codes "FILE"))
@@ -153,8 +158,8 @@ plain_commands app = with_subcommand (with_subcommand (with_subcommand app echo_
 -- the commands on a queue that is stored in a folder
 abbrev pub queue_commands : App → App
 queue_commands app =
-    with_subcommand (with_subcommand (with_subcommand (with_subcommand (with_subcommand (with_subcommand (with_subcommand (with_subcommand (with_subcommand (with_subcommand app init_command.top) write_command.top) log_command.top) read_command.top) take_command.top)
-    drop_command.top) check_command.top) dump_command.top) salvage_command.top) migrate_command.top
+    with_subcommand (with_subcommand (with_subcommand (with_subcommand (with_subcommand (with_subcommand (with_subcommand (with_subcommand (with_subcommand (with_subcommand (with_subcommand app init_command.top) write_command.top) log_command.top) read_command.top) take_command.top)
+    drop_command.top) check_command.top) stat_command.top) dump_command.top) salvage_command.top) migrate_command.top
 
 -- the program with all its commands
 abbrev pub command_line : App

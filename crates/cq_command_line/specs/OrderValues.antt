@@ -5,7 +5,7 @@ use Rattle.clap.specs.Words.{Row, Text, all_of, first_of, one_of}
 use Rattle.cq_orders.specs.declared.settings.InitSettings.{InitSettings}
 use Rattle.cq_orders.specs.declared.settings.LogSettings.{LogSettings}
 use Rattle.cq_orders.specs.declared.order.Order.{Order}
-use Rattle.cq_orders.specs.declared.order.Order.TheVariants.{Echo, Cycle, Init, Write, Log, Read, Take, Check, Dump, Salvage, Race, DropBefore, Migrate}
+use Rattle.cq_orders.specs.declared.order.Order.TheVariants.{Echo, Cycle, Init, Write, Log, Read, Take, Check, Stat, Dump, Salvage, Race, DropBefore, Migrate}
 
 -- the text is the word that was given under this name
 abbrev pub IsWord : {A : Type 0} → List Row → Text → String A → Type 0
@@ -63,6 +63,7 @@ TakesValues rows (Read folder back begin) =
 TakesValues rows (Take folder name) = IsWord rows (codes "DIR") folder × IsWord rows (codes "NAME") name
 TakesValues rows (DropBefore folder cycle) = IsWord rows (codes "DIR") folder × IsNumber rows (codes "CYCLE") cycle
 TakesValues rows (Check folder) = IsWord rows (codes "DIR") folder
+TakesValues rows (Stat folder json) = IsWord rows (codes "DIR") folder × IsFlag rows (codes "json") json
 TakesValues rows (Dump folder file) = IsWord rows (codes "DIR") folder × IsWord rows (codes "FILE") file
 TakesValues rows (Salvage folder file) = IsWord rows (codes "DIR") folder × IsWord rows (codes "FILE") file
 TakesValues rows (Migrate folder) = IsWord rows (codes "DIR") folder

@@ -20,7 +20,7 @@ pub(crate) fn command_line<'a>(alloc: Global) -> Result<Command<'a>, AllocError>
 
 /// The commands that need no folder, and those on a queue that is stored in a folder.
 const COMMANDS: &[Description] = &[
-    ECHO, CYCLE, RACE, INIT, WRITE, LOG, READ, TAKE, DROP, CHECK, DUMP, SALVAGE, MIGRATE,
+    ECHO, CYCLE, RACE, INIT, WRITE, LOG, READ, TAKE, DROP, CHECK, STAT, DUMP, SALVAGE, MIGRATE,
 ];
 
 const ECHO: Description = Description {
@@ -190,6 +190,21 @@ const CHECK: Description = Description {
     about: "Says of each image what it holds, or what is wrong with it",
     after_help: "Example:\n  cq check journal",
     arguments: &[FOLDER],
+};
+
+const STAT: Description = Description {
+    name: "stat",
+    about: "Prints the settings of a queue, its cycles, its names, and what is left",
+    after_help: "Prints a line each: 'version', 'roll', 'epoch', 'cells', 'count', 'spacing' and 'cycles' with the\n\
+     settings; 'cycle' with the name, the number, the messages, their bytes, the used and the left cells,\n\
+     and 'dropped', 'ended' or 'open', for each cycle that has begun; 'first', 'floor', 'end' and\n\
+     'more_cycles' with what is left; 'name' with the name, its position and the messages that are left\n\
+     for it. The log of the queue counts too.\n\n\
+     Example:\n  cq stat journal | awk '$1 == \"name\" { print $2, $4 }'",
+    arguments: &[
+        FOLDER,
+        Argument::Flag("json", "As an object of JSON, on one line"),
+    ],
 };
 
 const DUMP: Description = Description {

@@ -53,6 +53,7 @@ fn order_named(alloc: Global, name: &str, values: &ArgMatches<'_>) -> Result<Ord
         "take" => take_order(alloc, values),
         "drop" => drop_order(alloc, values),
         "check" => check_order(alloc, values),
+        "stat" => stat_order(alloc, values),
         "dump" => dump_order(alloc, values),
         "salvage" => salvage_order(alloc, values),
         "migrate" => migrate_order(alloc, values),
@@ -165,6 +166,16 @@ fn check_order(alloc: Global, values: &ArgMatches<'_>) -> Result<Order, OrderFau
 {
     Ok(Order::Check {
         folder: word(alloc, values, "DIR")?,
+    })
+}
+
+fn stat_order(alloc: Global, values: &ArgMatches<'_>) -> Result<Order, OrderFault>
+    ensures named { IfOk result (λ order. word_of order ≡ codes "stat") }
+    ensures values { IfOk result (λ order. TakesValues (rows_of (found_of values.now)) order) }
+{
+    Ok(Order::Stat {
+        folder: word(alloc, values, "DIR")?,
+        json: flag(values, "json"),
     })
 }
 

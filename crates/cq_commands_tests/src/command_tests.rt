@@ -198,12 +198,24 @@ static ORDERS: [(&[Step], &str, &str); 5] = [
 const HELLO: &[Step] = &[Queue(4), Write(DAY, b"hello\n")];
 
 /// The arguments of commands over that queue, in which they change no image, and what they say.
-static OVER_HELLO: [(&str, &str); 8] = [
+static OVER_HELLO: [(&str, &str); 10] = [
     ("cq|read|q", "0000000100000000 hello\n"),
     ("cq|read|q|--back|--from|0000000100000000", ""),
     ("cq|take|q|reader", "0000000100000000 hello\n"),
     ("cq|drop|q|1", "1\n"),
     ("cq|check|q", "19700102.cqi: 1 messages, open\n"),
+    (
+        "cq|stat|q",
+        "version 2\nroll daily\nepoch 0\ncells 64\ncount 8\nspacing 1\ncycles 4\ncycle 19700102 1 1 5 32 32 open\n\
+first 0000000100000000\nfloor 0\nend 0000000100000001\nmore_cycles 3\nname reader 0000000000000000 1\n",
+    ),
+    (
+        "cq|stat|q|--json",
+        "{\"version\":2,\"roll\":\"daily\",\"epoch\":0,\"cells\":64,\"count\":8,\"spacing\":1,\"cycles\":4,\
+\"begun\":[{\"name\":\"19700102\",\"number\":1,\"messages\":1,\"bytes\":5,\"cells_used\":32,\"cells_left\":32,\
+\"state\":\"open\"}],\"first\":\"0000000100000000\",\"floor\":0,\"end\":\"0000000100000001\",\"more_cycles\":3,\
+\"names\":[{\"name\":\"reader\",\"position\":\"0000000000000000\",\"messages_left\":1}]}\n",
+    ),
     (
         "cq|dump|q|19700102.cqi",
         "00000000 40000024 store 2 1 8 1 64 0 86400000\n00000028 40000020 top 76 0 0 0 0 0 0 0\n\

@@ -64,7 +64,7 @@ fn expect_outside(alloc: Global, before: &[Step], table: &[Row]) -> Result<(), F
 }
 
 /// Each command that uses a folder.
-static COMMANDS: [Row; 14] = [
+static COMMANDS: [Row; 15] = [
     ("cq|init|D|daily|0|64|8|1|4|reader", b"", ""),
     ("cq|write|D|0", b"", ""),
     (
@@ -88,6 +88,13 @@ static COMMANDS: [Row; 14] = [
         "19700101.cqi: 2 messages, ended\n19700102.cqi: 1 messages, open\n",
     ),
     (
+        "cq|stat|D",
+        b"",
+        "version 2\nroll daily\nepoch 0\ncells 64\ncount 8\nspacing 1\ncycles 4\n\
+cycle 19700101 0 2 2 33 31 dropped\ncycle 19700102 1 1 1 31 33 open\n\
+first 0000000100000000\nfloor 1\nend 0000000100000001\nmore_cycles 2\nname reader 0000000100000001 0\n",
+    ),
+    (
         "cq|dump|D|19700102.cqi",
         b"",
         "00000000 40000024 store 2 1 8 1 64 0 86400000\n00000028 40000020 top 76 0 0 0 0 0 0 0\n\
@@ -107,12 +114,13 @@ fn no_command_is_inside_while_it_waits(rt: HostRuntime) -> Result<(), Fail> {
 static OLD: [Step; 2] = [Step::OldQueue(4), Step::Put("19700101.cqi", b"x")];
 
 /// Commands that write, or refuse what they read, over that folder.
-static FAULTY: [Row; 5] = [
+static FAULTY: [Row; 6] = [
     (
         "cq|check|D",
         b"",
         "19700101.cqi: Cut at 0\ncq: images at fault",
     ),
+    ("cq|stat|D", b"", "cq: 19700101.cqi: Cut at 0"),
     ("cq|dump|D|19700101.cqi", b"", "cq: 19700101.cqi: Cut at 0"),
     ("cq|salvage|D|19700101.cqi", b"", "Cut at 0\n"),
     ("cq|write|D|0", b"a\n", "cq: OldVersion"),

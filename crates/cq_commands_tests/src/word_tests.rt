@@ -199,7 +199,7 @@ fn parses_the_words_of_a_reader(rt: HostRuntime) -> Result<(), Fail> {
 }
 
 /// Arguments of the other commands on a folder, each line with what it is.
-static OTHERS: [(&str, &str); 42] = [
+static OTHERS: [(&str, &str); 47] = [
     (
         "cq|write|q|18446744073709551615",
         "Write { folder: \"q\", moment: 18446744073709551615 }",
@@ -266,6 +266,11 @@ static OTHERS: [(&str, &str); 42] = [
     ("cq|check", "<DIR>"),
     ("cq|check|q|r", "unexpected argument 'r'"),
     ("cq|check|q|-x", "unexpected argument '-x'"),
+    ("cq|stat|q", "Stat { folder: \"q\", json: false }"),
+    ("cq|stat|--json|q", "Stat { folder: \"q\", json: true }"),
+    ("cq|stat", "<DIR>"),
+    ("cq|stat|q|--json=1", "unexpected value '1' for '--json'"),
+    ("cq|stat|--help", "Usage: cq stat [OPTIONS] <DIR>"),
     (
         "cq|dump|q|2024 01.cq",
         "Dump { folder: \"q\", file: \"2024 01.cq\" }",
@@ -292,7 +297,7 @@ fn parses_the_words_of_other_commands(rt: HostRuntime) -> Result<(), Fail> {
 }
 
 /// Commands, and what the help of each says: of limits, of what is printed, and in an example.
-static HELP: [(&str, &[&str]); 13] = [
+static HELP: [(&str, &[&str]); 14] = [
     (
         "race",
         &[
@@ -378,6 +383,13 @@ static HELP: [(&str, &[&str]); 13] = [
         &[
             " <DIR>  The folder of the queue, which is there already\n",
             "Example:\n  cq check journal\n",
+        ],
+    ),
+    (
+        "stat",
+        &[
+            "'more_cycles' with what is left; 'name' with the name, its position and the messages that are left\n",
+            "Example:\n  cq stat journal | awk '$1 == \"name\" { print $2, $4 }'\n",
         ],
     ),
     (

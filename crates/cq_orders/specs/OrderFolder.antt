@@ -1,7 +1,7 @@
 -- The folder of an order, and which orders go on for longer than one call.
 use Rattle.std.specs.Prelude.{⊤, ℕ, List, Option, None, Some, string_bytes}
 use Rattle.cq_orders.specs.declared.order.Order.{Order}
-use Rattle.cq_orders.specs.declared.order.Order.TheVariants.{Echo, Cycle, Init, Write, Log, Read, Take, Check, Dump, Salvage, Race, DropBefore, Migrate}
+use Rattle.cq_orders.specs.declared.order.Order.TheVariants.{Echo, Cycle, Init, Write, Log, Read, Take, Check, Stat, Dump, Salvage, Race, DropBefore, Migrate}
 
 -- the path of the folder that an order is for
 abbrev pub folder_of : Order → Option (List ℕ)
@@ -14,6 +14,7 @@ folder_of (Read folder back from) = Some (string_bytes folder)
 folder_of (Take folder name) = Some (string_bytes folder)
 folder_of (DropBefore folder cycle) = Some (string_bytes folder)
 folder_of (Check folder) = Some (string_bytes folder)
+folder_of (Stat folder json) = Some (string_bytes folder)
 folder_of (Dump folder file) = Some (string_bytes folder)
 folder_of (Salvage folder file) = Some (string_bytes folder)
 folder_of (Migrate folder) = Some (string_bytes folder)

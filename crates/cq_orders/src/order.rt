@@ -66,6 +66,13 @@ pub enum Order {
         /// The folder.
         folder: String,
     },
+    /// Print the settings of a queue, its cycles, its names, and what is left.
+    Stat {
+        /// The folder.
+        folder: String,
+        /// Whether to print it as an object of JSON, on one line.
+        json: bool,
+    },
     /// Print the records of an image.
     Dump {
         /// The folder.
@@ -107,6 +114,7 @@ impl Order {
             | Order::Take { folder, .. }
             | Order::DropBefore { folder, .. }
             | Order::Check { folder }
+            | Order::Stat { folder, .. }
             | Order::Dump { folder, .. }
             | Order::Salvage { folder, .. }
             | Order::Migrate { folder } => Some(folder.as_str()),

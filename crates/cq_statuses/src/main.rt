@@ -12,8 +12,9 @@ use std::sync::Wait;
 use std::thread::Threads;
 
 /// The words of each start, after the program's name.
-const STARTS: [&[&str]; 35] = [
+const STARTS: [&[&str]; 38] = [
     &["read", "."],
+    &["stat", ".", "--json"],
     &["take", ".", "reader"],
     &["migrate", "."],
     &["migrate", "."],
@@ -33,12 +34,14 @@ const STARTS: [&[&str]; 35] = [
     &["salvage", ".", "20241005.cqi"],
     &["read", "logged"],
     &["check", "logged"],
+    &["stat", "logged"],
     &["take", "logged", "reader"],
     &["check", "logged"],
     &["write", "logged", "1728086400000"],
     &["read", "logged", "--back"],
     &["check", "broken"],
     &["salvage", "broken", "20241004.cqi"],
+    &["stat", "broken"],
     &["read", "other"],
     &["drop", "other", "1"],
     &["init", "other", "daily", "0", "64", "8", "1", "4"],

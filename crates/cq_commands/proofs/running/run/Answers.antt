@@ -167,6 +167,18 @@ returns-in-Check g c =
       version = tt;
     })
 
+pub returns-in-Stat : goal.returns-in-Stat
+returns-in-Stat g c =
+    ended _ c.stat.result c.args.order.now _ c.in-Stat.is c.stat.ensures.counted (record {
+      done = on_ok_weaker c.stat.result (λ printed. (c.stat.ensures.kept, printed)) c.stat.ensures.printed;
+      cause = c.stat.ensures.cause;
+      left = anyway c.stat.result _ c.stat.ensures.kept;
+      silent = silent_too c.stat.result _ c.stat.ensures.silent;
+      broken = c.stat.ensures.broken;
+      told = tt;
+      version = c.stat.ensures.version;
+    })
+
 pub returns-in-Dump : goal.returns-in-Dump
 returns-in-Dump g c =
     let files = g.F.Folder.files c.args.folder.now in
