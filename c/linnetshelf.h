@@ -64,7 +64,7 @@
  *
  * WHAT AN ENDPOINT HAS SEEN. linnetshelf_drop_before and linnetshelf_seek go up to the end that their endpoint has seen, and
  * return NOT_SEEN above it:
- * - Reads, takes, moves and positions show the end as far as their answers go. linnetshelf_to_end shows all of it.
+ * - Reads, takes, moves and positions show the end as far as their answers go. linnetshelf_to_end and linnetshelf_end show all of it.
  * - A call that returns NO_ROOM shows nothing.
  * - What an endpoint appended counts once it has read that, or has met another endpoint.
  * - A new endpoint of linnetshelf_split has seen the end at which the queue was created or opened. What its parent appended,
@@ -116,8 +116,7 @@
 extern "C" {
 #endif
 
-/* The version of this header: a million for each of its first number, a thousand for each of its second, and one for each of its
- * third. linnetshelf_version returns that of the library. */
+/* The version of this header: 1,000,000 * major + 1,000 * minor + patch. linnetshelf_version returns that of the library. */
 #define LINNETSHELF_VERSION 1000 /* 0.1.0 */
 
 /* How a call went. linnetshelf_text has a text for each. */
@@ -348,7 +347,7 @@ linnetshelf_answer linnetshelf_cursor(linnetshelf_handle *endpoint);
 
 /* Drops the cycles before this one: from now on reads, moves and takes of all endpoints skip them. Returns the floor, the
  * cycle below which all are skipped. No memory is freed. NOT_SEEN: the cycle is above that of the end which this endpoint has
- * seen; linnetshelf_to_end sees it. */
+ * seen; linnetshelf_to_end and linnetshelf_end see it. */
 linnetshelf_answer linnetshelf_drop_before(linnetshelf_handle *endpoint, uint32_t cycle);
 
 /* Names. */

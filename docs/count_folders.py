@@ -16,6 +16,7 @@ import signal
 import subprocess
 import sys
 import tempfile
+import threading
 import time
 
 sys.path.insert(0, os.path.dirname(os.path.abspath(__file__)))
@@ -167,7 +168,7 @@ def compare(program, folder, counted, what):
         told = json.loads(text)
     except ValueError:
         told = None
-    if told != counted or text.count("\n") != 1 or list(told or {}) != list(counted):
+    if text.count("\n") != 1 or json.dumps(told) != json.dumps(counted):
         wrong.append(f"{what}: {text!r} in place of {json.dumps(counted)}")
     return wrong
 
@@ -180,12 +181,15 @@ def try_log(program, dice, folder):
         subprocess.run([program, "take", folder, "two"], stdout=subprocess.DEVNULL, check=True)
     lines = [b"x" * dice.randint(1, 30) + b"\n" for _ in range(dice.randint(1, 20))]
     log = subprocess.Popen([program, "log", folder], stdin=subprocess.PIPE, stdout=subprocess.PIPE)
+    end = threading.Timer(60, log.kill)
+    end.start()
     log.stdin.write(b"".join(lines))
     log.stdin.flush()
     indexes = [log.stdout.readline().decode().strip() for _ in lines]
     live = said(program, folder)
     log.send_signal(signal.SIGKILL)
     log.wait()
+    end.cancel()
     log.stdin.close()
     log.stdout.close()
     killed = said(program, folder)

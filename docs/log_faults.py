@@ -32,14 +32,14 @@ OPTIONS = [[], ["--checkpoint", "5", "--syncs", "1"]]
 # With one of these a device becomes full.
 FULL_OPTIONS = [[], ["--checkpoint", "20000"], ["--checkpoint", "20000", "--syncs", "1"]]
 
-# What is said where a checkpoint is not made, and the queue goes on.
-UNSAVED = re.compile(rb"(cq: [^\n]+: the images are not saved yet, and the queue goes on\n)+")
+# What is said where a checkpoint is not made, and the queue goes on. It names that fault alone.
+UNSAVED = re.compile(rb"cq: [^\n]+: the images are not saved yet, and the queue goes on\n")
 
 # What is said of a fault. ERRORS.md has these texts. That the log was changed is said where a rename to it failed.
 TEXTS = re.compile(
     rb"(cq: (folder fault|no queue here|file fault: [\w.-]+|read fault|write fault|the log could not be begun: [^\n]+|"
     rb"the log is not opened: [^\n]+|the log was changed while the queue was opened: [^\n]+|the log has stopped: [^\n]+|"
-    rb"[^\n]*: all lines with an index are in queue\.log[^\n]*|[^\n]+: the images are not saved yet, and the queue goes on)\n)+"
+    rb"[^\n]*: all lines with an index are in queue\.log[^\n]*)\n)+"
 )
 
 
@@ -90,18 +90,17 @@ def is_well_after(life, is_silent, answer, lines, what):
 
 
 def is_answer(life, is_silent, answer, lines, what):
-    status, acks, said = answer
+    status, acks, said = answer[0], answer[1], UNSAVED.sub(b"", answer[2])
     if status == 0:
-        is_unsaved = UNSAVED.fullmatch(said)
-        if len(acks) != len(lines) or said and not is_unsaved:
-            life.fails(what, f"status 0, {len(acks)} lines acknowledged, said {said!r}")
-        if not is_silent and not is_unsaved:
+        if len(acks) != len(lines) or said:
+            life.fails(what, f"status 0, {len(acks)} lines acknowledged, said {answer[2]!r}")
+        if not is_silent and not answer[2]:
             life.fails(what, "status 0: the fault was not named")
         life.tried.counts["faults: done without"] += 1
     elif status == 1 and TEXTS.fullmatch(said):
         life.tried.counts["faults: named"] += 1
     else:
-        life.fails(what, f"status {status}, said {said!r}")
+        life.fails(what, f"status {status}, said {answer[2]!r}")
     return life.compared(lines, acks, what)
 
 

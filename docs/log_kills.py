@@ -126,11 +126,14 @@ def try_order(tried, syncs):
     status, acks, said = served_one_by_one([*front, tried.program], life.folder, lines, ["--syncs", str(syncs)])
     if status or said or len(acks) != 3:
         tried.wrong.append(f"syncs: status {status}, {len(acks)} lines acknowledged, said {said!r}")
-    for made, is_synced in acknowledged(trace)[1:]:
+    found = acknowledged(trace)
+    if len(found) != 3 or not (syncs == 0 or all(is_synced for _, is_synced in found)):
+        tried.wrong.append(f"syncs: with {syncs} not each of three indexes comes after a sync of the last write: {found}")
+    # Before the first index the queue is opened.
+    for made, _ in found[1:]:
         tried.counts[f"acknowledgements after {syncs} syncs"] += 1
-        if made != syncs or not (is_synced or syncs == 0):
-            end = "after" if is_synced else "before"
-            tried.wrong.append(f"syncs: {made} and not {syncs} before an index, the last one {end} the last write")
+        if made != syncs:
+            tried.wrong.append(f"syncs: {made} and not {syncs} before an index")
     life.end()
 
 

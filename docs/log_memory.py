@@ -55,8 +55,9 @@ class Refusals:
 def serve(life, refusals, number, what, options=()):
     """`cq log` has to say that memory was refused, or to do without."""
     status, acks, said = served_one_by_one([*refusals.front(number), life.tried.program], life.folder, LINES, options)
-    is_done = status == 0 and len(acks) == len(LINES) and (not said or UNSAVED.fullmatch(said))
-    if not is_done and not (status == 1 and any(text in said for text in REFUSED)):
+    fault = UNSAVED.sub(b"", said)
+    is_done = status == 0 and len(acks) == len(LINES) and not fault
+    if not is_done and not (status == 1 and any(text in fault for text in REFUSED)):
         life.fails(what, f"status {status}, {len(acks)} lines acknowledged, said {said!r}")
     life.compared(LINES, acks, what)
 

@@ -173,7 +173,8 @@ static void kill_while_it_opens(double share) {
         linnetshelf_handle queue = {0};
         if (journal_open(folder, MOMENT, &open, &queue) || write(ends[1], "", 1) != 1)
             _exit(1);
-        pause();
+        for (;;)
+            pause();
     }
     close(ends[1]);
     char byte;
@@ -193,6 +194,7 @@ static void kill_while_it_opens(double share) {
 static void survives_kills(int rounds) {
     init(CONFIG);
     uint32_t stored = 0;
+    kill_while_it_opens(1);
     for (int round = 0; round < rounds; round++) {
         int ends[2];
         CHECK(pipe(ends) == 0);

@@ -34,9 +34,12 @@ def main():
             files = {file.name: file.read_bytes() for file in folder.iterdir()}
             check_printed(f"{index} held\n", "read", folder)
             assert cq("check", folder).stdout.splitlines()[-1] == "queue.log: 1 messages, live"
+            assert cq("stat", folder).stdout.splitlines()[-1] == "name reader 0000000000000000 1"
             check_refused("write", folder, MOMENT, text="more\n")
             check_refused("take", folder, "reader")
             check_refused("drop", folder, 1)
+            check_refused("migrate", folder)
+            check_refused("init", folder, "daily", 0, 65536, 32, 1, 8, "reader")
             check_refused("log", folder, text="more\n")
             assert files == {file.name: file.read_bytes() for file in folder.iterdir()}
             holder.stdin.close()

@@ -28,6 +28,9 @@ FORWARDS, BACKWARDS = 0, 1
 # One call of the library appends or reads at most this many messages, of about this many bytes.
 MANY, MANY_BYTES = 512, 65536
 
+# The longest length that a call of the library takes.
+LONGEST_LENGTH = 2**32 - 1
+
 # An answer of the library, as bytes: an index, a length and a status.
 ANSWER = struct.Struct("=QII")
 
@@ -137,16 +140,21 @@ def address_of(data: Buffer) -> object:
 
 
 def batches_of(messages: Iterable[Buffer]) -> Iterator[list[bytes]]:
-    """Returns messages in groups, as many as one call appends."""
+    """Returns messages in groups, as many as one call appends. If there is an error, it comes after those before it."""
     parts: list[bytes] = []
     size = 0
-    for data in messages:
-        part = data if isinstance(data, bytes) else memoryview(data).tobytes()
-        parts.append(part)
-        size += len(part)
-        if len(parts) == MANY or size >= MANY_BYTES:
+    try:
+        for data in messages:
+            part = data if isinstance(data, bytes) else memoryview(data).tobytes()
+            parts.append(part)
+            size += len(part)
+            if len(parts) == MANY or size >= MANY_BYTES:
+                group, parts, size = parts, [], 0
+                yield group
+    except Exception:
+        if parts:
             yield parts
-            parts, size = [], 0
+        raise
     if parts:
         yield parts
 
@@ -280,7 +288,9 @@ class Endpoint(Owner):
 
         Each is appended as by `append`, and other endpoints may append between them. While another endpoint writes it tries
         again, at most `timeout` seconds for some hundred messages. If one is refused, those before it stay: `appended` of the
-        error is their number.
+        error is their number. If `messages` raises, what it gave before is appended.
+
+        It draws some hundred messages before it appends them. For a source that gives one now and then use `append`.
         """
         last, appended = None, 0
         for parts in batches_of(messages):
@@ -298,7 +308,8 @@ class Endpoint(Owner):
     def _append_batch(self, parts: list[bytes], moment: int | None, timeout: float | None) -> tuple[int, Index, int]:
         """Appends messages; returns how many, the index of the last of them, and why there are no more."""
         data = bytearray().join(parts)
-        lengths = array("I", [number(len(part), 32, Status.BAD_ROOM) for part in parts])
+        # No message may be as long as the longest of these lengths.
+        lengths = array("I", [min(len(part), LONGEST_LENGTH) for part in parts])
         address, (places, _) = ctypes.addressof((ctypes.c_char * len(data)).from_buffer(data)), lengths.buffer_info()
         count, start, last = 0, 0, Index(0)
 
@@ -404,12 +415,27 @@ class Endpoint(Owner):
             if many.status in (Status.NOT_YET, Status.BEFORE_START):
                 return False
             check(many.status)
-        start = 0
-        for index, length, _ in ANSWER.iter_unpack(memoryview(self._answers)[: many.count * ANSWER.size]):
-            end = start + length
-            self._ahead.append(Message(Index(index), bytes(buffer[start:end])))
-            start = end
+        try:
+            start = 0
+            for index, length, _ in ANSWER.iter_unpack(memoryview(self._answers)[: many.count * ANSWER.size]):
+                end = start + length
+                self._ahead.append(Message(Index(index), bytes(buffer[start:end])))
+                start = end
+        except BaseException:
+            # It may come from outside, as by a signal. What was read is read again.
+            self._unread()
+            raise
         return True
+
+    def _unread(self) -> None:
+        """Moves back to where the messages begin that were read ahead by the last call."""
+        self._ahead.clear()
+        first = ANSWER.unpack_from(self._answers)[0]
+        if library.move_to(self._live(), first) == Status.DONE and self._way == BACKWARDS:
+            # Backwards it is after the first one.
+            library.direction(self._live(), FORWARDS)
+            self._read(library.next)
+            library.direction(self._live(), BACKWARDS)
 
     def _return_next(self) -> Message:
         """Returns the next message of those that were read ahead."""
@@ -553,6 +579,9 @@ class Endpoint(Owner):
     @property
     def cursor(self) -> Index:
         """Where the endpoint is: the message that it reads next has this index or a later one."""
+        if self._ahead and self._way == FORWARDS:
+            self._live()
+            return self._ahead[0].index
         self._give_back()
         answer = library.cursor(self._live())
         check(answer.status)

@@ -141,7 +141,7 @@ def check(status: int, detail: str = "") -> None:
 
 
 def number(value: int, bits: int, status: Status) -> int:
-    """Returns a number that has at most so many bits. Others would be cut off, and raise the exception for a status."""
+    """Returns a number that has at most this number of bits. Others would be cut off, and raise the exception for a status."""
     if not 0 <= value < 1 << bits:
         raise error_of(status, str(value))
     return value

@@ -17,13 +17,14 @@ import tempfile
 import threading
 import time
 import unittest
+import unittest.mock
 
 TOP = pathlib.Path(__file__).resolve().parent.parent.parent
 sys.path.insert(0, str(TOP / "python"))
 os.environ["LINNETSHELF_LIBRARY"], CQ = str(pathlib.Path(sys.argv[1]).resolve()), (sys.argv[2:] or [None])[0]
 
 import linnetshelf
-from linnetshelf import _folder, _library
+from linnetshelf import _endpoint, _folder, _library
 
 DAY = 86_400_000
 SMALL = linnetshelf.Settings(cells=4096, index_count=16, index_spacing=4, cycles=3)
@@ -156,6 +157,42 @@ class Calls(unittest.TestCase):
         self.queue.close()
         with self.assertRaises(ValueError):
             self.queue.append_all([b"d"], 0)
+
+    def test_a_source_of_many_raises(self):
+        def source():
+            yield from (b"a", b"b")
+            raise KeyError("source")
+
+        with self.assertRaises(KeyError):
+            self.queue.append_all(source(), 0)
+        with self.assertRaises(TypeError):
+            self.queue.append_all([b"c", "no bytes", b"d"], 0)
+        self.assertEqual(data_of(self.queue), [b"a", b"b", b"c"])
+
+    def test_an_iteration_is_interrupted_while_it_reads(self):
+        data = [b"%d" % k for k in range(20)]
+        self.queue.append_all(data, 0)
+
+        def interrupted(messages, number):
+            # What a signal raises while messages are read ahead.
+            made = itertools.count()
+
+            def make(*fields):
+                if next(made) == number:
+                    raise KeyboardInterrupt
+                return linnetshelf.Message(*fields)
+
+            with unittest.mock.patch.object(_endpoint, "Message", make), self.assertRaises(KeyboardInterrupt):
+                list(messages)
+
+        interrupted(self.queue, 7)
+        self.assertEqual(data_of(itertools.islice(self.queue, 15)), data[:15])
+        interrupted(self.queue.backwards(), 0)
+        interrupted(self.queue.backwards(), 3)
+        self.assertEqual(data_of(self.queue.backwards()), data[14::-1])
+        self.assertEqual(data_of(self.queue), data)
+        interrupted(self.queue.backwards(), 5)
+        self.assertEqual(data_of(self.queue.backwards()), data[::-1])
 
     def test_an_iteration_ends_early(self):
         indices = [self.queue.append(b"%d" % k, k // 2 * DAY) for k in range(6)]
