@@ -168,7 +168,7 @@ fn first_name(alloc: Global, changes: &[NewFile]) -> Result<String, AllocError>
 }
 
 /// Returns the error for a file that could not be written.
-fn save_fault(fault: FolderFault, file: String) -> ToolFault
+pub fn save_fault(fault: FolderFault, file: String) -> ToolFault
     ensures fault { IsFileFault (string_bytes file) result }
     ensures save { IsSaveFault result }
     ensures scarce { result ≡ ToolFault.OutOfMemory → fault ≡ FolderFault.OutOfMemory }

@@ -10,6 +10,7 @@
 //! | `can_be_opened`, `is_unread` | whether a queue can hold what was read |
 //! | `images_of` | the images of cycles, as files that are to be saved |
 //! | `save`, `save_files`, `write_file` | save images, some files together, and a file |
+//! | `save_fault` | the error for a file that could not be written |
 //! | `print_outside` | writes the output of a command that has left the folder |
 //! | `has_name`, `MOST_FILE_BYTES` | whether a file has a name, and the limit of a file's bytes |
 //!
@@ -35,7 +36,7 @@ mod saving;
 
 pub use checking::check;
 pub use dumping::dump;
-pub use files::{MOST_FILE_BYTES, has_name, print_outside, save_files, write_file};
+pub use files::{MOST_FILE_BYTES, has_name, print_outside, save_fault, save_files, write_file};
 pub use initialising::init;
 pub use migrating::migrate;
 pub use openable::{can_be_opened, is_unread};

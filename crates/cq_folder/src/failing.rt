@@ -6,9 +6,9 @@ use std::alloc::Global;
 
 /// A folder of which one call fails with `Device`, for tests of code that uses a folder.
 ///
-/// The calls of `begin`, `names`, `read`, `write` and `save` are counted together, from 1. All others are those of the
-/// inner folder. After a `begin` that fails no command is in the folder. A `write` or a `save` that fails may have been
-/// done.
+/// The calls of `begin`, `names`, `read`, `write`, `save` and `save_and_remove` are counted together, from 1. All others
+/// are those of the inner folder. After a `begin` that fails no command is in the folder. A `write`, a `save` or a
+/// `save_and_remove` that fails may have been done.
 #[derive(Drop)]
 pub struct FailingFolder<F: Folder> {
     /// The inner folder.
@@ -22,7 +22,7 @@ pub struct FailingFolder<F: Folder> {
 pub struct FailingCall {
     /// The number of calls up to the next failing one, this one included; 0 if no further call fails.
     pub calls_left: u64,
-    /// Whether the failing call writes its bytes.
+    /// Whether the failing call writes its bytes, and removes its files.
     pub writes: bool,
     /// The number of calls that failed.
     pub failures: u64,
@@ -43,7 +43,7 @@ impl<F: Folder> FailingFolder<F> {
         }
     }
 
-    /// Makes a folder whose call with this number fails, and writes what it is to write.
+    /// Makes a folder whose call with this number fails, and writes and removes what it is to.
     pub fn written(folder: F, number: u64) -> Self
         ensures folder { result.folder ≡ folder }
         ensures call { result.failing.calls_left ≡ number }
@@ -153,6 +153,20 @@ impl<F: Folder> Folder for FailingFolder<F> {
         }
         if self.failing.writes {
             let _ = self.folder.save(changes);
+        }
+        Err(FolderFault::Device)
+    }
+
+    fn save_and_remove(
+        &mut self,
+        changes: &[NewFile],
+        removed: &[String],
+    ) -> Result<(), FolderFault> {
+        if !self.failing.is_next() {
+            return self.folder.save_and_remove(changes, removed);
+        }
+        if self.failing.writes {
+            let _ = self.folder.save_and_remove(changes, removed);
         }
         Err(FolderFault::Device)
     }

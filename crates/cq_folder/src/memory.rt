@@ -1,4 +1,4 @@
-ghost use Rattle.std.specs.Prelude.{◌≡◌, ℕ, IfOk, List, None, OnErr, OnOk, Some};
+ghost use Rattle.std.specs.Prelude.{◌≡◌, ◌∷◌, ℕ, [], IfOk, List, None, OnErr, OnOk, Some, map};
 
 use crate::storage::{Access, Folder, FolderFault, NewFile};
 use std::alloc::{AllocError, Global};
@@ -17,7 +17,7 @@ pub struct MemoryFolder {
 }
 
 impl MemoryFolder {
-    ghost use Rattle.cq_folder.specs.Folder.{KeepsFiles, WritesFile};
+    ghost use Rattle.cq_folder.specs.Folder.{KeepsFiles, SavesAndRemoves, WritesFile, WritesFiles, named_file};
     ghost use Rattle.cq_folder.specs.MemoryFolder.{files_in};
 
     /// A folder with no file.
@@ -59,6 +59,31 @@ impl MemoryFolder {
         let bytes = Vec::from_slice(self.alloc, bytes)?;
         self.files.insert(name, bytes)?;
         Ok(())
+    }
+
+    /// Makes each of these bytes the whole file of its name, in turn.
+    fn put_all(&mut self, changes: &[NewFile]) -> Result<(), AllocError>
+        ensures written { OnOk result (WritesFiles (Some (files_in self.old)) (Some (files_in self.new)) (map named_file changes.now)) }
+        ensures kept { OnErr result (KeepsFiles (Some (files_in self.old)) (Some (files_in self.new))) }
+        ensures failures { self.new.failures ≡ self.old.failures }
+        ensures inside { self.new.entered ≡ self.old.entered }
+    {
+        // All is written to a copy, which then replaces what was held.
+        let mut copy = self.copied()?;
+        for file in changes {
+            copy.put(file.name.as_str(), file.bytes.as_slice())?;
+        }
+        *self = copy;
+        Ok(())
+    }
+
+    /// Removes the file of that name, if there is one.
+    fn remove(&mut self, name: &str)
+        ensures removed { SavesAndRemoves (Some (files_in self.old)) (Some (files_in self.new)) [] (name.now ∷ []) }
+        ensures failures { self.new.failures ≡ self.old.failures }
+        ensures inside { self.new.entered ≡ self.old.entered }
+    {
+        self.files.remove(name);
     }
 }
 
@@ -104,13 +129,20 @@ impl Folder for MemoryFolder {
         Ok(self.put(name, bytes)?)
     }
 
-    // All is written to a copy, which then replaces what was held.
     fn save(&mut self, changes: &[NewFile]) -> Result<(), FolderFault> {
-        let mut copy = self.copied()?;
-        for file in changes {
-            copy.put(file.name.as_str(), file.bytes.as_slice())?;
+        Ok(self.put_all(changes)?)
+    }
+
+    // No removal fails, so all is done once the files are written.
+    fn save_and_remove(
+        &mut self,
+        changes: &[NewFile],
+        removed: &[String],
+    ) -> Result<(), FolderFault> {
+        self.put_all(changes)?;
+        for name in removed {
+            self.remove(name.as_str());
         }
-        *self = copy;
         Ok(())
     }
 

@@ -79,7 +79,7 @@ pub struct NewFile {
 /// A folder of files (ours; Chronicle Queue has no rule for it). No call makes the folder itself.
 ///
 /// A command begins, lists and reads, writes or saves at most once, and ends. Only a command that has begun lists and
-/// reads, and only one that is alone writes and saves. Contracts see what the files of a folder in memory hold, but not
+/// reads, and only one that is alone writes, saves and removes. Contracts see what the files of a folder in memory hold, but not
 /// those of a real one.
 ///
 /// Errors of every call but `end`, `access` and `failures`:
@@ -89,7 +89,7 @@ pub struct NewFile {
 pub trait Folder {
     ghost use Rattle.std.specs.Prelude.{◌≡◌, ◌≢◌, ◌∷◌, ℕ, ◌<◌, ◌≤◌, Option, Some, [], Err, IfOk, OnErr, OnOk, IfSome, IsSome, IsSomeAnd, None, length, map};
     ghost use Rattle.cq_model.specs.Settings.{texts};
-    ghost use Rattle.cq_folder.specs.Folder.{Entered, Files, IsCounted, KeepsFiles, KeepsOrWrites, ListsFiles, WritesFile, WritesFiles, named_file};
+    ghost use Rattle.cq_folder.specs.Folder.{Entered, Files, IsCounted, KeepsFiles, KeepsOrSavesAndRemoves, KeepsOrWrites, ListsFiles, SavesAndRemoves, WritesFile, WritesFiles, named_file};
 
     ghost files: { Self → Option Files } = { λ _. None };
 
@@ -159,6 +159,23 @@ pub trait Folder {
         ensures inside { entered self.new ≡ entered self.old }
         ensures written { OnOk result (WritesFiles (files self.old) (files self.new) (map named_file changes.now)) }
         ensures whole { OnErr result (KeepsOrWrites (files self.old) (files self.new) (map named_file changes.now)) }
+        ensures scarce { result ≡ Err FolderFault.OutOfMemory → KeepsFiles (files self.old) (files self.new) }
+        ensures fits { result ≢ Err FolderFault.TooLarge }
+        ensures counted { IsCounted (failed self.old) (failed self.new) result };
+
+    /// Writes several whole files and removes others, all at once. What is written is written first, so a removed file is
+    /// gone even if it is also written. A file that is not there counts as removed.
+    ///
+    /// After an error all of that is done, or nothing. After `OutOfMemory` nothing is.
+    fn save_and_remove(
+        &mut self,
+        changes: &[NewFile],
+        removed: &[String],
+    ) -> Result<(), FolderFault>
+        requires { entered self.old ≡ Some Access.Alone }
+        ensures inside { entered self.new ≡ entered self.old }
+        ensures written { OnOk result (SavesAndRemoves (files self.old) (files self.new) (map named_file changes.now) (texts removed.now)) }
+        ensures whole { OnErr result (KeepsOrSavesAndRemoves (files self.old) (files self.new) (map named_file changes.now) (texts removed.now)) }
         ensures scarce { result ≡ Err FolderFault.OutOfMemory → KeepsFiles (files self.old) (files self.new) }
         ensures fits { result ≢ Err FolderFault.TooLarge }
         ensures counted { IsCounted (failed self.old) (failed self.new) result };

@@ -137,7 +137,26 @@ pub fn save<F: Folder>(
     Ok(folder.save(changes.as_slice()))
 }
 
-/// What entering a folder returns, and then its list, a write, a read and a save, and how many calls failed, as text.
+/// Saves files of these names and texts together, and removes others.
+pub fn save_and_remove<F: Folder>(
+    alloc: Global,
+    folder: &mut F,
+    files: &[(&str, &str)],
+    removed: &[&str],
+) -> Result<Result<(), FolderFault>, AllocError>
+    requires { F.entered folder.old ≡ Some Access.Alone }
+    ensures { F.entered folder.new ≡ F.entered folder.old }
+{
+    let changes = changes(alloc, files)?;
+    let mut names = Vec::new(alloc);
+    for &name in removed {
+        names.push(String::from_str(alloc, name)?)?;
+    }
+    Ok(folder.save_and_remove(changes.as_slice(), names.as_slice()))
+}
+
+/// What entering a folder returns, and then its list, a write, a read, a save and a removal, and how many calls failed, as
+/// text.
 fn calls_text(
     alloc: Global,
     folder: &mut FailingFolder<NotedFolder>,
@@ -164,7 +183,7 @@ fn push_calls(
     }
 }
 
-/// Adds to a text what the list, a write, a read and a save return.
+/// Adds to a text what the list, a write, a read, a save and a removal return.
 fn push_calls_within<F: Folder>(
     alloc: Global,
     folder: &mut F,
@@ -176,7 +195,11 @@ fn push_calls_within<F: Folder>(
     let write = folder.write("a", b"new".as_slice());
     let read = read_text(alloc, folder, "b", 0)?;
     let saved = save(alloc, folder, &[("b", "1"), ("c", "2")])?;
-    write!(text, "{names:?}, {write:?}, {read}, {saved:?}, ")
+    let removed = save_and_remove(alloc, folder, &[("d", "3"), ("c", "4")], &["c", "e"])?;
+    write!(
+        text,
+        "{names:?}, {write:?}, {read}, {saved:?}, {removed:?}, "
+    )
 }
 
 /// Lists the names of the files, and lets them go.
@@ -188,13 +211,14 @@ fn list<F: Folder>(alloc: Global, folder: &mut F) -> Result<(), FolderFault>
     Ok(())
 }
 
-/// What the files `a`, `b` and `c` hold, as text.
-fn three_text(alloc: Global, folder: &mut NotedFolder) -> Result<String, Fail> {
+/// What the files `a`, `b`, `c` and `d` hold, as text.
+fn four_text(alloc: Global, folder: &mut NotedFolder) -> Result<String, Fail> {
     folder.begin(alloc, Access::Shared)?;
     let a = read_text(alloc, folder, "a", 3)?;
     let b = read_text(alloc, folder, "b", 3)?;
     let c = read_text(alloc, folder, "c", 3)?;
-    Ok(format!(in alloc; "{a} {b} {c}")?)
+    let d = read_text(alloc, folder, "d", 3)?;
+    Ok(format!(in alloc; "{a} {b} {c} {d}")?)
 }
 
 /// Fails if the calls of a folder return other than wanted, or if its files then hold something else.
@@ -208,41 +232,46 @@ fn expect_failing(
     let mut within = folder.into_inner();
     within.written?;
     expect_text(answers, calls)?;
-    expect_text(three_text(alloc, &mut within)?, held)
+    expect_text(four_text(alloc, &mut within)?, held)
 }
 
 /// The number of the call that fails and does nothing, with what `calls_text` says, and what the files hold then.
-static FAILURES: [(u64, &str, &str); 7] = [
+static FAILURES: [(u64, &str, &str); 8] = [
     (
         0,
-        "Ok(()), Ok(()), Ok(()), [], Ok(()), 0 failed",
-        "[110, 101, 119] [49] [50]",
+        "Ok(()), Ok(()), Ok(()), [], Ok(()), Ok(()), 0 failed",
+        "[110, 101, 119] [49] Device [51]",
     ),
-    (1, "Err(Device), 1 failed", "[97, 98, 99] [] Device"),
+    (1, "Err(Device), 1 failed", "[97, 98, 99] [] Device Device"),
     (
         2,
-        "Ok(()), Err(Device), Ok(()), [], Ok(()), 1 failed",
-        "[110, 101, 119] [49] [50]",
+        "Ok(()), Err(Device), Ok(()), [], Ok(()), Ok(()), 1 failed",
+        "[110, 101, 119] [49] Device [51]",
     ),
     (
         3,
-        "Ok(()), Ok(()), Err(Device), [], Ok(()), 1 failed",
-        "[97, 98, 99] [49] [50]",
+        "Ok(()), Ok(()), Err(Device), [], Ok(()), Ok(()), 1 failed",
+        "[97, 98, 99] [49] Device [51]",
     ),
     (
         4,
-        "Ok(()), Ok(()), Ok(()), Device, Ok(()), 1 failed",
-        "[110, 101, 119] [49] [50]",
+        "Ok(()), Ok(()), Ok(()), Device, Ok(()), Ok(()), 1 failed",
+        "[110, 101, 119] [49] Device [51]",
     ),
     (
         5,
-        "Ok(()), Ok(()), Ok(()), [], Err(Device), 1 failed",
-        "[110, 101, 119] [] Device",
+        "Ok(()), Ok(()), Ok(()), [], Err(Device), Ok(()), 1 failed",
+        "[110, 101, 119] [] Device [51]",
     ),
     (
         6,
-        "Ok(()), Ok(()), Ok(()), [], Ok(()), 0 failed",
-        "[110, 101, 119] [49] [50]",
+        "Ok(()), Ok(()), Ok(()), [], Ok(()), Err(Device), 1 failed",
+        "[110, 101, 119] [49] [50] Device",
+    ),
+    (
+        7,
+        "Ok(()), Ok(()), Ok(()), [], Ok(()), Ok(()), 0 failed",
+        "[110, 101, 119] [49] Device [51]",
     ),
 ];
 
@@ -273,16 +302,21 @@ fn each_call_can_fail_once(rt: HostRuntime) -> Result<(), Fail> {
 }
 
 /// The same if the call that fails is done nevertheless.
-static DONE: [(u64, &str, &str); 2] = [
+static DONE: [(u64, &str, &str); 3] = [
     (
         3,
-        "Ok(()), Ok(()), Err(Device), [], Ok(()), 1 failed",
-        "[110, 101, 119] [49] [50]",
+        "Ok(()), Ok(()), Err(Device), [], Ok(()), Ok(()), 1 failed",
+        "[110, 101, 119] [49] Device [51]",
     ),
     (
         5,
-        "Ok(()), Ok(()), Ok(()), [], Err(Device), 1 failed",
-        "[110, 101, 119] [49] [50]",
+        "Ok(()), Ok(()), Ok(()), [], Err(Device), Ok(()), 1 failed",
+        "[110, 101, 119] [49] Device [51]",
+    ),
+    (
+        6,
+        "Ok(()), Ok(()), Ok(()), [], Ok(()), Err(Device), 1 failed",
+        "[110, 101, 119] [49] Device [51]",
     ),
 ];
 

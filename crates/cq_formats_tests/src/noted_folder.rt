@@ -60,6 +60,16 @@ impl Folder for NotedFolder {
         answer
     }
 
+    fn save_and_remove(
+        &mut self,
+        changes: &[NewFile],
+        removed: &[String],
+    ) -> Result<(), FolderFault> {
+        let answer = self.folder.save_and_remove(changes, removed);
+        self.written = self.written.and(answer);
+        answer
+    }
+
     fn access(&self) -> Option<Access> {
         self.folder.access()
     }

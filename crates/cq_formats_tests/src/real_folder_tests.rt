@@ -1,8 +1,8 @@
 //! Folders of the system, and what is left in them by commands that were cut short.
 
-ghost use Rattle.std.specs.Prelude.{IsSome};
+ghost use Rattle.std.specs.Prelude.{◌≡◌, IsSome, Some};
 
-use crate::folder_tests::{in_order, names_text, save};
+use crate::folder_tests::{in_order, names_text, save, save_and_remove};
 use cq_fixtures::{expect_text, push_missed};
 use cq_folder::{Access, Folder, FolderFault};
 use cq_real_folder::RealFolder;
@@ -41,6 +41,10 @@ enum Step {
     Try(Access),
     /// Saves files with these texts together.
     Save(&'static [(&'static str, &'static str)]),
+    /// Saves files with these texts together, and removes others.
+    SaveAndRemove(&'static [(&'static str, &'static str)], &'static [&'static str]),
+    /// Removes this many files with long names, which are not there.
+    RemoveMany(usize),
     /// Writes a file with this text.
     Write(&'static str, &'static str),
     /// Says the names, in their order.
@@ -148,7 +152,9 @@ fn said_at(
         Step::Begin(access) => answer(alloc, folder.begin(alloc, access)),
         Step::End => ended(alloc, folder),
         Step::Failures => failed(alloc, folder),
-        Step::Save(..) | Step::Write(..) => said_alone(alloc, folder, step),
+        Step::Save(..) | Step::SaveAndRemove(..) | Step::RemoveMany(..) | Step::Write(..) => {
+            said_alone(alloc, folder, step)
+        }
         Step::Count | Step::Names | Step::Read(_) => said_inside(alloc, folder, step),
     }
 }
@@ -256,9 +262,24 @@ fn said_alone(
     };
     match *step {
         Step::Save(files) => answer(alloc, save(alloc, folder, files)?),
+        Step::SaveAndRemove(files, removed) => {
+            answer(alloc, save_and_remove(alloc, folder, files, removed)?)
+        }
+        Step::RemoveMany(count) => remove_many(alloc, folder, count),
         Step::Write(name, text) => answer(alloc, folder.write(name, text.as_bytes())),
         _ => Err(Fail::new("no such step")),
     }
+}
+
+/// Removes this many files, each with a name of 244 bytes.
+fn remove_many<F: Folder>(alloc: Global, folder: &mut F, count: usize) -> Result<String, Fail>
+    requires { F.entered folder.old ≡ Some Access.Alone }
+{
+    let mut names = Vec::new(alloc);
+    for number in 0..count {
+        names.push(format!(in alloc; "{number:0>240}.cqi")?)?;
+    }
+    answer(alloc, folder.save_and_remove(&[], names.as_slice()))
 }
 
 /// What a step says that only a command takes that has entered.
@@ -355,6 +376,92 @@ static SAVED: [(Step, &str); 16] = [
     (Step::Listed, "1.cqi 2.cqi queue.cqc queue.log "),
 ];
 
+/// Files are saved and others removed together. A removed file that is also saved is gone, and one that is not there counts
+/// as removed. What no record can name, a link and a folder are refused, and nothing of the call is done.
+static REMOVED: [(Step, &str); 35] = [
+    (Step::Begin(Access::Alone), ""),
+    (
+        Step::Save(&[("1.cqi", "one"), ("2.cqi", "two"), ("3.cqi", "three")]),
+        "",
+    ),
+    (
+        Step::SaveAndRemove(
+            &[("queue.cqc", "cut"), ("1.cqi", "new one")],
+            &["2.cqi", "4.cqi"],
+        ),
+        "",
+    ),
+    (Step::Listed, "1.cqi 3.cqi queue.cqc "),
+    (Step::Read("1.cqi"), "new one"),
+    (Step::Read("2.cqi"), "Device"),
+    (Step::Read("queue.cqc"), "cut"),
+    (
+        Step::SaveAndRemove(&[("1.cqi", "gone"), ("4.cqi", "four")], &["1.cqi", "1.cqi"]),
+        "",
+    ),
+    (Step::Listed, "3.cqi 4.cqi queue.cqc "),
+    (Step::Read("4.cqi"), "four"),
+    (
+        Step::SaveAndRemove(&[("4.cqi", "one file")], &["3.cqi"]),
+        "",
+    ),
+    (Step::Listed, "4.cqi queue.cqc "),
+    (Step::SaveAndRemove(&[], &["queue.cqc"]), ""),
+    (Step::Listed, "4.cqi "),
+    (Step::SaveAndRemove(&[("4.cqi", "kept")], &[]), ""),
+    (Step::SaveAndRemove(&[], &[]), ""),
+    (Step::Read("4.cqi"), "kept"),
+    (Step::Put("a.txt", "the user's"), ""),
+    (
+        Step::SaveAndRemove(&[("4.cqi", "new")], &["4.cqi", "a.txt"]),
+        "Device",
+    ),
+    (
+        Step::SaveAndRemove(&[("4.cqi", "new")], &["../4.cqi"]),
+        "Device",
+    ),
+    (
+        Step::SaveAndRemove(&[("4.cqi", "new")], &["queue.save"]),
+        "Device",
+    ),
+    (
+        Step::SaveAndRemove(&[("4.cqi", "new")], &["4.cqi.7.part"]),
+        "Device",
+    ),
+    (
+        Step::SaveAndRemove(&[("a.txt", "new")], &["4.cqi"]),
+        "Device",
+    ),
+    (Step::Make("5.cqi"), ""),
+    (Step::Link("6.cqi", "a.txt"), ""),
+    (
+        Step::SaveAndRemove(&[("4.cqi", "new")], &["5.cqi"]),
+        "Device",
+    ),
+    (
+        Step::SaveAndRemove(&[("4.cqi", "new")], &["6.cqi"]),
+        "Device",
+    ),
+    (Step::Read("4.cqi"), "kept"),
+    (Step::Listed, "4.cqi 5.cqi 6.cqi a.txt "),
+    (Step::Failures, "8"),
+    (Step::End, ""),
+    (Step::Begin(Access::Shared), ""),
+    (Step::SaveAndRemove(&[], &["4.cqi"]), "outside"),
+    (Step::Read("4.cqi"), "kept"),
+    (Step::End, ""),
+];
+
+/// Removals of which the record has 1,048,372 bytes, and too many.
+static MOST_REMOVED: [(Step, &str); 6] = [
+    (Step::Begin(Access::Alone), ""),
+    (Step::Put("1.cqi", "one"), ""),
+    (Step::RemoveMany(4_279), ""),
+    (Step::RemoveMany(4_280), "Device"),
+    (Step::Listed, "1.cqi "),
+    (Step::End, ""),
+];
+
 /// A save was stopped between its renames: a reader sees all of it, and any command that is alone finishes it. A part
 /// that no record names is of a save that was stopped before, and is removed; a file of the user's stays.
 static STOPPED: [(Step, &str); 25] = [
@@ -394,8 +501,62 @@ static STOPPED: [(Step, &str); 25] = [
     (Step::End, ""),
 ];
 
+/// A save with removals was stopped once its record was there: a reader sees it done, and any command that is alone does
+/// the rest. So it is with a record that only removes, and with one that only renames.
+static STOPPED_REMOVAL: [(Step, &str); 37] = [
+    (Step::Put("1.cqi", "old one"), ""),
+    (Step::Put("1.cqi.9.part", "new one"), ""),
+    (Step::Put("2.cqi", "old two"), ""),
+    (Step::Put("3.cqi", "old three"), ""),
+    (Step::Put("3.cqi.9.part", "new three"), ""),
+    (Step::Put("5.cqi", "renamed"), ""),
+    (
+        Step::Put(
+            "queue.save",
+            "cq save 2\n9\n1.cqi\n3.cqi\n5.cqi\n\n2.cqi\n3.cqi\n4.cqi\nend\n",
+        ),
+        "",
+    ),
+    (Step::Begin(Access::Shared), ""),
+    (Step::Read("1.cqi"), "new one"),
+    (Step::Read("2.cqi"), "Device"),
+    (Step::Read("3.cqi"), "Device"),
+    (Step::Read("5.cqi"), "renamed"),
+    (
+        Step::Names,
+        "1.cqi 1.cqi.9.part 3.cqi.9.part 5.cqi queue.save ",
+    ),
+    (
+        Step::Listed,
+        "1.cqi 1.cqi.9.part 2.cqi 3.cqi 3.cqi.9.part 5.cqi queue.save ",
+    ),
+    (Step::End, ""),
+    (Step::Begin(Access::Alone), ""),
+    (Step::Listed, "1.cqi 5.cqi "),
+    (Step::Read("1.cqi"), "new one"),
+    (Step::Read("2.cqi"), "Device"),
+    (Step::End, ""),
+    (Step::Put("queue.save", "cq save 2\n9\n\n5.cqi\nend\n"), ""),
+    (Step::Begin(Access::Shared), ""),
+    (Step::Read("5.cqi"), "Device"),
+    (Step::Names, "1.cqi queue.save "),
+    (Step::Begin(Access::Alone), ""),
+    (Step::Listed, "1.cqi "),
+    (Step::End, ""),
+    (Step::Put("1.cqi.9.part", "newest one"), ""),
+    (Step::Put("queue.save", "cq save 1\n9\n1.cqi\nend\n"), ""),
+    (Step::Begin(Access::Shared), ""),
+    (Step::Read("1.cqi"), "newest one"),
+    (Step::Names, "1.cqi 1.cqi.9.part queue.save "),
+    (Step::Begin(Access::Alone), ""),
+    (Step::Listed, "1.cqi "),
+    (Step::Read("1.cqi"), "newest one"),
+    (Step::Failures, "4"),
+    (Step::End, ""),
+];
+
 /// A record that is none keeps everybody out, and changes nothing.
-static FAULTY: [(Step, &str); 31] = [
+static FAULTY: [(Step, &str); 45] = [
     (Step::Put("1.cqi.9.part", "new"), ""),
     (Step::Put("queue.save", "cq save 1\n9\n../1.cqi\nend\n"), ""),
     (Step::Begin(Access::Shared), "Device"),
@@ -434,6 +595,35 @@ static FAULTY: [(Step, &str); 31] = [
     (Step::Put("queue.save", "cq save 1\n9\n1.cqi\nend\n\n"), ""),
     (Step::Begin(Access::Alone), "Device"),
     (Step::Put("queue.save", "cq save 1\n9\n1.cqi\nend"), ""),
+    (Step::Begin(Access::Alone), "Device"),
+    (
+        Step::Put("queue.save", "cq save 1\n9\n1.cqi\n\n2.cqi\nend\n"),
+        "",
+    ),
+    (Step::Begin(Access::Alone), "Device"),
+    (Step::Put("queue.save", "cq save 2\n9\n1.cqi\n\nend\n"), ""),
+    (Step::Begin(Access::Alone), "Device"),
+    (Step::Put("queue.save", "cq save 2\n9\n\nend\n"), ""),
+    (Step::Begin(Access::Alone), "Device"),
+    (
+        Step::Put("queue.save", "cq save 2\n9\n1.cqi\n\n../2.cqi\nend\n"),
+        "",
+    ),
+    (Step::Begin(Access::Alone), "Device"),
+    (
+        Step::Put("queue.save", "cq save 2\n9\n1.cqi\n\n2.cqi\n\n3.cqi\nend\n"),
+        "",
+    ),
+    (Step::Begin(Access::Alone), "Device"),
+    (
+        Step::Put("queue.save", "cq save 2\n9\n1.cqi\n\n2.cqi\n"),
+        "",
+    ),
+    (Step::Begin(Access::Alone), "Device"),
+    (
+        Step::Put("queue.save", "cq save 3\n9\n1.cqi\n\n2.cqi\nend\n"),
+        "",
+    ),
     (Step::Begin(Access::Alone), "Device"),
     (Step::Listed, "1.cqi.9.part queue.save "),
 ];
@@ -481,6 +671,8 @@ static MODE: [(Step, &str); 5] = [
 fn a_real_folder_keeps_its_files(rt: HostRuntime) -> Result<(), Fail> {
     expect_steps(&rt, "kept", &WRITTEN)?;
     expect_steps(&rt, "saved", &SAVED)?;
+    expect_steps(&rt, "removed", &REMOVED)?;
+    expect_steps(&rt, "most_removed", &MOST_REMOVED)?;
     expect_steps(&rt, "links", &LINKS)?;
     expect_steps(&rt, "mode", &MODE)
 }
@@ -567,6 +759,7 @@ movie.part queue.cqc queue.cqc..part queue.cqc.part queue.cqc7.part queue.save.o
 #[test]
 fn what_a_stopped_save_left_is_finished_or_removed(rt: HostRuntime) -> Result<(), Fail> {
     expect_steps(&rt, "stopped", &STOPPED)?;
+    expect_steps(&rt, "stopped_removal", &STOPPED_REMOVAL)?;
     expect_steps(&rt, "faulty", &FAULTY)?;
     expect_steps(&rt, "largest", &LARGEST)?;
     expect_steps(&rt, "swept", &SWEPT)
@@ -586,15 +779,16 @@ fn a_missing_folder_is_a_device_fault(rt: HostRuntime) -> Result<(), Fail> {
 }
 
 /// Each call of a folder that is gone since a command entered is a fault, except the one that ends the command.
-static GONE: [(Step, &str); 8] = [
+static GONE: [(Step, &str); 9] = [
     (Step::Begin(Access::Alone), ""),
     (Step::Remove, ""),
     (Step::Names, "Device"),
     (Step::Write("a", "new"), "Device"),
     (Step::Read("b"), "Device"),
     (Step::Save(&[("1.cqi", "1"), ("2.cqi", "2")]), "Device"),
+    (Step::SaveAndRemove(&[], &["1.cqi"]), "Device"),
     (Step::End, ""),
-    (Step::Failures, "4"),
+    (Step::Failures, "5"),
 ];
 
 #[test]

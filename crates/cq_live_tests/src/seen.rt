@@ -1,5 +1,5 @@
 //! What commands see of a folder whose queue is live.
-use cq_commands::{drop_before, read};
+use cq_commands::{ReadSettings, drop_before, read};
 use cq_fixtures::expect_text;
 use cq_logged::{LoggedFolder, SystemLock};
 use cq_real_folder::RealFolder;
@@ -21,7 +21,12 @@ fn read_text(rt: &HostRuntime, path: &str) -> Result<String, Fail> {
     let alloc = rt.alloc();
     let mut folder = seen_at(rt, path)?;
     let mut output = Vec::new(alloc);
-    read(alloc, &mut folder, false, None, &mut output)?;
+    let all = ReadSettings {
+        back: false,
+        from: None,
+        limit: None,
+    };
+    read(alloc, &mut folder, &all, &mut output)?;
     Ok(String::from_utf8_lossy(alloc, &output)?)
 }
 

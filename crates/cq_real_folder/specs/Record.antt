@@ -1,8 +1,9 @@
--- The record of a save: the renames that are still to be done.
-use Rattle.std.specs.Prelude.{◌≡◌, ◌⊎◌, ◌<◌, ◌^◌, ℕ, List, ◌∷◌, [], ◌++◌, All, Contains, IsTrue, String, codes, length, nat_eq, string_bytes}
+-- The record of a save: the renames and the removals that are still to be done.
+use Rattle.std.specs.Prelude.{◌≡◌, ◌≢◌, ◌⊎◌, ◌+◌, ◌<◌, ◌^◌, ℕ, List, ◌∷◌, [], ◌++◌, All, Contains, IsTrue, String, codes, length, map, nat_eq, string_bytes}
 use Rattle.std.specs.Fmt.{decimal}
 use Rattle.std.specs.Global.{Global}
 use Rattle.std.specs.List.{ends_with, flat_map}
+use Rattle.cq_real_folder.specs.declared.record.Record.{Record}
 use Rattle.cq_folder.specs.declared.names.TheConstants.{CONFIG_FILE, IMAGE_ENDING, LOG_FILE, PART_ENDING, RECORD_FILE}
 
 -- a file of a queue that a record can name: `queue.cqc`, `queue.log` or an image by its name, in no other folder and on one
@@ -11,23 +12,53 @@ abbrev pub IsFileName : List ℕ → Type 0
 IsFileName name = ((name ≡ CONFIG_FILE.now) ⊎ ((name ≡ LOG_FILE.now) ⊎ IsTrue (ends_with nat_eq name IMAGE_ENDING.now)))
     × (¬ Contains name 47) × (¬ Contains name 10)
 
--- how a record begins: what it is, and the process, each on a line
-abbrev pub record_head : ℕ → List ℕ
-record_head process = codes "cq save 1\n" ++ (decimal process ++ codes "\n")
+-- names that a record can have
+abbrev pub AreFileNames : List (String Global) → Type 0
+AreFileNames names = All (λ name. IsFileName (string_bytes name)) names
+
+-- the form of a record's text: 1 if no file is removed, and else 2
+abbrev pub form_of : List (String Global) → ℕ
+form_of [] = 1
+form_of (_ ∷ _) = 2
+
+-- how a record begins: what it is, with its form, and the process, each on a line
+abbrev pub record_head : ℕ → ℕ → List ℕ
+record_head form process = codes "cq save " ++ (decimal form ++ (codes "\n" ++ (decimal process ++ codes "\n")))
 
 -- names, each on a line
 abbrev pub name_text : List (String Global) → List ℕ
 name_text names = flat_map (λ name. string_bytes name ++ 10 ∷ []) names
 
--- the text of a record, which ends with a line that says so
-abbrev pub record_text : ℕ → List (String Global) → List ℕ
-record_text process names = record_head process ++ name_text names ++ codes "end\n"
+-- an empty line, and then the names of the files that are removed; nothing if none is
+abbrev pub removal_text : List (String Global) → List ℕ
+removal_text [] = []
+removal_text (name ∷ names) = codes "\n" ++ name_text (name ∷ names)
 
--- a save has a record: the number of its process, and the names of one file or more that it can name
-pub record IsRecord (process : ℕ) (names : List (String Global)) : Type 0 where
+-- what follows the process: both lists, and a line that says that they are whole
+abbrev pub record_lines : List (String Global) → List (String Global) → List ℕ
+record_lines names removed = name_text names ++ (removal_text removed ++ codes "end\n")
+
+-- the text of a record
+abbrev pub record_text : ℕ → List (String Global) → List (String Global) → List ℕ
+record_text process names removed = record_head (form_of removed) process ++ record_lines names removed
+
+-- the first line of a text is no name that a record can have
+abbrev pub BeginsWithNoName : List ℕ → Type 0
+BeginsWithNoName text = (name more : List ℕ) → IsFileName name → text ≢ name ++ 10 ∷ more
+
+-- a save has a record: the number of its process, and the names of the files that it replaces and of those that it removes,
+-- together one or more
+pub record IsRecord (process : ℕ) (names removed : List (String Global)) : Type 0 where
   pub number : process < 2 ^ 32
-  pub some : 0 < length names
-  pub files : All (λ name. IsFileName (string_bytes name)) names
+  pub some : 0 < length names + length removed
+  pub files : AreFileNames names
+  pub removals : AreFileNames removed
+
+-- the record is of this process, and names these files
+pub record IsRecordOf (found : Record) (process : ℕ) (names removed : List (String Global)) : Type 0 where
+  pub number : found.process ≡ process
+  pub renames : map string_bytes found.names.items ≡ map string_bytes names
+  pub removals : map string_bytes found.removed.items ≡ map string_bytes removed
 
 -- a file whose new bytes are written to a part first: one that a record can name, or the record
 abbrev pub HasParts : List ℕ → Type 0

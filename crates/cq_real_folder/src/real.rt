@@ -132,6 +132,17 @@ impl<'a, R: Files<File = File> + AllocGlobal + Clone + Drop> Folder for RealFold
         }
     }
 
+    fn save_and_remove(
+        &mut self,
+        changes: &[NewFile],
+        removed: &[String],
+    ) -> Result<(), FolderFault> {
+        match self.replace_and_remove(changes, removed) {
+            Ok(()) => Ok(()),
+            Err(error) => Err(fault_of(&mut self.failures, &error)),
+        }
+    }
+
     fn access(&self) -> Option<Access> {
         match &self.lock {
             Some(lock) => Some(lock.access()),

@@ -1,37 +1,53 @@
-ghost use Rattle.std.specs.Prelude.{◌≡◌, ◌↔◌, ◌<◌, ◌^◌, ℕ, All, IfOk, IfSome, IsSomeAnd, IsTrue, List, String, map, string_bytes, vec_len};
+ghost use Rattle.std.specs.Prelude.{◌≡◌, ◌↔◌, ◌+◌, ◌++◌, ◌<◌, ◌^◌, ℕ, IfOk, IfSome, IsSomeAnd, IsTrue, List, OnOk, String, codes, map, string_bytes, vec_len};
 ghost use Rattle.std.specs.List.{list_any};
 ghost use Rattle.std.specs.Str.{bytes_eq};
-ghost use Rattle.cq_real_folder.specs.Record.{HasParts, IsFileName, IsPartName, IsRecord, name_text, part_name, record_text};
+ghost use Rattle.cq_real_folder.specs.Record.{AreFileNames, BeginsWithNoName, HasParts, IsFileName, IsPartName, IsRecord, IsRecordOf, form_of, name_text, part_name, record_lines, record_text, removal_text};
 
 use cq_folder::{CONFIG_FILE, IMAGE_ENDING, LOG_FILE, PART_ENDING, RECORD_FILE};
 use std::alloc::{AllocError, Global};
 
-/// The renames of a save: the part of each file, which a process wrote next to it, replaces the file.
+/// What a save has to do once its parts are written: the part of each file, which a process wrote next to it, replaces the
+/// file, and then other files are removed.
 #[derive(Drop)]
 pub(crate) struct Record {
     /// The number of the process that wrote the parts.
     pub process: u32,
-    /// The names of the files.
+    /// The names of the files that parts replace.
     pub names: Vec<String>,
+    /// The names of the files that are removed.
+    pub removed: Vec<String>,
 }
 
 impl Record {
-    /// Returns whether the record names the file.
+    /// Returns whether a part replaces the file.
     pub fn has(&self, name: &str) -> bool
         ensures { result ≡ list_any (λ named. bytes_eq (string_bytes named) name.now) self.now.names.items }
     {
         self.names.iter().any(|named| named.as_str() == name)
     }
 
-    /// Returns the text of the record: `cq save 1`, the process, the names and `end`, each on a line.
-    pub fn text(&self, alloc: Global) -> Result<String, AllocError>
-        ensures { IfOk result (λ text. string_bytes text ≡ record_text self.now.process self.now.names.items) }
+    /// Returns whether the file is removed.
+    pub fn removes(&self, name: &str) -> bool
+        ensures { result ≡ list_any (λ named. bytes_eq (string_bytes named) name.now) self.now.removed.items }
     {
-        let mut text = format!(in alloc; "cq save 1\n{}\n", self.process)?;
-        for name in &self.names {
-            text.push_str(name.as_str())?;
-            text.push_str("\n")?;
-        }
+        self.removed.iter().any(|named| named.as_str() == name)
+    }
+
+    /// Returns the form of the record's text: 1 if no file is removed, and else 2.
+    fn form(&self) -> u32
+        ensures { result ≡ form_of self.now.removed.items }
+    {
+        if self.removed.is_empty() { 1 } else { 2 }
+    }
+
+    /// Returns the text of the record: `cq save 1` or `cq save 2`, the process, the names, in form 2 an empty line and the
+    /// removed names, and `end`, each on a line.
+    pub fn text(&self, alloc: Global) -> Result<String, AllocError>
+        ensures { IfOk result (λ text. string_bytes text ≡ record_text self.now.process self.now.names.items self.now.removed.items) }
+    {
+        let mut text = format!(in alloc; "cq save {}\n{}\n", self.form(), self.process)?;
+        push_names(&mut text, self.names.as_slice())?;
+        push_removed(&mut text, self.removed.as_slice())?;
         text.push_str("end\n")?;
         Ok(text)
     }
@@ -44,30 +60,38 @@ impl Record {
     /// Errors:
     /// - `AllocError`: out of memory. It allocates the names, and the text once more.
     pub fn read(alloc: Global, text: &[u8]) -> Result<Option<Record>, AllocError>
-        ensures form { IfOk result (λ read. IfSome read (λ found. text.now ≡ record_text found.process found.names.items)) }
-        ensures some { IfOk result (λ read. IfSome read (λ found. 0 < vec_len found.names)) }
-        ensures names { IfOk result (λ read. IfSome read (λ found.
-            All (λ name. IsFileName (string_bytes name)) found.names.items)) }
-        ensures only { (process : ℕ) (names : List (String Global)) → IsRecord process names → text.now ≡ record_text process names
-            → IfOk result (λ read. IsSomeAnd read (λ found. (found.process ≡ process)
-            × (map string_bytes found.names.items ≡ map string_bytes names))) }
+        ensures form { IfOk result (λ read. IfSome read (λ found.
+            text.now ≡ record_text found.process found.names.items found.removed.items)) }
+        ensures some { IfOk result (λ read. IfSome read (λ found. 0 < vec_len found.names + vec_len found.removed)) }
+        ensures names { IfOk result (λ read. IfSome read (λ found. AreFileNames found.names.items)) }
+        ensures removed { IfOk result (λ read. IfSome read (λ found. AreFileNames found.removed.items)) }
+        ensures only { (process : ℕ) (names removed : List (String Global)) → IsRecord process names removed
+            → text.now ≡ record_text process names removed
+            → IfOk result (λ read. IsSomeAnd read (λ found. IsRecordOf found process names removed)) }
     {
         let Some(record) = Record::of_lines(alloc, text)? else {
             return Ok(None);
         };
-        if record.names.is_empty() || record.text(alloc)?.as_bytes() != text {
+        if record.names_none() || record.text(alloc)?.as_bytes() != text {
             return Ok(None);
         }
         Ok(Some(record))
     }
 
+    /// Returns whether the record names no file at all.
+    fn names_none(&self) -> bool
+        ensures { IsTrue result ↔ (vec_len self.now.names + vec_len self.now.removed ≡ 0) }
+    {
+        self.names.is_empty() && self.removed.is_empty()
+    }
+
     /// Returns the process and the names on the lines of a text, whose form is not checked in full.
     fn of_lines(alloc: Global, text: &[u8]) -> Result<Option<Record>, AllocError>
-        ensures names { IfOk result (λ read. IfSome read (λ found.
-            All (λ name. IsFileName (string_bytes name)) found.names.items)) }
-        ensures only { (process : ℕ) (names : List (String Global)) → IsRecord process names → text.now ≡ record_text process names
-            → IfOk result (λ read. IsSomeAnd read (λ found. (found.process ≡ process)
-            × (map string_bytes found.names.items ≡ map string_bytes names))) }
+        ensures names { IfOk result (λ read. IfSome read (λ found. AreFileNames found.names.items)) }
+        ensures removed { IfOk result (λ read. IfSome read (λ found. AreFileNames found.removed.items)) }
+        ensures only { (process : ℕ) (names removed : List (String Global)) → IsRecord process names removed
+            → text.now ≡ record_text process names removed
+            → IfOk result (λ read. IsSomeAnd read (λ found. IsRecordOf found process names removed)) }
     {
         let Ok(text) = str::from_utf8(text) else {
             return Ok(None);
@@ -75,40 +99,81 @@ impl Record {
         let Some((process, lines)) = parts_of(text) else {
             return Ok(None);
         };
-        let Some(names) = names_on(alloc, lines)? else {
-            return Ok(None);
-        };
-        Ok(Some(Record { process, names }))
+        let (names, rest) = names_on(alloc, lines)?;
+        let removed = removed_on(alloc, rest)?;
+        Ok(Some(Record {
+            process,
+            names,
+            removed,
+        }))
     }
 }
 
-/// Returns the number of the process and the lines of the names in the text of a record. The number may have a sign or
-/// leading zeros.
-fn parts_of(text: &str) -> Option<(u32, &str)>
-    ensures { (process : ℕ) (names : List (String Global)) → process < 2 ^ 32 → text.now ≡ record_text process names
-        → IsSomeAnd result (λ found. (found.0 ≡ process) × (found.1.now ≡ name_text names)) }
+/// Adds names to a text, each on a line.
+fn push_names(text: &mut String, names: &[String]) -> Result<(), AllocError>
+    ensures { OnOk result (string_bytes text.new ≡ string_bytes text.old ++ name_text names.now) }
 {
-    let lines = text.strip_prefix("cq save 1\n")?;
-    let lines = lines.strip_suffix("end\n")?;
+    for name in names {
+        text.push_str(name.as_str())?;
+        text.push_str("\n")?;
+    }
+    Ok(())
+}
+
+/// Adds an empty line to a text, and then the names of the files that are removed. If none is, it adds nothing.
+fn push_removed(text: &mut String, removed: &[String]) -> Result<(), AllocError>
+    ensures { OnOk result (string_bytes text.new ≡ string_bytes text.old ++ removal_text removed.now) }
+{
+    if removed.is_empty() {
+        return Ok(());
+    }
+    text.push_str("\n")?;
+    push_names(text, removed)?;
+    Ok(())
+}
+
+/// Returns the number of the process and the lines that follow it in the text of a record. The form may be any line, and
+/// the number may have a sign or leading zeros.
+fn parts_of(text: &str) -> Option<(u32, &str)>
+    ensures { (process : ℕ) (names removed : List (String Global)) → process < 2 ^ 32 → text.now ≡ record_text process names removed
+        → IsSomeAnd result (λ found. (found.0 ≡ process) × (found.1.now ≡ record_lines names removed)) }
+{
+    let lines = text.strip_prefix("cq save ")?;
+    let (_form, lines) = lines.split_once('\n')?;
     let (word, names) = lines.split_once('\n')?;
     let process = word.parse().ok()?;
     Some((process, names))
 }
 
-/// Returns the names on the lines of a text; `None` if a record cannot have a line as a name.
-fn names_on(alloc: Global, text: &str) -> Result<Option<Vec<String>>, AllocError>
-    ensures names { IfOk result (λ read. IfSome read (λ found. All (λ name. IsFileName (string_bytes name)) found.items)) }
-    ensures only { (names : List (String Global)) → All (λ name. IsFileName (string_bytes name)) names → text.now ≡ name_text names
-        → IfOk result (λ read. IsSomeAnd read (λ found. map string_bytes found.items ≡ map string_bytes names)) }
+/// Returns the names on the first lines of a text, up to a line that a record cannot have as a name, and the text from
+/// there on.
+fn names_on(alloc: Global, text: &str) -> Result<(Vec<String>, &str), AllocError>
+    ensures all { IfOk result (λ read. text.now ≡ name_text read.0.items ++ read.1.now) }
+    ensures names { IfOk result (λ read. AreFileNames read.0.items) }
+    ensures no_more { IfOk result (λ read. BeginsWithNoName read.1.now) }
 {
     let mut names = Vec::new(alloc);
-    for name in text.lines() {
-        if !is_file_name(name) {
-            return Ok(None);
+    let mut rest = text;
+    while let Some((line, after)) = rest.split_once('\n') {
+        if !is_file_name(line) {
+            return Ok((names, rest));
         }
-        names.push(String::from_str(alloc, name)?)?;
+        names.push(String::from_str(alloc, line)?)?;
+        rest = after;
     }
-    Ok(Some(names))
+    Ok((names, rest))
+}
+
+/// Returns the names of the files that are removed, on the lines after an empty one; none if the first line is not empty.
+fn removed_on(alloc: Global, text: &str) -> Result<Vec<String>, AllocError>
+    ensures names { IfOk result (λ removed. AreFileNames removed.items) }
+    ensures only { (removed : List (String Global)) → AreFileNames removed → text.now ≡ removal_text removed ++ codes "end\n"
+        → IfOk result (λ found. map string_bytes found.items ≡ map string_bytes removed) }
+{
+    match text.strip_prefix('\n') {
+        Some(lines) => Ok(names_on(alloc, lines)?.0),
+        None => Ok(Vec::new(alloc)),
+    }
 }
 
 /// Returns whether a record can name the file: by its name it is an image, `queue.cqc` or `queue.log`, and in no other

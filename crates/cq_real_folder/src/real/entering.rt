@@ -12,7 +12,7 @@ use std::io::{self, ErrorKind};
 use std::rt::Files;
 
 /// The most bytes of a record.
-const MOST_RECORD_BYTES: usize = 1_048_576;
+pub(super) const MOST_RECORD_BYTES: usize = 1_048_576;
 
 impl<'a, R: Files<File = File> + AllocGlobal + Clone + Drop> RealFolder<'a, R> {
     /// Waits for the lock, and looks for a save that was cut short.
@@ -88,10 +88,14 @@ impl<'a, R: Files<File = File> + AllocGlobal + Clone + Drop> RealFolder<'a, R> {
         Ok(())
     }
 
-    /// Renames the parts that are left, and removes the record. A part that is gone has been renamed.
+    /// Renames the parts that are left, removes the files that are to go, and then the record. A part that is gone has been
+    /// renamed, and a file that is gone has been removed.
     fn finish(&self, record: &Record) -> io::Result<()> {
         for name in &record.names {
             unless_missing(self.place(name.as_str(), record.process))?;
+        }
+        for name in &record.removed {
+            self.remove(name.as_str())?;
         }
         self.sync()?;
         fs::remove_file(self.rt, self.path_of(RECORD_FILE)?.as_str())

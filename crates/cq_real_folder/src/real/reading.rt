@@ -7,7 +7,7 @@ use std::io::{self, BufRead, BufReader, ErrorKind, Read};
 use std::rt::Files;
 
 impl<'a, R: Files<File = File> + AllocGlobal + Clone + Drop> RealFolder<'a, R> {
-    /// Returns the names in the folder, with those of the record that is there.
+    /// Returns the names in the folder, with those of the record that is there, and without those that it removes.
     pub(super) fn list_through(&self, alloc: Global) -> io::Result<Vec<String>> {
         let mut names = self.list(alloc)?;
         if let Some(record) = &self.record {
@@ -16,6 +16,7 @@ impl<'a, R: Files<File = File> + AllocGlobal + Clone + Drop> RealFolder<'a, R> {
                     names.push(String::from_str(alloc, name.as_str())?)?;
                 }
             }
+            names.retain(|name| !record.removes(name.as_str()));
         }
         Ok(names)
     }
@@ -32,14 +33,19 @@ impl<'a, R: Files<File = File> + AllocGlobal + Clone + Drop> RealFolder<'a, R> {
         Ok(names)
     }
 
-    /// Reads the bytes of a file, at most `limit + 1` of them. If the record that is there names the file, they are
-    /// those of its part, unless the part has been renamed.
+    /// Reads the bytes of a file, at most `limit + 1` of them. If the record that is there replaces the file, they are
+    /// those of its part, unless the part has been renamed. If it removes the file, there is none.
     pub(super) fn read_through(
         &self,
         alloc: Global,
         name: &str,
         limit: usize,
     ) -> io::Result<Vec<u8>> {
+        if let Some(record) = &self.record
+            && record.removes(name)
+        {
+            return Err(io::Error::from(ErrorKind::NotFound));
+        }
         if let Some(record) = &self.record
             && record.has(name)
         {

@@ -1,8 +1,9 @@
-//! Replaces files: each as a whole, and all of a save or none.
+//! Replaces files, each as a whole, and removes files: all of a save or nothing of it.
 
-ghost use Rattle.std.specs.Prelude.{◌≡◌, All, IfOk, map, string_bytes};
-ghost use Rattle.cq_real_folder.specs.Record.{IsFileName};
+ghost use Rattle.std.specs.Prelude.{◌≡◌, IfOk, map, string_bytes};
+ghost use Rattle.cq_real_folder.specs.Record.{AreFileNames};
 
+use super::entering::MOST_RECORD_BYTES;
 use super::{RealFolder, unless_missing};
 use crate::record::{Record, is_file_name};
 use cq_folder::{NewFile, RECORD_FILE};
@@ -32,18 +33,33 @@ impl<'a, R: Files<File = File> + AllocGlobal + Clone + Drop> RealFolder<'a, R> {
         match changes {
             [] => Ok(()),
             [file] => self.replace(file.name.as_str(), file.bytes.as_slice()),
-            _ => self.replace_all(changes),
+            _ => self.replace_all(changes, &[]),
         }
     }
 
-    /// Writes files together. All of them then hold their bytes, or all hold what they held. Once the record is on the
-    /// device the files are saved. An error after that is not returned while the record is there: the next command that is
-    /// alone does what is left.
-    fn replace_all(&mut self, changes: &[NewFile]) -> io::Result<()>
+    /// Writes files and removes others, together. A removal always has a record.
+    pub(super) fn replace_and_remove(
+        &mut self,
+        changes: &[NewFile],
+        removed: &[String],
+    ) -> io::Result<()>
         ensures failures { self.new.failures ≡ self.old.failures }
         ensures locked { self.new.lock ≡ self.old.lock }
     {
-        let record = self.record_of(changes)?;
+        match removed {
+            [] => self.replace_some(changes),
+            _ => self.replace_all(changes, removed),
+        }
+    }
+
+    /// Writes files and removes others, together. Either all of that is done, or all files hold what they held. Once the
+    /// record is on the device the files are saved. An error after that is not returned while the record is there: the next
+    /// command that is alone does what is left.
+    fn replace_all(&mut self, changes: &[NewFile], removed: &[String]) -> io::Result<()>
+        ensures failures { self.new.failures ≡ self.old.failures }
+        ensures locked { self.new.lock ≡ self.old.lock }
+    {
+        let record = self.record_of(changes, removed)?;
         if let Err(error) = self.promise(&record, changes) {
             self.give_up(changes);
             return Err(error);
@@ -59,11 +75,13 @@ impl<'a, R: Files<File = File> + AllocGlobal + Clone + Drop> RealFolder<'a, R> {
 
     /// Returns the record of a save: this process, and the files in their order. It returns an error if the record
     /// cannot name a file.
-    fn record_of(&self, changes: &[NewFile]) -> io::Result<Record>
+    fn record_of(&self, changes: &[NewFile], removed: &[String]) -> io::Result<Record>
         ensures process { IfOk result (λ made. made.process ≡ self.now.process) }
         ensures names { IfOk result (λ made. map string_bytes made.names.items
             ≡ map (λ file. string_bytes file.name) changes.now) }
-        ensures files { IfOk result (λ made. All (λ name. IsFileName (string_bytes name)) made.names.items) }
+        ensures removed { IfOk result (λ made. map string_bytes made.removed.items ≡ map string_bytes removed.now) }
+        ensures files { IfOk result (λ made. AreFileNames made.names.items) }
+        ensures removals { IfOk result (λ made. AreFileNames made.removed.items) }
     {
         let alloc = self.rt.alloc();
         let mut names = Vec::new(alloc);
@@ -73,18 +91,43 @@ impl<'a, R: Files<File = File> + AllocGlobal + Clone + Drop> RealFolder<'a, R> {
             }
             names.push(String::from_str(alloc, file.name.as_str())?)?;
         }
+        let removed = self.removed_names(removed)?;
         Ok(Record {
             process: self.process,
             names,
+            removed,
         })
     }
 
-    /// Writes the parts of files, and then their record.
+    /// Returns the names of the files that are to be removed. It returns an error if a record cannot name one.
+    fn removed_names(&self, removed: &[String]) -> io::Result<Vec<String>>
+        ensures names { IfOk result (λ names. map string_bytes names.items ≡ map string_bytes removed.now) }
+        ensures files { IfOk result (λ names. AreFileNames names.items) }
+    {
+        let alloc = self.rt.alloc();
+        let mut names = Vec::new(alloc);
+        for name in removed {
+            if !is_file_name(name.as_str()) {
+                return Err(io::Error::from(ErrorKind::InvalidFilename));
+            }
+            names.push(String::from_str(alloc, name.as_str())?)?;
+        }
+        Ok(names)
+    }
+
+    /// Writes the parts of files, and then their record. It returns an error if what is to be removed is no plain file.
     fn promise(&self, record: &Record, changes: &[NewFile]) -> io::Result<()> {
+        for name in &record.removed {
+            self.permissions(name.as_str())?;
+        }
         for file in changes {
             self.prepare(file.name.as_str(), file.bytes.as_slice())?;
         }
         let text = record.text(self.rt.alloc())?;
+        // Nobody could read a longer one, and so finish the removals.
+        if !record.removed.is_empty() && text.len() > MOST_RECORD_BYTES {
+            return Err(io::Error::from(ErrorKind::InvalidInput));
+        }
         self.prepare(RECORD_FILE, text.as_bytes())?;
         self.place(RECORD_FILE, self.process)
     }
@@ -102,7 +145,7 @@ impl<'a, R: Files<File = File> + AllocGlobal + Clone + Drop> RealFolder<'a, R> {
     }
 
     /// Removes a file, if there is one.
-    fn remove(&self, name: &str) -> io::Result<()> {
+    pub(super) fn remove(&self, name: &str) -> io::Result<()> {
         unless_missing(fs::remove_file(self.rt, self.path_of(name)?.as_str()))
     }
 

@@ -4,7 +4,7 @@ use Rattle.cq_folder.specs.Folder.{WritesFile, WritesFiles, named_file}
 use Rattle.cq_folder.specs.MemoryFolder.{files_in}
 use Rattle.cq_folder.specs.declared.storage.NewFile.{NewFile}
 use Rattle.cq_folder.proofs.FolderLemmas.{one_file_more}
-use Rattle.cq_folder.proofs.memory.MemoryFolderFolder.save.Goals as goal
+use Rattle.cq_folder.proofs.memory.MemoryFolder.put_all.Goals as goal
 
 -- the file was put beside those so far
 pub loop-file-preserved : goal.loop-file-preserved
