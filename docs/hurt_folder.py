@@ -3,8 +3,9 @@
 
 The modes, all five if none is named:
 
-kills   N times (100 if it is not given) a `write` that rolls or not, a `take` or a `drop` is killed at a random moment.
-device  `write`, `take` and `drop` on a device that is full at every step: a small tmpfs, which root may mount, with space
+kills   N times (100 if it is not given) a `write` that rolls or not, a `take`, a `drop` or a `trim` is killed at a random
+        moment.
+device  `write`, `take`, `drop` and `trim` on a device that is full at every step: a small tmpfs, which root may mount, with space
         for k more pages, or k more files, for each k from 0 until the command is done; and on a full standard output.
 calls   Each system call that the same commands make on their folder fails in turn with EIO and with ENOSPC, and the
         command is killed there. It needs strace (apt-get install strace).
@@ -126,6 +127,10 @@ class Queue:
         if kind == "drop":
             queue.floor = max(self.floor, min(number, last))
             return queue, b"%d\n" % queue.floor
+        if kind == "trim":
+            queue.floor = max(self.floor, min(number, last))
+            queue.lists = {cycle: texts for cycle, texts in self.lists.items() if cycle >= queue.floor}
+            return queue, b"".join(b"%s\n" % name_of(cycle).encode() for cycle in sorted(set(self.lists) - set(queue.lists)))
         for index, text in self.messages():
             if index >= self.position and index >> 32 >= self.floor:
                 queue.position = index + 1
@@ -161,6 +166,8 @@ class Tried:
             return [self.program, "write", folder, str(number * DAY)], b"".join(line + b"\n" for line in lines)
         if kind == "drop":
             return [self.program, "drop", folder, str(number)], b""
+        if kind == "trim":
+            return [self.program, "trim", folder, "--before", f"@{number * DAY}", "--force"], b""
         if kind == "migrate":
             return [self.program, "migrate", folder], b""
         return [self.program, "take", folder, "reader"], b""
@@ -240,13 +247,13 @@ def some_lines(dice):
 
 
 def some_command(dice, queue):
-    """A command that changes this queue: appends without a new cycle, appends with one, takes or drops."""
+    """A command that changes this queue: appends without a new cycle, appends with one, takes, drops or trims."""
     last = max(queue.lists, default=0)
-    kind = dice.choice(["write", "roll", "take", "drop"])
+    kind = dice.choice(["write", "roll", "take", "drop", "trim"])
     if kind == "roll":
         return ("write", last + 1, some_lines(dice))
-    if kind == "drop":
-        return ("drop", dice.randint(0, last + 1), [])
+    if kind in ("drop", "trim"):
+        return (kind, dice.randint(0, last + 1), [])
     return (kind, last, some_lines(dice))
 
 
@@ -299,15 +306,15 @@ def some_states():
     queue = Queue()
     queue.lists[0] = [b"%0100d" % number for number in range(60)]
     lines = [b"%0100d" % number for number in range(60, 120)]
-    return queue, [("write", 0, lines), ("write", 1, lines), ("take", 0, []), ("drop", 0, [])]
+    return queue, [("write", 0, lines), ("write", 1, lines), ("take", 0, []), ("drop", 0, []), ("trim", 0, [])]
 
 
 def try_full(tried, place, command, room, how):
     """A command on a device with this much space after what its folder takes. Returns whether it was done."""
     queue, _ = some_states()
-    if command[0] == "drop":
+    if command[0] in ("drop", "trim"):
         queue.lists[1] = [b"second"]
-        command = ("drop", 1, [])
+        command = (command[0], 1, [])
     what = f"device, full {how} at {kind_of(queue, command)}, with room for {room}"
     subprocess.run(["mount", "-t", "tmpfs", "-o", "size=4m,nr_inodes=1000", "cq", place], check=True, capture_output=True)
     try:
@@ -360,9 +367,9 @@ def try_device(tried, _runs):
         tried.made(folder, queue)
         with open("/dev/full", "wb") as full:
             status, _, said = tried.run(folder, command, stdout=full)
-        if (status, said) != (1, b"cq: write fault\n"):
+        new, text = queue.done(command)
+        if (status, said) != ((1, b"cq: write fault\n") if text else (0, b"")):
             tried.wrong.append(f"device, full output: {status} {said!r}")
-        new, _ = queue.done(command)
         if tried.side(folder, new, new, "device, full output") is not None:
             tried.counts["device, full output: all of it"] += 1
         shutil.rmtree(folder)
@@ -393,7 +400,7 @@ def try_calls(tried, _runs):
     ready, folder = os.path.join(tried.room, "ready"), os.path.join(tried.room, "calls")
     log = os.path.join(tried.room, "log")
     tried.made(ready, queue)
-    for command in [("write", 1, commands[0][2]), ("write", 2, commands[1][2]), ("take", 0, []), ("drop", 1, [])]:
+    for command in [("write", 1, commands[0][2]), ("write", 2, commands[1][2]), ("take", 0, []), ("drop", 1, []), ("trim", 1, [])]:
         for answer, what in hurt_calls(tried, ready, folder, command, log, f"calls at {kind_of(queue, command)}"):
             tried.counts["calls: failed or killed"] += 1
             tried.judge(folder, queue, command, answer, what)

@@ -13,18 +13,19 @@ _cq() {
     folder=${folder/#\~\//$HOME/}
     COMPREPLY=()
     if [ "$COMP_CWORD" = 1 ]; then
-        _cq_offer "$word" < <(printf '%s\n' echo cycle race init write log read take drop check stat dump salvage migrate help --help)
+        _cq_offer "$word" < <(printf '%s\n' echo cycle race init write log read take drop trim check stat dump salvage migrate help --help)
     elif [ "${word#-}" != "$word" ]; then
         _cq_offer "$word" <<<--help
         case $command in
-        read) _cq_offer "$word" < <(printf '%s\n' --back --from) ;;
+        read) _cq_offer "$word" < <(printf '%s\n' --back --from --limit) ;;
+        trim) _cq_offer "$word" < <(printf '%s\n' --keep --before --force --dry-run) ;;
         stat) _cq_offer "$word" <<<--json ;;
         log) _cq_offer "$word" < <(printf '%s\n' --for --syncs --checkpoint) ;;
         esac
     else
         case $command:$COMP_CWORD in
         cycle:2 | init:3) _cq_offer "$word" < <(printf '%s\n' daily hourly minutely) ;;
-        init:2 | write:2 | log:2 | read:2 | take:2 | drop:2 | check:2 | stat:2 | dump:2 | salvage:2 | migrate:2)
+        init:2 | write:2 | log:2 | read:2 | take:2 | drop:2 | trim:2 | check:2 | stat:2 | dump:2 | salvage:2 | migrate:2)
             compopt -o filenames
             mapfile -t COMPREPLY < <(compgen -d -- "$word")
             ;;

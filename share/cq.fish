@@ -21,6 +21,7 @@ complete -c cq -n __fish_use_subcommand -a log -d 'Keep a queue open, and append
 complete -c cq -n __fish_use_subcommand -a read -d 'Print the messages in order'
 complete -c cq -n __fish_use_subcommand -a take -d 'Print the next message of a tailer, and move the tailer after it'
 complete -c cq -n __fish_use_subcommand -a drop -d 'Let reads skip old cycles'
+complete -c cq -n __fish_use_subcommand -a trim -d 'Remove the images of dropped cycles, and print their names'
 complete -c cq -n __fish_use_subcommand -a check -d 'Print of each image what it holds, or its fault'
 complete -c cq -n __fish_use_subcommand -a stat -d 'Print the settings of a queue, its cycles, its names, and what is left'
 complete -c cq -n __fish_use_subcommand -a dump -d 'Print the records of an image'
@@ -29,11 +30,16 @@ complete -c cq -n __fish_use_subcommand -a migrate -d 'Make a folder of version 
 complete -c cq -n __fish_use_subcommand -a help -d 'Print the help of a command'
 complete -c cq -n '__fish_seen_subcommand_from read' -l back -d 'From the end on, towards the first message'
 complete -c cq -n '__fish_seen_subcommand_from read' -l from -x -d 'The index to begin at'
+complete -c cq -n '__fish_seen_subcommand_from read' -l limit -x -d 'Print the first of these messages, and no more'
+complete -c cq -n '__fish_seen_subcommand_from trim' -l keep -x -d 'Drop all cycles but the last N that have begun'
+complete -c cq -n '__fish_seen_subcommand_from trim' -l before -x -d 'Drop the cycles before this one'
+complete -c cq -n '__fish_seen_subcommand_from trim' -l force -d 'Drop messages too that are left for a name'
+complete -c cq -n '__fish_seen_subcommand_from trim' -l dry-run -d 'Print what it would remove, and change nothing'
 complete -c cq -n '__fish_seen_subcommand_from stat' -l json -d 'As an object of JSON, on one line'
 complete -c cq -n '__fish_seen_subcommand_from log' -l for -x -d 'End after this many seconds too'
 complete -c cq -n '__fish_seen_subcommand_from log' -l syncs -x -a '0 1 2' -d 'The syncs before the index of a line is printed'
 complete -c cq -n '__fish_seen_subcommand_from log' -l checkpoint -x -d 'Save the images each time that this many bytes of lines came'
-for command in init write log read take drop check stat dump salvage migrate
+for command in init write log read take drop trim check stat dump salvage migrate
     complete -c cq -n "__cq_arguments $command 0" -a '(__fish_complete_directories)'
 end
 complete -c cq -n '__cq_arguments cycle 0; or __cq_arguments init 1' -a 'daily hourly minutely'

@@ -10,7 +10,7 @@ use Rattle.cq_command_line.specs.declared.arguments.Argument.{Argument}
 use Rattle.cq_command_line.specs.declared.commands.Description.{Description}
 use Rattle.cq_command_line.specs.declared.arguments.Argument.TheVariants.{Word, Number, Between, Words, Flag, Option, OptionBetween}
 use Rattle.cq_orders.specs.declared.order.Order.{Order}
-use Rattle.cq_orders.specs.declared.order.Order.TheVariants.{Echo, Cycle, Init, Write, Log, Read, Take, Check, Stat, Dump, Salvage, Race, DropBefore, Migrate}
+use Rattle.cq_orders.specs.declared.order.Order.TheVariants.{Echo, Cycle, Init, Write, Log, Read, Take, Check, Stat, Dump, Salvage, Race, DropBefore, Trim, Migrate}
 
 -- the word that names the command
 abbrev pub word_of : Order → List ℕ
@@ -19,9 +19,10 @@ word_of (Cycle roll epoch moment) = codes "cycle"
 word_of (Init folder settings) = codes "init"
 word_of (Write folder moment) = codes "write"
 word_of (Log folder settings) = codes "log"
-word_of (Read folder back begin) = codes "read"
+word_of (Read folder settings) = codes "read"
 word_of (Take folder name) = codes "take"
 word_of (DropBefore folder cycle) = codes "drop"
+word_of (Trim folder settings) = codes "trim"
 word_of (Check folder) = codes "check"
 word_of (Stat folder json) = codes "stat"
 word_of (Dump folder file) = codes "dump"
@@ -121,7 +122,8 @@ log_command =
 -- the command `read`
 abbrev pub read_command : App
 read_command =
-    with_rule (with_rule (with_rule (new_app (codes "read")) (word_rule (codes "DIR"))) (flag_rule (codes "back"))) (option_rule (codes "from"))
+    with_rule (with_rule (with_rule (with_rule (new_app (codes "read")) (word_rule (codes "DIR"))) (flag_rule (codes "back"))) (option_rule (codes "from")))
+    (option_between_rule (codes "limit") 1 (2 ^ 32 - 1))
 
 -- the command `take`
 abbrev pub take_command : App
@@ -130,6 +132,12 @@ take_command = with_rule (with_rule (new_app (codes "take")) (word_rule (codes "
 -- the command `drop`
 abbrev pub drop_command : App
 drop_command = with_rule (with_rule (new_app (codes "drop")) (word_rule (codes "DIR"))) (number_rule (codes "CYCLE"))
+
+-- the command `trim`
+abbrev pub trim_command : App
+trim_command =
+    with_rule (with_rule (with_rule (with_rule (with_rule (new_app (codes "trim")) (word_rule (codes "DIR"))) (option_between_rule (codes "keep") 1 (2 ^ 32 - 1)))
+    (option_rule (codes "before"))) (flag_rule (codes "force"))) (flag_rule (codes "dry-run"))
 
 -- the command `check`
 abbrev pub check_command : App
@@ -158,8 +166,8 @@ plain_commands app = with_subcommand (with_subcommand (with_subcommand app echo_
 -- the commands on a queue that is stored in a folder
 abbrev pub queue_commands : App → App
 queue_commands app =
-    with_subcommand (with_subcommand (with_subcommand (with_subcommand (with_subcommand (with_subcommand (with_subcommand (with_subcommand (with_subcommand (with_subcommand (with_subcommand app init_command.top) write_command.top) log_command.top) read_command.top) take_command.top)
-    drop_command.top) check_command.top) stat_command.top) dump_command.top) salvage_command.top) migrate_command.top
+    with_subcommand (with_subcommand (with_subcommand (with_subcommand (with_subcommand (with_subcommand (with_subcommand (with_subcommand (with_subcommand (with_subcommand (with_subcommand (with_subcommand app init_command.top) write_command.top) log_command.top) read_command.top) take_command.top)
+    drop_command.top) trim_command.top) check_command.top) stat_command.top) dump_command.top) salvage_command.top) migrate_command.top
 
 -- the program with all its commands
 abbrev pub command_line : App

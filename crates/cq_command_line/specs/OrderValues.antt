@@ -4,8 +4,10 @@ use Rattle.std.specs.Str.Parse.{IsNumeral, digits_value, without_leading_plus}
 use Rattle.clap.specs.Words.{Row, Text, all_of, first_of, one_of}
 use Rattle.cq_orders.specs.declared.settings.InitSettings.{InitSettings}
 use Rattle.cq_orders.specs.declared.settings.LogSettings.{LogSettings}
+use Rattle.cq_orders.specs.declared.settings.ReadSettings.{ReadSettings}
+use Rattle.cq_orders.specs.declared.settings.TrimSettings.{TrimSettings}
 use Rattle.cq_orders.specs.declared.order.Order.{Order}
-use Rattle.cq_orders.specs.declared.order.Order.TheVariants.{Echo, Cycle, Init, Write, Log, Read, Take, Check, Stat, Dump, Salvage, Race, DropBefore, Migrate}
+use Rattle.cq_orders.specs.declared.order.Order.TheVariants.{Echo, Cycle, Init, Write, Log, Read, Take, Check, Stat, Dump, Salvage, Race, DropBefore, Trim, Migrate}
 
 -- the text is the word that was given under this name
 abbrev pub IsWord : {A : Type 0} → List Row → Text → String A → Type 0
@@ -44,11 +46,24 @@ pub record AreSettings (rows : List Row) (settings : InitSettings) : Type 0 wher
   pub cycles : IsNumber rows (codes "CYCLES") settings.cycles
   pub names : AreWords rows (codes "NAMES") settings.names.items
 
+-- the messages that are read are those that were asked for
+pub record AreReadSettings (rows : List Row) (settings : ReadSettings) : Type 0 where
+  pub back : IsFlag rows (codes "back") settings.back
+  pub begin : IsOption rows (codes "from") settings.from
+  pub limit : IsNumberOption rows (codes "limit") settings.limit
+
 -- a queue is kept open as it was given
 pub record AreLogSettings (rows : List Row) (settings : LogSettings) : Type 0 where
   pub seconds : IsNumberOption rows (codes "for") settings.seconds
   pub syncs : IsNumberOption rows (codes "syncs") settings.syncs
   pub checkpoint : IsNumberOption rows (codes "checkpoint") settings.checkpoint
+
+-- of a queue is removed what was given
+pub record AreTrimSettings (rows : List Row) (settings : TrimSettings) : Type 0 where
+  pub keep : IsNumberOption rows (codes "keep") settings.keep
+  pub before : IsOption rows (codes "before") settings.before
+  pub force : IsFlag rows (codes "force") settings.force
+  pub dry_run : IsFlag rows (codes "dry-run") settings.dry_run
 
 -- the order's values are those that were given
 abbrev pub TakesValues : List Row → Order → Type 0
@@ -58,10 +73,10 @@ TakesValues rows (Cycle roll epoch moment) =
 TakesValues rows (Init folder settings) = IsWord rows (codes "DIR") folder × AreSettings rows settings
 TakesValues rows (Write folder moment) = IsWord rows (codes "DIR") folder × IsNumber rows (codes "MOMENT") moment
 TakesValues rows (Log folder settings) = IsWord rows (codes "DIR") folder × AreLogSettings rows settings
-TakesValues rows (Read folder back begin) =
-    IsWord rows (codes "DIR") folder × IsFlag rows (codes "back") back × IsOption rows (codes "from") begin
+TakesValues rows (Read folder settings) = IsWord rows (codes "DIR") folder × AreReadSettings rows settings
 TakesValues rows (Take folder name) = IsWord rows (codes "DIR") folder × IsWord rows (codes "NAME") name
 TakesValues rows (DropBefore folder cycle) = IsWord rows (codes "DIR") folder × IsNumber rows (codes "CYCLE") cycle
+TakesValues rows (Trim folder settings) = IsWord rows (codes "DIR") folder × AreTrimSettings rows settings
 TakesValues rows (Check folder) = IsWord rows (codes "DIR") folder
 TakesValues rows (Stat folder json) = IsWord rows (codes "DIR") folder × IsFlag rows (codes "json") json
 TakesValues rows (Dump folder file) = IsWord rows (codes "DIR") folder × IsWord rows (codes "FILE") file

@@ -20,7 +20,8 @@ pub(crate) fn command_line<'a>(alloc: Global) -> Result<Command<'a>, AllocError>
 
 /// The commands that need no folder, and those on a queue that is stored in a folder.
 const COMMANDS: &[Description] = &[
-    ECHO, CYCLE, RACE, INIT, WRITE, LOG, READ, TAKE, DROP, CHECK, STAT, DUMP, SALVAGE, MIGRATE,
+    ECHO, CYCLE, RACE, INIT, WRITE, LOG, READ, TAKE, DROP, TRIM, CHECK, STAT, DUMP, SALVAGE,
+    MIGRATE,
 ];
 
 const ECHO: Description = Description {
@@ -156,6 +157,13 @@ const READ: Description = Description {
             "INDEX",
             "The index to begin at: 16 lower-case hexadecimal digits",
         ),
+        Argument::OptionBetween(
+            "limit",
+            "N",
+            1,
+            4_294_967_295,
+            "Prints the first N of these messages, and no more",
+        ),
     ],
 };
 
@@ -181,6 +189,36 @@ const DROP: Description = Description {
         Argument::Number(
             "CYCLE",
             "Reads pass over the cycles before this one. One above the last cycle counts as that",
+        ),
+    ],
+};
+
+const TRIM: Description = Description {
+    name: "trim",
+    about: "Removes the images of dropped cycles, so that as many may begin again, and prints their names",
+    after_help: "Without --keep and --before it drops no cycle: it removes the images of those that 'drop' dropped.\n\
+     With both the one that drops more counts. The last cycle is always kept. It drops nothing if messages of\n\
+     the cycles that it would drop are left for a name, and says for which.\n\n\
+     Example:\n  cq trim journal --keep 30",
+    arguments: &[
+        FOLDER,
+        Argument::OptionBetween(
+            "keep",
+            "N",
+            1,
+            4_294_967_295,
+            "Drops all cycles but the last N that have begun",
+        ),
+        Argument::Option(
+            "before",
+            "W",
+            "Drops the cycles before this one: that of an index of 16 lower-case hexadecimal digits,\n\
+             that of a moment, as '@' and its milliseconds of Unix time, or the one of this name, as 20241004",
+        ),
+        Argument::Flag("force", "Drops messages too that are left for a name"),
+        Argument::Flag(
+            "dry-run",
+            "Prints what it would remove, and changes nothing",
         ),
     ],
 };

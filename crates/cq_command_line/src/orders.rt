@@ -2,10 +2,10 @@
 ghost use Rattle.std.specs.Prelude.{◌≡◌, [], ◌∷◌, List, map, option_map, codes, string_bytes, IfOk, IfSome, Ok, Some};
 ghost use Rattle.clap.specs.Words.{found_of, rows_of, subcommand_rows_of};
 ghost use Rattle.cq_command_line.specs.CommandLine.{word_of};
-ghost use Rattle.cq_command_line.specs.OrderValues.{AreLogSettings, AreSettings, AreWords, IsFlag, IsNumber, IsNumberOption, IsOption, IsWord, TakesValues};
+ghost use Rattle.cq_command_line.specs.OrderValues.{AreLogSettings, AreReadSettings, AreSettings, AreTrimSettings, AreWords, IsFlag, IsNumber, IsNumberOption, IsOption, IsWord, TakesValues};
 
 use clap::ArgMatches;
-use cq_orders::{InitSettings, LogSettings, Order};
+use cq_orders::{InitSettings, LogSettings, Order, ReadSettings, TrimSettings};
 use std::alloc::{AllocError, Global};
 
 /// Why what was found is no order.
@@ -52,6 +52,7 @@ fn order_named(alloc: Global, name: &str, values: &ArgMatches<'_>) -> Result<Ord
         "read" => read_order(alloc, values),
         "take" => take_order(alloc, values),
         "drop" => drop_order(alloc, values),
+        "trim" => trim_order(alloc, values),
         "check" => check_order(alloc, values),
         "stat" => stat_order(alloc, values),
         "dump" => dump_order(alloc, values),
@@ -135,8 +136,18 @@ fn read_order(alloc: Global, values: &ArgMatches<'_>) -> Result<Order, OrderFaul
 {
     Ok(Order::Read {
         folder: word(alloc, values, "DIR")?,
+        settings: read_settings(alloc, values)?,
+    })
+}
+
+/// Returns which messages are read.
+fn read_settings(alloc: Global, values: &ArgMatches<'_>) -> Result<ReadSettings, OrderFault>
+    ensures { IfOk result (λ settings. AreReadSettings (rows_of (found_of values.now)) settings) }
+{
+    Ok(ReadSettings {
         back: flag(values, "back"),
         from: option(alloc, values, "from")?,
+        limit: number_option(values, "limit")?,
     })
 }
 
@@ -157,6 +168,28 @@ fn drop_order(alloc: Global, values: &ArgMatches<'_>) -> Result<Order, OrderFaul
     Ok(Order::DropBefore {
         folder: word(alloc, values, "DIR")?,
         cycle: number(values, "CYCLE")?,
+    })
+}
+
+fn trim_order(alloc: Global, values: &ArgMatches<'_>) -> Result<Order, OrderFault>
+    ensures named { IfOk result (λ order. word_of order ≡ codes "trim") }
+    ensures values { IfOk result (λ order. TakesValues (rows_of (found_of values.now)) order) }
+{
+    Ok(Order::Trim {
+        folder: word(alloc, values, "DIR")?,
+        settings: trim_settings(alloc, values)?,
+    })
+}
+
+/// Returns what of a queue is removed.
+fn trim_settings(alloc: Global, values: &ArgMatches<'_>) -> Result<TrimSettings, OrderFault>
+    ensures { IfOk result (λ settings. AreTrimSettings (rows_of (found_of values.now)) settings) }
+{
+    Ok(TrimSettings {
+        keep: number_option(values, "keep")?,
+        before: option(alloc, values, "before")?,
+        force: flag(values, "force"),
+        dry_run: flag(values, "dry-run"),
     })
 }
 

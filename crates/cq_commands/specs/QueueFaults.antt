@@ -1,5 +1,5 @@
 -- Which faults of a folder's queue are answered.
-use Rattle.std.specs.Prelude.{◌≡◌, ◌≢◌, ◌⊎◌, ⊤, ℕ, ◌+◌, ◌-◌, ◌^◌, ◌∷◌, ◌++◌, map, min, ◌<◌, ◌≤◌, List, [], length, slice_get, IsSomeAnd, Option, None, Some, Bool}
+use Rattle.std.specs.Prelude.{◌≡◌, ◌≢◌, ◌⊎◌, ⊤, ℕ, ◌+◌, ◌-◌, ◌^◌, ◌∷◌, ◌++◌, map, min, ◌<◌, ◌≤◌, List, [], length, slice_get, IsSomeAnd, Option, None, Some, option_map, string_bytes}
 use Rattle.cq_layout.specs.Room.{Fits, IsMessageLength}
 use Rattle.cq_layout.specs.Layout.{CycleLayout}
 use Rattle.cq_cycle.specs.Index.{index_text}
@@ -9,6 +9,7 @@ use Rattle.cq_layout.specs.declared.refusal.Refusal.TheVariants.{BadRoom, CycleF
 use Rattle.cq_journal.specs.Journals.{Declares}
 use Rattle.cq_image.specs.Image.{AreNext}
 use Rattle.cq_folder.specs.Folder.{Files}
+use Rattle.cq_orders.specs.declared.settings.ReadSettings.{ReadSettings}
 use Rattle.cq_tail.specs.declared.error.TakeFault.{TakeFault}
 use Rattle.cq_tail.specs.declared.error.TakeFault.TheVariants as take
 use Rattle.cq_files.specs.declared.opening.CycleImage.{CycleImage}
@@ -48,10 +49,10 @@ abbrev pub IsNoIndex : List ℕ → Type 0
 IsNoIndex word = (index : ℕ) → index < 2 ^ 64 → word ≢ index_text index
 
 -- why messages are not read: the word is no index; else the queue is not opened; else the lines are not written
-abbrev pub IsReadFault : Bool → Option (List ℕ) → Files → ToolFault → Type 0
-IsReadFault back from files fault = ((fault ≡ BadIndex) × IsSomeAnd from IsNoIndex)
-    ⊎ (((start : ℕ) × IsReadStart back from start × IsOpenFault files fault)
-    ⊎ ((fault ≡ WriteFault) × ((text : List ℕ) × IsReadOut back from (Some files) text)))
+abbrev pub IsReadFault : ReadSettings → Files → ToolFault → Type 0
+IsReadFault settings files fault = ((fault ≡ BadIndex) × IsSomeAnd (option_map string_bytes settings.from) IsNoIndex)
+    ⊎ (((start : ℕ) × IsReadStart settings start × IsOpenFault files fault)
+    ⊎ ((fault ≡ WriteFault) × ((text : List ℕ) × IsReadOut settings (Some files) text)))
 
 -- memory ran out, or no such name is declared
 abbrev pub IsNameFault : Settings → List ℕ → ToolFault → Type 0

@@ -1,7 +1,7 @@
 //! What the commands do and print.
 use crate::steps::Step::{
-    self, Back, BackFrom, Bar, Check, Config, Dump, Length, OldQueue, Queue, Read, ReadFrom, Take,
-    Write,
+    self, Back, BackFrom, Bar, Check, Config, Dump, Length, Limited, OldQueue, Queue, Read,
+    ReadFrom, Take, Write,
 };
 use crate::steps::{AFTER_HELLO, AT_START, WRITES_HELLO_WORLD, expect, push_said, said_by};
 use crate::streams::{Said, said};
@@ -51,7 +51,7 @@ static ROLLED: [(Step, &str); 8] = [
 ];
 
 /// With "a" in cycle 0, and "b", "c" and "d" in cycle 5.
-static READ: [(Step, &str); 11] = [
+static READ: [(Step, &str); 18] = [
     (Queue(2), ""),
     (Write(0, b"a\n"), "0000000000000000\n"),
     (
@@ -81,6 +81,28 @@ static READ: [(Step, &str); 11] = [
         BackFrom("ffffffffffffffff"),
         "0000000500000002 d\n0000000500000001 c\n0000000500000000 b\n0000000000000000 a\n",
     ),
+    (
+        Limited(false, None, 2),
+        "0000000000000000 a\n0000000500000000 b\n",
+    ),
+    (
+        Limited(false, Some("0000000000000001"), 1),
+        "0000000500000000 b\n",
+    ),
+    (
+        Limited(true, None, 3),
+        "0000000500000002 d\n0000000500000001 c\n0000000500000000 b\n",
+    ),
+    (
+        Limited(true, Some("0000000500000001"), 1),
+        "0000000500000000 b\n",
+    ),
+    (
+        Limited(false, Some("0000000500000001"), u64::MAX),
+        "0000000500000001 c\n0000000500000002 d\n",
+    ),
+    (Limited(true, None, 0), ""),
+    (Limited(false, Some("x"), 1), "cq: BadIndex"),
 ];
 
 static NO_INDEX: [(Step, &str); 9] = [
@@ -149,8 +171,8 @@ fn ran<F: Folder>(alloc: Global, folder: &mut F, order: &Order) -> Said {
     let mut output = Vec::new(alloc);
     let mut rest: &[u8] = b"hello\n";
     let done = match order {
-        Order::Race { messages: _ } | Order::Log { .. } => {
-            return Ok(String::from_str(alloc, "not for one caller")?);
+        Order::Race { messages: _ } | Order::Log { .. } | Order::Trim { .. } => {
+            return Ok(String::from_str(alloc, "not run here")?);
         }
         _ => run(alloc, order, folder, &mut rest, &mut output),
     };

@@ -4,7 +4,8 @@
 //! make all their calls of it, and save it.
 use crate::streams::{Broken, BrokenAfter, Said, said};
 use cq_commands::{
-    InitSettings, ToolFault, check, drop_before, dump, init, migrate, read, salvage, take, write,
+    InitSettings, ReadSettings, ToolFault, check, drop_before, dump, init, migrate, read, salvage,
+    take, write,
 };
 use cq_fixtures::{DAY, expect_answer, expect_text, push_missed};
 use cq_folder::{Access, FailingFolder, Folder, FolderFault, MemoryFolder};
@@ -57,6 +58,8 @@ pub enum Step {
     Back,
     /// `read` backwards from an index on.
     BackFrom(&'static str),
+    /// `read` backwards or not, from an index if one is given, of at most this many messages.
+    Limited(bool, Option<&'static str>, u64),
     /// `take` under a name.
     Take(&'static str),
     /// `drop` of the cycles before one.
@@ -188,6 +191,7 @@ pub fn said_at<F: Folder>(alloc: Global, folder: &mut F, step: &Step) -> Said {
         | Step::ReadFrom(_)
         | Step::Back
         | Step::BackFrom(_)
+        | Step::Limited(..)
         | Step::Take(_)
         | Step::Drop(_)
         | Step::Check
@@ -213,10 +217,13 @@ fn run_step<F: Folder, W: Write>(
 ) -> Result<(), ToolFault> {
     match *step {
         Step::Write(moment, input) => write_lines(alloc, folder, moment, input, output),
-        Step::Read => read(alloc, folder, false, None, output),
-        Step::ReadFrom(index) => read(alloc, folder, false, Some(index), output),
-        Step::Back => read(alloc, folder, true, None, output),
-        Step::BackFrom(index) => read(alloc, folder, true, Some(index), output),
+        Step::Read => read_lines(alloc, folder, (false, None, None), output),
+        Step::ReadFrom(index) => read_lines(alloc, folder, (false, Some(index), None), output),
+        Step::Back => read_lines(alloc, folder, (true, None, None), output),
+        Step::BackFrom(index) => read_lines(alloc, folder, (true, Some(index), None), output),
+        Step::Limited(back, from, limit) => {
+            read_lines(alloc, folder, (back, from, Some(limit)), output)
+        }
         Step::Take(name) => take(alloc, folder, name, output),
         Step::Drop(cycle) => drop_before(alloc, folder, cycle, output),
         Step::Check => check(alloc, folder, output),
@@ -225,6 +232,21 @@ fn run_step<F: Folder, W: Write>(
         Step::Migrate => migrate(alloc, folder),
         _ => Ok(()),
     }
+}
+
+/// Reads backwards or not, from an index if one is given, and up to a limit if one is.
+fn read_lines<F: Folder, W: Write>(
+    alloc: Global,
+    folder: &mut F,
+    (back, from, limit): (bool, Option<&str>, Option<u64>),
+    output: &mut W,
+) -> Result<(), ToolFault> {
+    let from = match from {
+        None => None,
+        Some(word) => Some(String::from_str(alloc, word)?),
+    };
+    let settings = ReadSettings { back, from, limit };
+    read(alloc, folder, &settings, output)
 }
 
 /// Writes the lines of an input at a moment.

@@ -64,6 +64,14 @@ impl Folder for WatchedFolder<'_> {
         self.folder.save(changes)
     }
 
+    fn save_and_remove(
+        &mut self,
+        changes: &[NewFile],
+        removed: &[String],
+    ) -> Result<(), FolderFault> {
+        self.folder.save_and_remove(changes, removed)
+    }
+
     fn access(&self) -> Option<Access> {
         self.folder.access()
     }

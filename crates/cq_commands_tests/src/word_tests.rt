@@ -139,38 +139,58 @@ fn parses_words(rt: HostRuntime) -> Result<(), Fail> {
 }
 
 /// Arguments of `read`, each line with what it is.
-static READERS: [(&str, &str); 15] = [
+static READERS: [(&str, &str); 20] = [
     (
         "cq|read|q",
-        "Read { folder: \"q\", back: false, from: None }",
+        "Read { folder: \"q\", settings: ReadSettings { back: false, from: None, limit: None } }",
     ),
     (
         "cq|read|q|--back",
-        "Read { folder: \"q\", back: true, from: None }",
+        "Read { folder: \"q\", settings: ReadSettings { back: true, from: None, limit: None } }",
     ),
     (
         "cq|read|--back|q",
-        "Read { folder: \"q\", back: true, from: None }",
+        "Read { folder: \"q\", settings: ReadSettings { back: true, from: None, limit: None } }",
     ),
     (
         "cq|read|q|--from|0000000100000002",
-        "Read { folder: \"q\", back: false, from: Some(\"0000000100000002\") }",
+        "Read { folder: \"q\", settings: ReadSettings { back: false, from: Some(\"0000000100000002\"), limit: None } }",
     ),
     (
         "cq|read|--from|q|r",
-        "Read { folder: \"r\", back: false, from: Some(\"q\") }",
+        "Read { folder: \"r\", settings: ReadSettings { back: false, from: Some(\"q\"), limit: None } }",
     ),
     (
         "cq|read|q|--back|--from|no index",
-        "Read { folder: \"q\", back: true, from: Some(\"no index\") }",
+        "Read { folder: \"q\", settings: ReadSettings { back: true, from: Some(\"no index\"), limit: None } }",
     ),
     (
         "cq|read|--from=|q|--back",
-        "Read { folder: \"q\", back: true, from: Some(\"\") }",
+        "Read { folder: \"q\", settings: ReadSettings { back: true, from: Some(\"\"), limit: None } }",
     ),
     (
         "cq|read|--back|--from|7|q",
-        "Read { folder: \"q\", back: true, from: Some(\"7\") }",
+        "Read { folder: \"q\", settings: ReadSettings { back: true, from: Some(\"7\"), limit: None } }",
+    ),
+    (
+        "cq|read|--limit|10|q",
+        "Read { folder: \"q\", settings: ReadSettings { back: false, from: None, limit: Some(10) } }",
+    ),
+    (
+        "cq|read|q|--back|--limit=4294967295|--from|7",
+        "Read { folder: \"q\", settings: ReadSettings { back: true, from: Some(\"7\"), limit: Some(4294967295) } }",
+    ),
+    (
+        "cq|read|q|--limit|0",
+        "invalid value '0' for '--limit <N>': 0 is not in 1..=4294967295",
+    ),
+    (
+        "cq|read|q|--limit|4294967296",
+        "4294967296 is not in 1..=4294967295",
+    ),
+    (
+        "cq|read|q|--limit|ten",
+        "invalid value 'ten' for '--limit <N>'",
     ),
     ("cq|read", "<DIR>"),
     ("cq|read|q|r", "unexpected argument 'r'"),
@@ -199,7 +219,7 @@ fn parses_the_words_of_a_reader(rt: HostRuntime) -> Result<(), Fail> {
 }
 
 /// Arguments of the other commands on a folder, each line with what it is.
-static OTHERS: [(&str, &str); 47] = [
+static OTHERS: [(&str, &str); 56] = [
     (
         "cq|write|q|18446744073709551615",
         "Write { folder: \"q\", moment: 18446744073709551615 }",
@@ -261,6 +281,30 @@ static OTHERS: [(&str, &str); 47] = [
         "invalid value '18446744073709551616' for '<CYCLE>'",
     ),
     ("cq|drop|--help", "Usage: cq drop <DIR> <CYCLE>"),
+    (
+        "cq|trim|q",
+        "Trim { folder: \"q\", settings: TrimSettings { keep: None, before: None, force: false, dry_run: false } }",
+    ),
+    (
+        "cq|trim|q|--keep|30|--dry-run",
+        "Trim { folder: \"q\", settings: TrimSettings { keep: Some(30), before: None, force: false, dry_run: true } }",
+    ),
+    (
+        "cq|trim|--force|q|--before|@1728086400000",
+        "Trim { folder: \"q\", settings: TrimSettings { keep: None, before: Some(\"@1728086400000\"), force: true, dry_run: false } }",
+    ),
+    (
+        "cq|trim|q|--keep|4294967295|--before|20241004-13",
+        "Trim { folder: \"q\", settings: TrimSettings { keep: Some(4294967295), before: Some(\"20241004-13\"), force: false, dry_run: false } }",
+    ),
+    ("cq|trim|q|--keep|0", "invalid value '0' for '--keep <N>'"),
+    (
+        "cq|trim|q|--keep|4294967296",
+        "invalid value '4294967296' for '--keep <N>'",
+    ),
+    ("cq|trim", "<DIR>"),
+    ("cq|trim|q|20005", "unexpected argument '20005'"),
+    ("cq|trim|--help", "Usage: cq trim [OPTIONS] <DIR>"),
     ("cq|check|q", "Check { folder: \"q\" }"),
     ("cq|check| ", "Check { folder: \" \" }"),
     ("cq|check", "<DIR>"),
@@ -297,7 +341,7 @@ fn parses_the_words_of_other_commands(rt: HostRuntime) -> Result<(), Fail> {
 }
 
 /// Commands, and what the help of each says: of limits, of what is printed, and in an example.
-static HELP: [(&str, &[&str]); 14] = [
+static HELP: [(&str, &[&str]); 15] = [
     (
         "race",
         &[
@@ -376,6 +420,15 @@ static HELP: [(&str, &[&str]); 14] = [
         &[
             " <CYCLE>  Reads pass over the cycles before this one. One above the last cycle counts as that\n",
             "Example:\n  cq drop journal 20005\n",
+        ],
+    ),
+    (
+        "trim",
+        &[
+            " --keep <N>    Drops all cycles but the last N that have begun\n",
+            " --before <W>  Drops the cycles before this one: that of an index of 16 lower-case hexadecimal digits,\n",
+            "With both the one that drops more counts. The last cycle is always kept. It drops nothing if messages of\n",
+            "Example:\n  cq trim journal --keep 30\n",
         ],
     ),
     (

@@ -185,6 +185,14 @@ impl Folder for LongLogFolder {
         self.folder.save(changes)
     }
 
+    fn save_and_remove(
+        &mut self,
+        changes: &[NewFile],
+        removed: &[String],
+    ) -> Result<(), FolderFault> {
+        self.folder.save_and_remove(changes, removed)
+    }
+
     fn access(&self) -> Option<Access> {
         self.folder.access()
     }

@@ -1,6 +1,8 @@
 //! Steps over a folder, and what is said at each.
 use crate::logs::{Frame, log_of};
-use cq_commands::{InitSettings, ToolFault, check, drop_before, init, read, take, write};
+use cq_commands::{
+    InitSettings, ReadSettings, ToolFault, check, drop_before, init, read, take, write,
+};
 use cq_fixtures::{contents_text, expect_answer};
 use cq_fold::{FoldFault, Folded, fold};
 use cq_folder::{Access, Folder, MemoryFolder};
@@ -103,7 +105,14 @@ fn run_step<F: Folder>(
         }
         Step::Take => take(alloc, folder, "reader", output),
         Step::Drop(cycle) => drop_before(alloc, folder, cycle, output),
-        Step::Read => read(alloc, folder, false, None, output),
+        Step::Read => {
+            let all = ReadSettings {
+                back: false,
+                from: None,
+                limit: None,
+            };
+            read(alloc, folder, &all, output)
+        }
         Step::Check => check(alloc, folder, output),
         _ => Ok(()),
     }

@@ -1,7 +1,7 @@
 -- The folder of an order, and which orders go on for longer than one call.
 use Rattle.std.specs.Prelude.{⊤, ℕ, List, Option, None, Some, string_bytes}
 use Rattle.cq_orders.specs.declared.order.Order.{Order}
-use Rattle.cq_orders.specs.declared.order.Order.TheVariants.{Echo, Cycle, Init, Write, Log, Read, Take, Check, Stat, Dump, Salvage, Race, DropBefore, Migrate}
+use Rattle.cq_orders.specs.declared.order.Order.TheVariants.{Echo, Cycle, Init, Write, Log, Read, Take, Check, Stat, Dump, Salvage, Race, DropBefore, Trim, Migrate}
 
 -- the path of the folder that an order is for
 abbrev pub folder_of : Order → Option (List ℕ)
@@ -10,9 +10,10 @@ folder_of (Cycle roll epoch moment) = None
 folder_of (Init folder settings) = Some (string_bytes folder)
 folder_of (Write folder moment) = Some (string_bytes folder)
 folder_of (Log folder settings) = Some (string_bytes folder)
-folder_of (Read folder back from) = Some (string_bytes folder)
+folder_of (Read folder settings) = Some (string_bytes folder)
 folder_of (Take folder name) = Some (string_bytes folder)
 folder_of (DropBefore folder cycle) = Some (string_bytes folder)
+folder_of (Trim folder settings) = Some (string_bytes folder)
 folder_of (Check folder) = Some (string_bytes folder)
 folder_of (Stat folder json) = Some (string_bytes folder)
 folder_of (Dump folder file) = Some (string_bytes folder)
@@ -29,3 +30,8 @@ IsRace _ = ⊥
 abbrev pub IsLog : Order → Type 0
 IsLog (Log folder settings) = ⊤
 IsLog _ = ⊥
+
+-- the order removes images
+abbrev pub IsTrim : Order → Type 0
+IsTrim (Trim folder settings) = ⊤
+IsTrim _ = ⊥

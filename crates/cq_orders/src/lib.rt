@@ -1,6 +1,7 @@
 //! The commands of the program `cq` as plain values. Nothing is checked here.
 //!
-//! `Order` is a command with its values. The settings of `init` are in `InitSettings`, and those of `log` in `LogSettings`.
+//! `Order` is a command with its values. The settings of `init` are in `InitSettings`, those of `read` in `ReadSettings`, those
+//! of `log` in `LogSettings`, and those of `trim` in `TrimSettings`.
 //! `cq_command_line` makes an `Order` from the words of a command line, and `cq_commands` runs it.
 #![tactic(auto)]
 
@@ -8,4 +9,4 @@ mod order;
 mod settings;
 
 pub use order::Order;
-pub use settings::{InitSettings, LogSettings};
+pub use settings::{InitSettings, LogSettings, ReadSettings, TrimSettings};

@@ -1,7 +1,7 @@
 ghost use Rattle.std.specs.Prelude.{◌≡◌, option_map};
 ghost use Rattle.cq_orders.specs.OrderFolder.{folder_of};
 
-use crate::settings::{InitSettings, LogSettings};
+use crate::settings::{InitSettings, LogSettings, ReadSettings, TrimSettings};
 
 /// What the program is asked to do.
 #[derive(Debug, Drop)]
@@ -42,10 +42,8 @@ pub enum Order {
     Read {
         /// The folder.
         folder: String,
-        /// Whether to read backwards, towards the first message: from the end, unless `from` is given.
-        back: bool,
-        /// The index at which to begin, as it was given.
-        from: Option<String>,
+        /// Which messages are read.
+        settings: ReadSettings,
     },
     /// Take the next message under a name.
     Take {
@@ -60,6 +58,13 @@ pub enum Order {
         folder: String,
         /// The cycle.
         cycle: u64,
+    },
+    /// Remove the images of dropped cycles, and print their names.
+    Trim {
+        /// The folder.
+        folder: String,
+        /// What is removed.
+        settings: TrimSettings,
     },
     /// Print of each image what it holds, or its fault.
     Check {
@@ -113,6 +118,7 @@ impl Order {
             | Order::Read { folder, .. }
             | Order::Take { folder, .. }
             | Order::DropBefore { folder, .. }
+            | Order::Trim { folder, .. }
             | Order::Check { folder }
             | Order::Stat { folder, .. }
             | Order::Dump { folder, .. }

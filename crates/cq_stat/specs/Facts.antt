@@ -1,6 +1,7 @@
 -- What is said of a queue.
 use Rattle.std.specs.Prelude.{◌≡◌, ℕ, ◌+◌, ◌-◌, ◌==◌, nat_le, nat_lt, if◌then◌else◌, All, filter, length, map, sum, Option, option_map, string_bytes}
 use Rattle.cq_cycle.specs.Index.{index_of}
+use Rattle.cq_files.specs.Queue.{contents_from}
 use Rattle.cq_cycle.specs.Name.{IsName}
 use Rattle.cq_layout.specs.Room.{needs}
 use Rattle.cq_model.specs.Finds.{first_in}
@@ -41,6 +42,10 @@ facts_of settings contents l = facts_with settings l (state_of contents.floor (l
 -- the name is that of the cycle with this number
 abbrev pub IsNamed : Settings → CycleStat → Type 0
 IsNamed settings cycle = IsName settings.roll settings.epoch cycle.facts.number (string_bytes cycle.name)
+
+-- what is held with this floor
+abbrev pub with_floor : Contents → ℕ → Contents
+with_floor contents floor = contents_from contents.lists contents.positions floor
 
 -- how many of the messages that reads look at have an index that is not below a position
 abbrev pub left_from : Contents → ℕ → ℕ

@@ -4,7 +4,7 @@ ghost use Rattle.std.specs.Prelude.{◌≡◌, ◌-◌, ◌≤◌, All, IfOk, le
 ghost use Rattle.cq_cycle.specs.Index.{index_of};
 ghost use Rattle.cq_model.specs.Finds.{first_in};
 ghost use Rattle.cq_model.specs.Settings.{texts};
-ghost use Rattle.cq_stat.specs.Facts.{first_index, left_from, left_in};
+ghost use Rattle.cq_stat.specs.Facts.{first_index, left_from, left_in, with_floor};
 
 use crate::NameStat;
 use cq_cycle::Index;
@@ -32,19 +32,20 @@ pub(crate) fn name_stats(
         stats.push(NameStat {
             name: String::from_str(alloc, names[i].as_str())?,
             position: Index::of_value(positions[i]),
-            messages_left: left_from(contents, positions[i]),
+            messages_left: messages_left(contents, contents.floor, positions[i]),
         })?;
     }
     Ok(stats)
 }
 
-/// Returns how many messages have an index that is not below a position, and a cycle that is not below the floor.
-fn left_from(contents: &Contents, position: u64) -> u64
+/// Returns how many messages are left for a name at a position if this is the floor of the queue: those that have an index
+/// not below the position, and a cycle not below the floor.
+pub fn messages_left(contents: &Contents, floor: u32, position: u64) -> u64
     requires places { length contents.now.lists ≤ MAX_CYCLES }
     requires few { All (λ list. length list.messages ≤ MAX_MESSAGES) contents.now.lists }
-    ensures { result ≡ left_from contents.now position }
+    ensures { result ≡ left_from (with_floor contents.now floor) position }
 {
-    let floor = Index::new(contents.floor, 0).value();
+    let floor = Index::new(floor, 0).value();
     messages_from(contents.lists.as_slice(), position.max(floor))
 }
 

@@ -12,7 +12,7 @@ use std::sync::Wait;
 use std::thread::Threads;
 
 /// The words of each start, after the program's name.
-const STARTS: [&[&str]; 38] = [
+const STARTS: [&[&str]; 42] = [
     &["read", "."],
     &["stat", ".", "--json"],
     &["take", ".", "reader"],
@@ -23,6 +23,7 @@ const STARTS: [&[&str]; 38] = [
     &["write", ".", "1728086400000"],
     &["write", ".", "253402300800000"],
     &["read", "."],
+    &["trim", ".", "--keep", "1"],
     &["take", ".", "reader"],
     &["read", ".", "--back", "--from", "00004e2100000000"],
     &["take", ".", "writer"],
@@ -39,6 +40,9 @@ const STARTS: [&[&str]; 38] = [
     &["check", "logged"],
     &["write", "logged", "1728086400000"],
     &["read", "logged", "--back"],
+    &["trim", "logged", "--keep", "1", "--dry-run"],
+    &["trim", "logged", "--before", "20241005"],
+    &["check", "logged"],
     &["check", "broken"],
     &["salvage", "broken", "20241004.cqi"],
     &["stat", "broken"],

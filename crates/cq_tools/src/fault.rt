@@ -6,6 +6,7 @@ use cq_live::LiveFault;
 use cq_log_file::OpenFault as PlaceFault;
 use cq_logged::LogFault;
 use cq_text::ToolFault;
+use cq_trim::TrimFault;
 use std::alloc::{AllocError, AllocFailed};
 
 /// Why a start of the program failed (ours). It prints the text that follows `cq: ` on standard error.
@@ -14,6 +15,9 @@ pub(crate) enum StartFault {
     /// The command failed.
     #[error("{0}")]
     Tool(ToolFault),
+    /// Nothing is removed from the folder.
+    #[error("{0}")]
+    Trim(TrimFault),
     /// The log of the folder keeps the command out.
     #[error("{0}")]
     Log(LogFault),
@@ -34,6 +38,12 @@ pub(crate) enum StartFault {
 impl From<ToolFault> for StartFault {
     fn from(cause: ToolFault) -> StartFault {
         StartFault::Tool(cause)
+    }
+}
+
+impl From<TrimFault> for StartFault {
+    fn from(cause: TrimFault) -> StartFault {
+        StartFault::Trim(cause)
     }
 }
 

@@ -13,6 +13,7 @@ use cq_orders::Order;
 use cq_race::{OpenGate, race};
 use cq_real_folder::RealFolder;
 use cq_text::ToolFault;
+use cq_trim::trim;
 use std::alloc::AllocError;
 use std::fs::File;
 use std::io::{self, ErrorKind};
@@ -126,13 +127,13 @@ where
 }
 
 /// Prints what `check` found of the log, if that is the order and there was something.
-fn say_news<R>(rt: &R, order: &Order, news: Option<LogNews>) -> Result<(), ToolFault>
+fn say_news<R>(rt: &R, order: &Order, news: Option<LogNews>) -> Result<(), StartFault>
 where
     R: AllocGlobal + Print,
 {
     match (order, news) {
         (Order::Check { folder: _ }, Some(news)) => {
-            print_news(rt.alloc(), &mut io::writer(rt), news)
+            Ok(print_news(rt.alloc(), &mut io::writer(rt), news)?)
         }
         _ => Ok(()),
     }
@@ -154,33 +155,35 @@ where
 }
 
 /// Runs an order for one caller over a folder and the standard streams.
-fn run_in<R, F>(rt: &R, order: &Order, folder: &mut F) -> Result<(), ToolFault>
+fn run_in<R, F>(rt: &R, order: &Order, folder: &mut F) -> Result<(), StartFault>
 where
     R: AllocGlobal + Input + Print,
     F: Folder,
     requires alone { ¬ IsRace order.now }
     requires ends { ¬ IsLog order.now }
 {
-    cq_commands::run(
-        rt.alloc(),
-        order,
-        folder,
-        &mut rt.reader(),
-        &mut io::writer(rt),
-    )
+    let alloc = rt.alloc();
+    let mut output = io::writer(rt);
+    match order {
+        Order::Trim {
+            folder: _,
+            settings,
+        } => Ok(trim(alloc, folder, settings, &mut output)?),
+        _ => Ok(cq_commands::run(alloc, order, folder, &mut rt.reader(), &mut output)?),
+    }
 }
 
 /// Returns what an order came to, by why its log kept it out or was not shown. If the log is not shown, `errors` says so.
 fn end<E: Eprint>(
     errors: &E,
-    done: Result<(), ToolFault>,
+    done: Result<(), StartFault>,
     cause: Option<LogFault>,
 ) -> Result<(), StartFault> {
     match cause {
-        None => done.map_err(StartFault::Tool),
+        None => done,
         Some(LogFault::NotShown(fault)) => {
             let _ = eprintln!(errors; "cq: {}", LogFault::NotShown(fault));
-            done.map_err(StartFault::Tool)
+            done
         }
         Some(cause) => done.map_err(|_| StartFault::Log(cause)),
     }

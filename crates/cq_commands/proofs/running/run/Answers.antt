@@ -13,9 +13,8 @@ use Rattle.cq_files.specs.Salvaged.{IsSalvagedQueue}
 use Rattle.cq_files.proofs.QueueLemmas.{keeps-refl}
 use Rattle.cq_text.specs.CycleLine.{HasCause, IsCycleLine}
 use Rattle.cq_text.specs.Output.{AppendsBeginning}
-use Rattle.cq_commands.specs.Messages.{IsReadOut}
 use Rattle.cq_commands.specs.Orders.{Ends, Streams}
-use Rattle.cq_commands.specs.QueueFaults.{IsReadFault, IsTakeFault}
+use Rattle.cq_commands.specs.QueueFaults.{IsTakeFault}
 use Rattle.cq_commands.specs.Saving.{SavesAndPrints}
 use Rattle.cq_commands.specs.Taken.{IsTaken}
 use Rattle.cq_commands.proofs.running.run.Goals as goal
@@ -105,23 +104,12 @@ returns-in-Write g c =
 
 pub returns-in-Read : goal.returns-in-Read
 returns-in-Read g c =
-    let before = g.F.Folder.files c.args.folder.now in
     ended _ c.read.result c.args.order.now _ c.in-Read.is c.read.ensures.counted (record {
-      done = on_ok_weaker c.read.result
-          (λ printed. (
-            c.read.ensures.kept,
-            subst (λ (word : Option (List ℕ)). (text : List ℕ) × IsReadOut c.in-Read.back word before text
-                × Appends (g.W.Write.contents c.args.output.now) (g.W.Write.contents c.read.new.output) text) c.word_of.ensures printed,
-          ))
-          c.read.ensures.printed;
-      cause = subst (λ (word : Option (List ℕ)). IfErr c.read.result (λ fault. IfSome before (λ files. IsReadFault c.in-Read.back word files fault)))
-          c.word_of.ensures c.read.ensures.cause;
+      done = on_ok_weaker c.read.result (λ printed. (c.read.ensures.kept, printed)) c.read.ensures.printed;
+      cause = c.read.ensures.cause;
       left = anyway c.read.result _ c.read.ensures.kept;
       silent = silent_too c.read.result _ c.read.ensures.silent;
-      broken = subst (λ (word : Option (List ℕ)). IfErr c.read.result (λ fault. fault ≡ WriteFault → (text : List ℕ)
-          × IsReadOut c.in-Read.back word before text
-          × AppendsBeginning (g.W.Write.contents c.args.output.now) (g.W.Write.contents c.read.new.output) text))
-          c.word_of.ensures c.read.ensures.broken;
+      broken = c.read.ensures.broken;
       told = tt;
       version = c.read.ensures.version;
     })

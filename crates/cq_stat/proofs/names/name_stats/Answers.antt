@@ -37,5 +37,5 @@ loop-i-preserved c =
       positions = one_more (λ (stat : NameStat). stat.position) c.loop-i.stats.items c.push.new.self.items _ contents.positions i 0
           c.in_ok-push.ensures.items held.positions below at;
       messages = all_more (λ (stat : NameStat). stat.messages_left ≡ left_from contents stat.position) c.loop-i.stats.items c.push.new.self.items _
-          c.in_ok-push.ensures.items held.messages (c.left_from.ensures ∙ ap (left_from contents) (sym c.of_value.ensures));
+          c.in_ok-push.ensures.items held.messages (c.messages_left.ensures ∙ ap (left_from contents) (sym c.of_value.ensures));
     }

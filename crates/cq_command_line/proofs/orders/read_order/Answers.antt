@@ -1,5 +1,0 @@
-use Rattle.std.proofs.Common.{rules}
-use Rattle.cq_command_line.proofs.orders.read_order.Goals as goal
-
-pub returns-clause-values : goal.returns-clause-values
-returns-clause-values c = search rules

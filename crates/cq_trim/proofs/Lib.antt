@@ -1,0 +1,5 @@
+pub mod WordLemmas
+pub mod KeptLemmas
+pub mod HoldLemmas
+pub mod PlanLemmas
+pub mod EndLemmas
