@@ -259,6 +259,16 @@ uint32_t linnetshelf_split(linnetshelf_handle *endpoint, linnetshelf_handle *out
  * was split off the other: an error here is not detected. They are two handles, and not the same one. */
 uint32_t linnetshelf_meet(linnetshelf_handle *endpoint, linnetshelf_handle *other);
 
+/* Writes how the queue of an endpoint was made to `settings`, and returns how many names it declares, as `index`. The handle may
+ * also hold what is saved of a queue. `settings` is not NULL; it may be passed on to linnetshelf_create or linnetshelf_saved_new,
+ * which make version 2. The version is not among the settings: for images of version 1 use the handle of
+ * linnetshelf_config_read. */
+linnetshelf_answer linnetshelf_settings_of(linnetshelf_handle *handle, linnetshelf_settings *settings);
+
+/* Copies the `k`th name that the queue of an endpoint declares, from 0, to the buffer `room`, and returns its length, which is at
+ * most 32 bytes. No zero byte is put after it. The handle may also hold what is saved of a queue. NO_SUCH_PLACE, NO_ROOM. */
+linnetshelf_answer linnetshelf_names_of(linnetshelf_handle *handle, uint32_t k, void *room, size_t size);
+
 /* Ends what a handle holds. The last endpoint of a queue frees it. An endpoint that has begun a message has to complete it or
  * give it up first. If it does not, nobody writes to the queue any more until it is stopped. */
 void linnetshelf_destroy(linnetshelf_handle handle);
@@ -365,6 +375,19 @@ linnetshelf_answer linnetshelf_position(linnetshelf_handle *endpoint, const void
  * above the end that this endpoint has seen. NO_SUCH_NAME. */
 linnetshelf_answer linnetshelf_seek(linnetshelf_handle *endpoint, const void *name, size_t length, uint64_t from, uint64_t to);
 
+/* Cycles, by the roll and the epoch of a queue. A call with a number that no roll has is BAD_SETTINGS. */
+
+/* Returns the cycle in which a moment lies, as `index`. BAD_MOMENT: it is in none. */
+linnetshelf_answer linnetshelf_cycle_of(uint32_t roll, uint64_t epoch, uint64_t moment);
+
+/* Copies the name of a cycle to the buffer `room`, and returns its length, which is at most 13 bytes: `20240928`, `20240928-07` or
+ * `20240928-0714`, of the time in UTC at which it begins. `.cqi` after it makes the name of its file. No zero byte is put after it.
+ * NO_SUCH_PLACE (no queue has this cycle), NO_ROOM, OUT_OF_MEMORY. */
+linnetshelf_answer linnetshelf_cycle_name(uint32_t roll, uint64_t epoch, uint32_t cycle, void *room, size_t size);
+
+/* Returns the cycle with this name, as `index`. NO_SUCH_PLACE: no cycle has it. */
+linnetshelf_answer linnetshelf_cycle_named(uint32_t roll, uint64_t epoch, const void *name, size_t length);
+
 /* Saving and opening. */
 
 /* Stops the queue of its last endpoint. From then on the handle holds what is saved: an image of each cycle, a position for
@@ -373,11 +396,20 @@ linnetshelf_answer linnetshelf_seek(linnetshelf_handle *endpoint, const void *na
  * linnetshelf_destroy is WRONG_KIND. */
 uint32_t linnetshelf_stop(linnetshelf_handle *handle);
 
+/* Hands out a copy of what a queue holds at one moment of this call, as what is saved of it, while its endpoints go on. Messages that
+ * are begun are not in it; cycles that were dropped are. Its last cycle is open. Each name is at 0, and the floor is 0: for others call
+ * linnetshelf_saved_set_position and _set_floor. The endpoint stays where it is. It takes memory for a copy of each message.
+ * OUT_OF_MEMORY: nothing is handed out. */
+uint32_t linnetshelf_snapshot(linnetshelf_handle *endpoint, linnetshelf_handle *out);
+
 /* Returns how many cycles are saved, as `index`. */
 linnetshelf_answer linnetshelf_saved_count(linnetshelf_handle *saved);
 
 /* Returns the number of cycle `k`, from 0, as `index`. NO_SUCH_PLACE. */
 linnetshelf_answer linnetshelf_saved_cycle(linnetshelf_handle *saved, uint32_t k);
+
+/* Returns how many messages cycle `k` has, from 0, as `index`. NO_SUCH_PLACE. */
+linnetshelf_answer linnetshelf_saved_length(linnetshelf_handle *saved, uint32_t k);
 
 /* Returns whether cycle `k`, from 0, has ended: `index` is 1, or 0 if it is open. NO_SUCH_PLACE. */
 linnetshelf_answer linnetshelf_saved_ended(linnetshelf_handle *saved, uint32_t k);
@@ -405,6 +437,16 @@ uint32_t linnetshelf_saved_set_position(linnetshelf_handle *saved, uint32_t k, u
 
 /* Sets the floor. */
 uint32_t linnetshelf_saved_set_floor(linnetshelf_handle *saved, uint32_t floor);
+
+/* Reads the text of a folder's file queue.cqc, and hands out a queue of no cycle with its settings, names, positions and floor. To
+ * that the images of the folder are added. Where the text is of version 1, so are they.
+ * BAD_SETTINGS (`index` is the first line that is not one of the format, from 1; if it is 0, a setting, a name or the floor is
+ * outside its limits), OUT_OF_MEMORY. */
+linnetshelf_answer linnetshelf_config_read(const void *bytes, size_t length, linnetshelf_handle *out);
+
+/* Copies the text of queue.cqc for what is saved to the buffer `room`, and returns its length.
+ * BAD_CONTENTS (the floor is above the last cycle that any queue may have), NO_ROOM, OUT_OF_MEMORY. */
+linnetshelf_answer linnetshelf_config_write(linnetshelf_handle *saved, void *room, size_t size);
 
 /* Makes a queue of what is saved, with its last cycle current, and hands out its first endpoint. What is saved stays as it is.
  * BAD_CONTENTS, in these cases: the last cycle has ended; there is none or there are too many; cycles do not rise; one of them

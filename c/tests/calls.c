@@ -371,6 +371,10 @@ static void endpoints_meet(void) {
     linnetshelf_destroy(two);
 }
 
+static int is_count(linnetshelf_answer answer, uint64_t count) {
+    return answer.status == STATUS(DONE) && answer.index == count && answer.length == 0;
+}
+
 /* Copies the images, positions and floor of what is saved into a new one. */
 static linnetshelf_handle copy_of(linnetshelf_handle *saved, const char *names, int positions) {
     linnetshelf_handle copy = {0};
@@ -416,6 +420,8 @@ static void a_queue_is_saved_and_opened(void) {
     CHECK(linnetshelf_saved_count(&queue).index == 2);
     CHECK(linnetshelf_saved_cycle(&queue, 0).index == 5 && linnetshelf_saved_cycle(&queue, 1).index == 6);
     CHECK(linnetshelf_saved_cycle(&queue, 2).status == STATUS(NO_SUCH_PLACE));
+    CHECK(is_count(linnetshelf_saved_length(&queue, 0), 2) && is_count(linnetshelf_saved_length(&queue, 1), 2));
+    CHECK(linnetshelf_saved_length(&queue, 2).status == STATUS(NO_SUCH_PLACE));
     CHECK(linnetshelf_saved_ended(&queue, 0).index == 1 && linnetshelf_saved_ended(&queue, 1).index == 0);
     CHECK(linnetshelf_saved_ended(&queue, 2).status == STATUS(NO_SUCH_PLACE));
     CHECK(linnetshelf_saved_image(&queue, 2, room, sizeof room).status == STATUS(NO_SUCH_PLACE));
@@ -711,8 +717,186 @@ static void statuses_have_texts(void) {
     CHECK(linnetshelf_text(STATUS(DONE), room, linnetshelf_text(STATUS(DONE), other, sizeof other)) > 0 && room[0] == '!');
 }
 
+/* A buffer is filled up to the length of the answer and not past it. */
+static int is_text(linnetshelf_answer answer, const char *room, size_t size, const char *text) {
+    size_t length = strlen(text);
+    if (answer.status != STATUS(DONE) || answer.index != 0 || answer.length != length || memcmp(room, text, length) != 0)
+        return 0;
+    for (size_t k = length; k < size; k++)
+        if (room[k] != '#')
+            return 0;
+    return 1;
+}
+
+static int is_refused(linnetshelf_answer answer, uint32_t length, uint32_t status) {
+    return answer.status == status && answer.index == 0 && answer.length == length;
+}
+
+static const linnetshelf_settings HOURS = {
+    .epoch = 7, .cells = 512, .index_count = 8, .index_spacing = 2, .cycles = 3, .roll = LINNETSHELF_HOURLY};
+
+static int are_hours(const linnetshelf_settings *it) {
+    return it->epoch == 7 && it->cells == 512 && it->index_count == 8 && it->index_spacing == 2 && it->cycles == 3 &&
+           it->roll == LINNETSHELF_HOURLY;
+}
+
+static void settings_and_names_are_returned(void) {
+    linnetshelf_handle queue = {0}, saved = {0}, keeper = {0}, endpoint = {0};
+    CHECK(linnetshelf_create(&HOURS, "worker\nreader", 13, DAY, &queue) == STATUS(DONE));
+    CHECK(linnetshelf_saved_new(&HOURS, "worker\nreader", 13, &saved) == STATUS(DONE));
+    linnetshelf_handle *handles[] = {&queue, &saved};
+    for (int k = 0; k < 2; k++) {
+        char room[32];
+        linnetshelf_settings found = SMALL;
+        linnetshelf_answer answer = linnetshelf_settings_of(handles[k], &found);
+        CHECK(answer.status == STATUS(DONE) && answer.index == 2 && answer.length == 0 && are_hours(&found));
+        memset(room, '#', sizeof room);
+        CHECK(is_text(linnetshelf_names_of(handles[k], 0, room, sizeof room), room, sizeof room, "worker"));
+        memset(room, '#', sizeof room);
+        CHECK(is_text(linnetshelf_names_of(handles[k], 1, room, 6), room, sizeof room, "reader"));
+        memset(room, '#', sizeof room);
+        CHECK(is_refused(linnetshelf_names_of(handles[k], 1, room, 5), 6, STATUS(NO_ROOM)) && room[0] == '#');
+        CHECK(is_refused(linnetshelf_names_of(handles[k], 2, room, sizeof room), 0, STATUS(NO_SUCH_PLACE)) && room[0] == '#');
+        CHECK(is_refused(linnetshelf_names_of(handles[k], UINT32_MAX, room, 0), 0, STATUS(NO_SUCH_PLACE)));
+    }
+    linnetshelf_destroy(saved);
+    CHECK(linnetshelf_stop(&queue) == STATUS(DONE));
+    CHECK(linnetshelf_keep(&queue, &endpoint, &keeper) == STATUS(DONE));
+    linnetshelf_settings found = HOURS;
+    char room[8] = "#";
+    CHECK(is_refused(linnetshelf_settings_of(&keeper, &found), 0, STATUS(WRONG_KIND)) && are_hours(&found));
+    CHECK(is_refused(linnetshelf_names_of(&keeper, 0, room, sizeof room), 0, STATUS(WRONG_KIND)) && room[0] == '#');
+    linnetshelf_destroy(keeper);
+    linnetshelf_destroy(endpoint);
+    linnetshelf_destroy(queue);
+}
+
+static void cycles_have_names(void) {
+    static const struct {
+        uint32_t roll, cycle;
+        uint64_t epoch, moment;
+        const char *name;
+    } rows[] = {
+        {LINNETSHELF_DAILY, 0, 0, 0, "19700101"},
+        {LINNETSHELF_DAILY, 20000, 0, 1728000000000, "20241004"},
+        {LINNETSHELF_HOURLY, 480007, 0, 1728028799999, "20241004-07"},
+        {LINNETSHELF_MINUTELY, 134, 1728000000000, 1728008040000, "20241004-0214"},
+    };
+    char room[16];
+    for (size_t k = 0; k < sizeof rows / sizeof *rows; k++) {
+        linnetshelf_answer answer = linnetshelf_cycle_of(rows[k].roll, rows[k].epoch, rows[k].moment);
+        CHECK(answer.status == STATUS(DONE) && answer.index == rows[k].cycle && answer.length == 0);
+        uint32_t length = (uint32_t)strlen(rows[k].name);
+        memset(room, '#', sizeof room);
+        answer = linnetshelf_cycle_name(rows[k].roll, rows[k].epoch, rows[k].cycle, room, sizeof room);
+        CHECK(is_text(answer, room, sizeof room, rows[k].name));
+        memset(room, '#', sizeof room);
+        answer = linnetshelf_cycle_name(rows[k].roll, rows[k].epoch, rows[k].cycle, room, length - 1);
+        CHECK(is_refused(answer, length, STATUS(NO_ROOM)) && room[0] == '#');
+        answer = linnetshelf_cycle_named(rows[k].roll, rows[k].epoch, rows[k].name, length);
+        CHECK(answer.status == STATUS(DONE) && answer.index == rows[k].cycle && answer.length == 0);
+        CHECK(is_refused(linnetshelf_cycle_named(rows[k].roll, rows[k].epoch, rows[k].name, length - 1), 0, STATUS(NO_SUCH_PLACE)));
+    }
+    CHECK(is_refused(linnetshelf_cycle_of(LINNETSHELF_DAILY, 5, 4), 0, STATUS(BAD_MOMENT)));
+    CHECK(is_refused(linnetshelf_cycle_of(LINNETSHELF_DAILY, 0, UINT64_MAX), 0, STATUS(BAD_MOMENT)));
+    CHECK(is_refused(linnetshelf_cycle_of(3, 0, 0), 0, STATUS(BAD_SETTINGS)));
+    memset(room, '#', sizeof room);
+    CHECK(is_refused(linnetshelf_cycle_name(LINNETSHELF_DAILY, 0, UINT32_MAX, room, sizeof room), 0, STATUS(NO_SUCH_PLACE)));
+    CHECK(is_refused(linnetshelf_cycle_name(LINNETSHELF_DAILY, UINT64_MAX, 0, room, sizeof room), 0, STATUS(NO_SUCH_PLACE)));
+    CHECK(is_refused(linnetshelf_cycle_name(3, 0, 0, room, sizeof room), 0, STATUS(BAD_SETTINGS)) && room[0] == '#');
+    CHECK(is_refused(linnetshelf_cycle_named(LINNETSHELF_DAILY, 0, "20240231", 8), 0, STATUS(NO_SUCH_PLACE)));
+    CHECK(is_refused(linnetshelf_cycle_named(LINNETSHELF_DAILY, 0, "\xff", 1), 0, STATUS(NO_SUCH_PLACE)));
+    CHECK(is_refused(linnetshelf_cycle_named(LINNETSHELF_DAILY, 0, "", 0), 0, STATUS(NO_SUCH_PLACE)));
+    CHECK(is_refused(linnetshelf_cycle_named(3, 0, "19700101", 8), 0, STATUS(BAD_SETTINGS)));
+}
+
+/* A queue is copied while another endpoint has begun a message, and goes on. */
+static void a_queue_is_copied_while_it_goes_on(void) {
+    linnetshelf_handle queue = queue_of("worker", 5 * DAY), other = {0}, copy = {0}, again = {0};
+    char room[8];
+    CHECK(linnetshelf_append(&queue, 5 * DAY, "one", 3).status == STATUS(DONE));
+    CHECK(linnetshelf_append(&queue, 6 * DAY, "two", 3).status == STATUS(DONE));
+    CHECK(linnetshelf_append(&queue, 6 * DAY, "three", 5).status == STATUS(DONE));
+    CHECK(linnetshelf_take(&queue, "worker", 6, room, sizeof room).status == STATUS(DONE));
+    CHECK(linnetshelf_to_end(&queue).status == STATUS(DONE) && linnetshelf_drop_before(&queue, 6).index == 6);
+    CHECK(linnetshelf_split(&queue, &other) == STATUS(DONE));
+    CHECK(linnetshelf_begin(&other, 6 * DAY, 8) == STATUS(DONE) && linnetshelf_put(&other, "begun", 5) == STATUS(DONE));
+    uint64_t cursor = linnetshelf_cursor(&queue).index;
+    CHECK(linnetshelf_snapshot(&queue, &copy) == STATUS(DONE));
+    CHECK(linnetshelf_cursor(&queue).index == cursor);
+    CHECK(linnetshelf_complete(&other).index == (6ull << 32) + 2);
+
+    CHECK(linnetshelf_saved_count(&copy).index == 2);
+    CHECK(linnetshelf_saved_cycle(&copy, 0).index == 5 && linnetshelf_saved_length(&copy, 0).index == 1);
+    CHECK(linnetshelf_saved_cycle(&copy, 1).index == 6 && linnetshelf_saved_length(&copy, 1).index == 2);
+    CHECK(is_refused(linnetshelf_saved_length(&copy, 2), 0, STATUS(NO_SUCH_PLACE)));
+    CHECK(linnetshelf_saved_ended(&copy, 0).index == 1 && linnetshelf_saved_ended(&copy, 1).index == 0);
+    CHECK(linnetshelf_saved_position(&copy, 0).index == 0 && linnetshelf_saved_floor(&copy).index == 0);
+    CHECK(linnetshelf_open(&copy, &again) == STATUS(DONE));
+    CHECK(is_message(linnetshelf_next(&again, room, sizeof room), 5ull << 32, room, "one"));
+    CHECK(is_message(linnetshelf_next(&again, room, sizeof room), 6ull << 32, room, "two"));
+    CHECK(is_message(linnetshelf_next(&again, room, sizeof room), (6ull << 32) + 1, room, "three"));
+    CHECK(linnetshelf_next(&again, room, sizeof room).status == STATUS(NOT_YET));
+    CHECK(linnetshelf_append(&again, 6 * DAY, "more", 4).index == (6ull << 32) + 2);
+    CHECK(linnetshelf_snapshot(&copy, &again) == STATUS(WRONG_KIND));
+    CHECK(is_refused(linnetshelf_saved_length(&queue, 0), 0, STATUS(WRONG_KIND)));
+    linnetshelf_destroy(again);
+    linnetshelf_destroy(copy);
+    linnetshelf_destroy(other);
+    linnetshelf_destroy(queue);
+}
+
+static void the_text_of_settings_is_read_and_written(void) {
+    static const char text[] = "cq 2\nroll hourly\nepoch 7\ncells 512\ncount 8\nspacing 2\ncycles 3\nfloor 24\n"
+                               "name worker 103079215104\nname reader 0\n";
+    linnetshelf_handle saved = {0}, out = {0};
+    linnetshelf_settings found = SMALL;
+    char room[256];
+    size_t length = sizeof text - 1;
+    CHECK(is_refused(linnetshelf_config_read(text, length, &saved), 0, STATUS(DONE)));
+    CHECK(linnetshelf_settings_of(&saved, &found).index == 2 && are_hours(&found));
+    CHECK(linnetshelf_saved_count(&saved).index == 0 && linnetshelf_saved_floor(&saved).index == 24);
+    CHECK(linnetshelf_saved_position(&saved, 0).index == 24ull << 32 && linnetshelf_saved_position(&saved, 1).index == 0);
+    CHECK(is_refused(linnetshelf_saved_length(&saved, 0), 0, STATUS(NO_SUCH_PLACE)));
+    memset(room, '#', sizeof room);
+    CHECK(is_text(linnetshelf_config_write(&saved, room, sizeof room), room, sizeof room, text));
+    memset(room, '#', sizeof room);
+    CHECK(is_text(linnetshelf_config_write(&saved, room, length), room, sizeof room, text));
+    memset(room, '#', sizeof room);
+    CHECK(is_refused(linnetshelf_config_write(&saved, room, length - 1), (uint32_t)length, STATUS(NO_ROOM)) && room[0] == '#');
+    CHECK(linnetshelf_saved_set_floor(&saved, UINT32_MAX) == STATUS(DONE));
+    CHECK(is_refused(linnetshelf_config_write(&saved, room, sizeof room), 0, STATUS(BAD_CONTENTS)) && room[0] == '#');
+    linnetshelf_destroy(saved);
+
+    static const struct {
+        const char *text;
+        uint64_t line;
+    } bad[] = {
+        {"", 1},
+        {"cq 3\n", 1},
+        {"cq 2\nroll weekly\n", 2},
+        {"cq 2\nroll daily\nepoch 0\ncells 64\ncount 8\nspacing 1\n", 7},
+        {"cq 2\nroll daily\nepoch 0\ncells 64\ncount 8\nspacing 1\ncycles 4\nname a/b 0\n", 8},
+        {"cq 2\nroll daily\nepoch 0\ncells 64\ncount 9\nspacing 1\ncycles 4\n", 0},
+        {"cq 2\nroll daily\nepoch 0\ncells 64\ncount 8\nspacing 1\ncycles 65\n", 0},
+        {"cq 2\nroll daily\nepoch 0\ncells 64\ncount 8\nspacing 1\ncycles 4\nname a 0\nname a 0\n", 0},
+    };
+    for (size_t k = 0; k < sizeof bad / sizeof *bad; k++) {
+        linnetshelf_answer answer = linnetshelf_config_read(bad[k].text, strlen(bad[k].text), &out);
+        CHECK(answer.status == STATUS(BAD_SETTINGS) && answer.index == bad[k].line && answer.length == 0);
+        CHECK(out.at == NULL);
+    }
+    linnetshelf_handle queue = queue_of("", 0);
+    CHECK(is_refused(linnetshelf_config_write(&queue, room, sizeof room), 0, STATUS(WRONG_KIND)) && room[0] == '#');
+    linnetshelf_destroy(queue);
+}
+
 int main(void) {
     settings_are_tested();
+    settings_and_names_are_returned();
+    cycles_have_names();
+    a_queue_is_copied_while_it_goes_on();
+    the_text_of_settings_is_read_and_written();
     CHECK(linnetshelf_version() == LINNETSHELF_VERSION);
     messages_are_appended_and_read();
     many_messages_are_appended();

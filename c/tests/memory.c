@@ -61,6 +61,8 @@ static int use_queue(void) {
         CHECK(linnetshelf_take(&queue, "reader", 6, room, sizeof room).status == STATUS(DONE));
         linnetshelf_destroy(other);
     }
+    if (linnetshelf_snapshot(&queue, &other) == STATUS(DONE))
+        linnetshelf_destroy(other);
     CHECK(linnetshelf_close(&queue) == STATUS(DONE));
     uint32_t stopped = linnetshelf_stop(&queue);
     if (stopped == STATUS(OUT_OF_MEMORY))
@@ -196,8 +198,22 @@ static int use_log(void) {
     return is_done;
 }
 
+/* Copies the name of a cycle, and reads and writes the text of settings. */
+static int use_texts(void) {
+    static const char text[] = "cq 2\nroll daily\nepoch 0\ncells 64\ncount 8\nspacing 1\ncycles 4\nname reader 0\n";
+    linnetshelf_handle saved = {0};
+    char room[256];
+    int is_done = linnetshelf_cycle_name(LINNETSHELF_MINUTELY, 0, 1, room, sizeof room).status == STATUS(DONE);
+    if (linnetshelf_config_read(text, sizeof text - 1, &saved).status != STATUS(DONE))
+        return 0;
+    is_done = linnetshelf_config_write(&saved, room, sizeof room).status == STATUS(DONE) && is_done;
+    linnetshelf_destroy(saved);
+    return is_done;
+}
+
 int main(void) {
     refuse_each(use_queue);
+    refuse_each(use_texts);
     refuse_each(use_shelf);
     refuse_each(use_log);
     return failures != 0;

@@ -70,6 +70,28 @@ class Settings:
         epoch = number(self.epoch, 64, Status.BAD_SETTINGS)
         return RawSettings(epoch, *(number(word, 32, Status.BAD_SETTINGS) for word in words))
 
+    def cycle_of(self, moment: int) -> int:
+        """Returns the cycle in which a moment lies, in milliseconds of Unix time. BadValue: it is in none."""
+        raw = self.raw()
+        answer = library.cycle_of(raw.roll, raw.epoch, number(moment, 64, Status.BAD_MOMENT))
+        check(answer.status, str(moment))
+        return answer.index
+
+    def cycle_name(self, cycle: int) -> str:
+        """Returns the name of a cycle, of the time in UTC at which it begins, as `20240928`. BadValue: no queue has it."""
+        raw, room = self.raw(), ctypes.create_string_buffer(16)
+        cycle = number(cycle, 32, Status.NO_SUCH_PLACE)
+        answer = library.cycle_name(raw.roll, raw.epoch, cycle, room, len(room))
+        check(answer.status, str(cycle))
+        return room.raw[: answer.length].decode()
+
+    def cycle_named(self, name: str) -> int:
+        """Returns the cycle with this name. BadValue: no cycle has it."""
+        raw, word = self.raw(), name.encode()
+        answer = library.cycle_named(raw.roll, raw.epoch, word, len(word))
+        check(answer.status, name)
+        return answer.index
+
 
 class Index(int):
     """The index of a message, or a position: a cycle in the high 32 bits, a sequence number in the low ones.
@@ -649,6 +671,17 @@ class Endpoint(Owner):
         check(answer.status, name)
 
     # Stopping
+
+    def snapshot(self) -> Saved:
+        """Returns a copy of what the queue holds now, while its endpoints go on. Messages that are begun are not in it.
+
+        Each name is at 0, and the floor is 0. The endpoint stays where it is.
+        """
+        from ._saved import Saved
+
+        out = Handle()
+        check(library.snapshot(self._live(), out))
+        return Saved(out, self.settings, self.names)
 
     def stop(self) -> Saved:
         """Stops the queue, and returns what it held. All other endpoints have to be closed (Misused). This one is closed then."""

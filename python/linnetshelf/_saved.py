@@ -75,6 +75,15 @@ class Saved(Owner):
         check(answer.status)
         return answer.index
 
+    def counts(self) -> dict[int, int]:
+        """Returns how many messages each cycle has, by its number."""
+        found = {}
+        for k in range(len(self)):
+            answer = library.saved_length(self._live(), k)
+            check(answer.status)
+            found[library.saved_cycle(self._live(), k).index] = answer.index
+        return found
+
     def images(self) -> Iterator[Image]:
         """Makes the image of each cycle, in their order."""
         # A cycle has four bytes a cell.

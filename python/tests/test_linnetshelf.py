@@ -63,9 +63,11 @@ class Header(unittest.TestCase):
 
     def test_calls(self):
         declared = dict(re.findall(r"^\w[\w ]* \*?linnetshelf_(\w+)\(([^)]*)\);", self.header, re.M))
-        # The package has no shelves and no logs.
+        # The package has no shelves and no logs. It keeps the settings of a queue, and reads the text of queue.cqc itself.
         of_logs = {"play", "keep", "turn", "settle", "log_call", "log_done", "stored"}
-        self.assertEqual({name for name in declared if not name.startswith("shelf_")} - of_logs, set(_library.CALLS))
+        of_settings = {"settings_of", "names_of", "config_read", "config_write"}
+        left_out = of_logs | of_settings
+        self.assertEqual({name for name in declared if not name.startswith("shelf_")} - left_out, set(_library.CALLS))
         for name, (_, *arguments) in _library.CALLS.items():
             self.assertEqual(len(arguments), 0 if declared[name] == "void" else len(declared[name].split(",")), name)
 
@@ -377,6 +379,38 @@ class Calls(unittest.TestCase):
         with linnetshelf.create(SMALL, moment=0) as stranger, self.assertRaises(ValueError):
             self.queue.meet(stranger)
 
+    def test_snapshot(self):
+        other = self.queue.split()
+        for k in range(3):
+            self.queue.append(b"m%d" % k, k * DAY)
+        self.assertEqual(self.queue.next().data, b"m0")
+        with other.begin(8, 2 * DAY) as message:
+            message.put(b"begun")
+            with self.queue.snapshot() as copy:
+                self.assertEqual(copy.counts(), {0: 1, 1: 1, 2: 1})
+                self.assertEqual((copy.settings, copy.names, copy.floor), (self.queue.settings, self.queue.names, 0))
+                with copy.open() as again:
+                    self.assertEqual(data_of(again), [b"m0", b"m1", b"m2"])
+            with self.assertRaises(ValueError):
+                copy.counts()
+        self.assertEqual(data_of(self.queue), [b"m1", b"m2", b"begun"])
+        self.queue.close()
+        with self.assertRaises(ValueError):
+            self.queue.snapshot()
+
+    def test_cycles_have_names(self):
+        daily, hourly = linnetshelf.Settings(), linnetshelf.Settings(roll=linnetshelf.Roll.HOURLY)
+        for settings, moment, cycle, name in ((daily, 1_728_000_000_000, 20_000, "20241004"),
+                                              (hourly, 1_728_028_799_999, 480_007, "20241004-07")):
+            self.assertEqual(settings.cycle_of(moment), cycle)
+            self.assertEqual(settings.cycle_name(cycle), name)
+            self.assertEqual(settings.cycle_named(name), cycle)
+        for call in (lambda: daily.cycle_of(-1), lambda: daily.cycle_of(1 << 63), lambda: daily.cycle_name(1 << 32),
+                     lambda: daily.cycle_name(0xFFFFFFFF), lambda: daily.cycle_named("20241004-07"),
+                     lambda: daily.cycle_named("20240231"), lambda: linnetshelf.Settings(epoch=-1).cycle_of(0)):
+            with self.assertRaises(linnetshelf.BadValue):
+                call()
+
     def test_stop(self):
         other = self.queue.split()
         with self.assertRaises(linnetshelf.Misused):
@@ -385,6 +419,7 @@ class Calls(unittest.TestCase):
         with self.queue.stop_all() as saved:
             self.assertTrue(other.closed)
             self.assertEqual([image.cycle for image in saved.images()], [0])
+            self.assertEqual(saved.counts(), {0: 1})
             with saved.open() as again:
                 self.assertEqual(again.next().data, b"a")
             with linnetshelf.Saved.new(SMALL, ["reader", "other"]) as wrong:

@@ -4,7 +4,7 @@
 //!
 //! | item | what it is for |
 //! |---|---|
-//! | `Endpoint` | `create` or `open` makes the first one, `split` another, `of` one from a caller; it appends, reads, takes, closes and stops |
+//! | `Endpoint` | `create` or `open` makes the first one, `split` another, `of` one from a caller; it appends, reads, takes, closes and stops, and has the `config` of its queue |
 //! | `AppendFault`, `PutFault`, `CompleteFault`, `NotWriting` | why nothing was appended, put, completed or rolled back |
 //! | `CloseFault` | why the queue was not closed |
 //! | `Next`, `ReadAt`, `NextInto`, `ReadAtInto`, `Direction` | what reads return, and which way they go |

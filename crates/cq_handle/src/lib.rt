@@ -11,9 +11,9 @@
 //! `Parts` and the proofs of `Handle` are those of a box that is kept as its address.
 #![tactic(auto)]
 
+mod borrowed;
 mod handle;
 mod held;
-mod lent;
 mod parts;
 
 pub use handle::Handle;

@@ -1,1 +1,3 @@
 mod Images
+mod Snapshots
+mod Texts

@@ -31,8 +31,6 @@ use Rattle.cq_tail.specs.declared.answers.Sought.TheVariants as sought
 use Rattle.cq_tail.specs.declared.error.NoSuchName.{NoSuchName}
 use Rattle.linnetshelf.specs.Statuses.{number}
 use Rattle.linnetshelf.specs.declared.answer.Answer.{Answer}
-use Rattle.linnetshelf.specs.declared.saving.ImageInto.{ImageInto}
-use Rattle.linnetshelf.specs.declared.saving.ImageInto.TheVariants as into
 use Rattle.linnetshelf.specs.declared.status.Status.{Status}
 use Rattle.linnetshelf.specs.declared.status.Status.TheVariants as status
 
@@ -157,13 +155,6 @@ add_answer (Err unadded.OutOfMemory) = plain status.OutOfMemory
 abbrev pub number_answer : Result ℕ NoSuchPlace → Answer
 number_answer (Ok told) = done told
 number_answer (Err e) = plain status.NoSuchPlace
-
--- what `saved_image` answers
-abbrev pub image_answer : ImageInto → Answer
-image_answer (into.Copied len) = record { index = 0; length = len; status = number status.Done }
-image_answer (into.NoRoom len) = record { index = 0; length = len; status = number status.NoRoom }
-image_answer into.NoSuchPlace = plain status.NoSuchPlace
-image_answer into.OutOfMemory = plain status.OutOfMemory
 
 -- a message of this length was read
 abbrev pub read : ℕ → ℕ → Answer

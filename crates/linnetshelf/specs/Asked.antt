@@ -1,9 +1,9 @@
 -- How C asks for a queue to be made.
-use Rattle.std.specs.Prelude.{◌≡◌, ◌≢◌, ◌⊎◌, ℕ, List}
+use Rattle.std.specs.Prelude.{◌≡◌, ◌⊎◌, ℕ, List}
 use Rattle.std.specs.List.{AllByRecursion}
 use Rattle.std.specs.Str.{IsUtf8}
 use Rattle.cq_cycle.specs.declared.roll.Roll.{Roll}
-use Rattle.cq_cycle.specs.declared.roll.Roll.TheVariants as roll
+use Rattle.cq_foreign.specs.Rolls.{roll_number}
 use Rattle.cq_layout.specs.Shape.{measures}
 use Rattle.cq_model.specs.Settings.{IsLawfulSettings, new_settings}
 use Rattle.cq_model.specs.Settings as model
@@ -11,16 +11,6 @@ use Rattle.cq_text.specs.Lines.{input_lines}
 use Rattle.linnetshelf.specs.declared.settings.Settings.{Settings}
 use Rattle.linnetshelf.specs.declared.status.Status.{Status}
 use Rattle.linnetshelf.specs.declared.status.Status.TheVariants as status
-
--- the number that C has for a roll
-abbrev pub roll_number : Roll → ℕ
-roll_number roll.Daily = 0
-roll_number roll.Hourly = 1
-roll_number roll.Minutely = 2
-
--- no roll has this number
-abbrev pub HasNoRoll : ℕ → Type 0
-HasNoRoll number = (way : Roll) → roll_number way ≢ number
 
 -- these settings with this roll, and the lines of a text as names
 abbrev pub asked : Settings → Roll → List ℕ → model.Settings

@@ -1,6 +1,8 @@
 pub mod Answers
 pub mod Asked
 pub mod Closes
+pub mod Configs
+pub mod Cycles
 pub mod Handles
 pub mod Keeps
 pub mod LogCalls
@@ -12,4 +14,6 @@ pub mod Reads
 pub mod Saves
 pub mod ShelfAnswers
 pub mod Shelves
+pub mod Snapshots
 pub mod Statuses
+pub mod Told

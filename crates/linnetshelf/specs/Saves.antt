@@ -1,11 +1,11 @@
 -- What the calls say on what is saved of a queue.
-use Rattle.std.specs.Prelude.{◌≡◌, ◌↔◌, ℕ, ◌<◌, ◌≤◌, ◌++◌, List, Some, None, Result, Ok, Err, drop, length, slice_get, slice_set}
+use Rattle.std.specs.Prelude.{◌≡◌, ◌↔◌, ℕ, ◌<◌, ◌≤◌, List, Some, None, Result, Ok, Err, length, slice_get, slice_set}
+use Rattle.cq_foreign.specs.Copies.{CopiesBytes}
+use Rattle.cq_foreign.specs.declared.copying.Copied.{Copied}
 use Rattle.cq_model.specs.declared.contents.CycleList.{CycleList}
 use Rattle.cq_saved.specs.Saved.{AddsImage, HasEnded, IsImageAt, RefusesImage, SavedFacts, with_contents}
 use Rattle.cq_saved.specs.declared.fault.AddFault.{AddFault}
 use Rattle.cq_saved.specs.declared.fault.NoSuchPlace.{NoSuchPlace}
-use Rattle.linnetshelf.specs.declared.saving.ImageInto.{ImageInto}
-use Rattle.linnetshelf.specs.declared.saving.ImageInto.TheVariants as into
 use Rattle.linnetshelf.specs.declared.status.Status.{Status}
 use Rattle.linnetshelf.specs.declared.status.Status.TheVariants as status
 
@@ -18,6 +18,12 @@ Adds old new cycle bytes (Err fault) = RefusesImage old cycle bytes fault × (ne
 abbrev pub TellsCycle : SavedFacts → ℕ → Result ℕ NoSuchPlace → Type 0
 TellsCycle saved k (Ok cycle) = (l : CycleList) × (slice_get saved.contents.lists k ≡ Some l) × (cycle ≡ l.cycle)
 TellsCycle saved k (Err e) = length saved.contents.lists ≤ k
+
+-- cycle `k` has as many messages; or there are not as many cycles
+abbrev pub TellsLength : SavedFacts → ℕ → Result ℕ NoSuchPlace → Type 0
+TellsLength saved k (Ok count) =
+    (l : CycleList) × (slice_get saved.contents.lists k ≡ Some l) × (count ≡ length l.messages)
+TellsLength saved k (Err e) = length saved.contents.lists ≤ k
 
 -- 1 where cycle `k` has ended, and else 0; or there are not as many
 abbrev pub TellsEnded : SavedFacts → ℕ → Result ℕ NoSuchPlace → Type 0
@@ -36,14 +42,9 @@ PlacesName old new k position status.Done = (k < length old.contents.positions)
 PlacesName old new k position status.NoSuchPlace = (length old.contents.positions ≤ k) × (new ≡ old)
 PlacesName old new k position _ = ⊥
 
--- these bytes are the first of a room that is large enough; or it is smaller, and as it was
-abbrev pub CopiesImage : List ℕ → List ℕ → List ℕ → ImageInto → Type 0
-CopiesImage bytes room full (into.Copied len) = (length bytes ≡ len) × (full ≡ bytes ++ drop len room)
-CopiesImage bytes room full (into.NoRoom len) = (length bytes ≡ len) × (length room < len) × (full ≡ room)
-CopiesImage bytes room full _ = ⊥
-
--- the image of cycle `k` was copied to a room; or why it was not, and the room is as it was
-abbrev pub TellsImage : SavedFacts → ℕ → List ℕ → List ℕ → ImageInto → Type 0
-TellsImage saved k room full into.NoSuchPlace = (length saved.contents.lists ≤ k) × (full ≡ room)
-TellsImage saved k room full into.OutOfMemory = full ≡ room
-TellsImage saved k room full came = (bytes : List ℕ) × IsImageAt saved k bytes × CopiesImage bytes room full came
+-- the image of cycle `k` was copied to a buffer; or why it was not, and the buffer is as it was
+abbrev pub TellsImage : SavedFacts → ℕ → List ℕ → List ℕ → Result Copied Status → Type 0
+TellsImage saved k room full (Ok came) = (bytes : List ℕ) × IsImageAt saved k bytes × CopiesBytes bytes room full came
+TellsImage saved k room full (Err status.NoSuchPlace) = (length saved.contents.lists ≤ k) × (full ≡ room)
+TellsImage saved k room full (Err status.OutOfMemory) = full ≡ room
+TellsImage saved k room full (Err _) = ⊥

@@ -16,7 +16,11 @@
 //! | `linnetshelf_cursor`, `_direction`, `_to_start`, `_to_end`, `_move_to` | move an endpoint |
 //! | `linnetshelf_end` | looks up the end of the queue |
 //! | `linnetshelf_position`, `_seek`, `_drop_before` | read and set the position of a name, and drop old cycles |
+//! | `linnetshelf_settings_of`, `_names_of` | say how a queue was made |
+//! | `linnetshelf_cycle_of`, `_cycle_name`, `_cycle_named` | find the cycle of a moment, its name, and the cycle of a name |
 //! | `linnetshelf_stop`, `_saved_..`, `_open` | stop a queue, save what it held, and open it again |
+//! | `linnetshelf_snapshot` | copies what a queue holds while its endpoints go on |
+//! | `linnetshelf_config_read`, `_config_write` | read and write the text of a folder's `queue.cqc` |
 //! | `linnetshelf_play`, `_keep`, `_turn`, `_settle`, `_stored` | play a log, and keep what comes to a queue in one |
 //! | `linnetshelf_log_call`, `_log_done` | hand out the calls of the log, which C makes of its own file |
 //! | `linnetshelf_shelf_create`, `_split`, `_reader`, `_taker` | make a shelf, and writers, readers and takers of it |
@@ -32,6 +36,9 @@ mod answer;
 mod appending;
 mod appending_many;
 mod closing;
+mod configuring;
+mod copying;
+mod cycles;
 mod keeping;
 mod layout;
 mod log_calls;
@@ -45,6 +52,7 @@ mod reading_many;
 mod rooms;
 mod saving;
 mod settings;
+mod settings_calls;
 mod shelf_answer;
 mod shelf_appending;
 mod shelf_making;
@@ -52,6 +60,7 @@ mod shelf_places;
 mod shelf_reading;
 mod shelf_settings;
 mod shelf_taking;
+mod snapshot;
 mod status;
 mod text;
 mod version;

@@ -1,19 +1,22 @@
 //! Stopping queues and saving what they held: an image for each cycle, a position for each name, and the floor. What
 //! was saved is put together again, and opened.
-ghost use Rattle.std.specs.Prelude.{◌≡◌, ◌^◌, ◌<◌, length};
-ghost use Rattle.linnetshelf.specs.Answers.{Tells, add_answer, done, image_answer, kind_status, number_answer, plain};
+ghost use Rattle.std.specs.Prelude.{◌≡◌, length};
+ghost use Rattle.linnetshelf.specs.Answers.{Tells, add_answer, done, kind_status, number_answer, plain};
 ghost use Rattle.linnetshelf.specs.Handles.{OnSaved};
 ghost use Rattle.linnetshelf.specs.Makes.{Opens, Recovers, SavesNew, StopsHeld};
-ghost use Rattle.linnetshelf.specs.Saves.{Adds, CopiesImage, PlacesName, TellsCycle, TellsEnded, TellsImage, TellsPosition};
+ghost use Rattle.linnetshelf.specs.Saves.{Adds, PlacesName, TellsCycle, TellsEnded, TellsImage, TellsLength, TellsPosition};
 ghost use Rattle.cq_saved.specs.Saved.{with_contents};
 ghost use Rattle.linnetshelf.specs.Statuses.{number};
+ghost use Rattle.linnetshelf.specs.Told.{copy_answer};
 ghost use Rattle.linnetshelf.specs.declared.status.Status.TheVariants.{Done, WrongKind};
 
 use crate::answer::{Answer, done, plain};
+use crate::copying::copy_answer;
 use crate::making::hand_out;
 use crate::settings::{Settings, config_of};
 use crate::status::Status;
 use core::mem::replace_with;
+use cq_foreign::{Copied, copy_into};
 use cq_handle::{Handle, Held};
 use cq_image::FaultKind;
 use cq_saved::{AddFault, NoSuchPlace, Saved};
@@ -169,6 +172,30 @@ fn cycle(saved: &Saved, k: u32) -> Result<u64, NoSuchPlace>
     Ok(u64::from(saved.cycle(k)))
 }
 
+/// Returns how many messages cycle `k` has, counted from 0.
+#[unsafe(no_mangle)]
+pub extern "C" fn linnetshelf_saved_length(handle: &mut Handle, k: u32) -> Answer
+    ensures { OnSaved handle.old.held handle.new.held (result ≡ plain WrongKind) (λ old new.
+        Tells (TellsLength old k) number_answer result × (new ≡ old)) }
+{
+    match handle.held_mut() {
+        Held::Saved(saved) => number_answer(messages(saved, k)),
+        Held::Endpoint(_) | Held::Stopped(_) | Held::Keeper(_) | Held::Shelf(_) => plain(
+            Status::WrongKind,
+        ),
+    }
+}
+
+fn messages(saved: &Saved, k: u32) -> Result<u64, NoSuchPlace>
+    ensures { TellsLength saved.now k result }
+{
+    let k = k as usize;
+    if k >= saved.len() {
+        return Err(NoSuchPlace);
+    }
+    Ok(saved.messages(k) as u64)
+}
+
 /// Returns 1 if cycle `k`, counted from 0, has ended, and 0 if it is open.
 #[unsafe(no_mangle)]
 pub extern "C" fn linnetshelf_saved_ended(handle: &mut Handle, k: u32) -> Answer
@@ -215,70 +242,27 @@ pub extern "C" fn linnetshelf_saved_image(
     k: u32,
     room: &mut [u8],
 ) -> Answer
-    ensures { OnSaved handle.old.held handle.new.held (result ≡ plain WrongKind) (λ old new.
-        Tells (TellsImage old k room.old room.new) image_answer result × (new ≡ old)) }
+    ensures { OnSaved handle.old.held handle.new.held ((result ≡ plain WrongKind) × (room.new ≡ room.old)) (λ old new.
+        Tells (TellsImage old k room.old room.new) copy_answer result × (new ≡ old)) }
 {
     match handle.held_mut() {
-        Held::Saved(saved) => image_answer(image_into(alloc, saved, k, room)),
+        Held::Saved(saved) => copy_answer(image_into(alloc, saved, k, room)),
         Held::Endpoint(_) | Held::Stopped(_) | Held::Keeper(_) | Held::Shelf(_) => plain(
             Status::WrongKind,
         ),
     }
 }
 
-/// How the copy of an image into a buffer went.
-#[derive(Clone, Copy)]
-enum ImageInto {
-    /// An image of that many bytes: they are the first of the buffer.
-    Copied(u32),
-    /// The image has that many bytes, which is more than the buffer has.
-    NoRoom(u32),
-    /// There are fewer cycles.
-    NoSuchPlace,
-    /// Out of memory.
-    OutOfMemory,
-}
-
-fn image_into(alloc: Global, saved: &Saved, k: u32, room: &mut [u8]) -> ImageInto
+fn image_into(alloc: Global, saved: &Saved, k: u32, room: &mut [u8]) -> Result<Copied, Status>
     ensures { TellsImage saved.now k room.old room.new result }
 {
     let k = k as usize;
     if k >= saved.len() {
-        return ImageInto::NoSuchPlace;
+        return Err(Status::NoSuchPlace);
     }
     match saved.image(alloc, k) {
-        Ok(bytes) => copy_into(bytes.as_slice(), room),
-        Err(_) => ImageInto::OutOfMemory,
-    }
-}
-
-/// Copies some bytes to the front of a buffer that is large enough.
-fn copy_into(bytes: &[u8], room: &mut [u8]) -> ImageInto
-    requires { length bytes.now < 2 ^ 32 }
-    ensures { CopiesImage bytes.now room.old room.new result }
-{
-    let length = bytes.len();
-    if length > room.len() {
-        return ImageInto::NoRoom(length as u32);
-    }
-    room[..length].copy_from_slice(bytes);
-    ImageInto::Copied(length as u32)
-}
-
-/// Makes the answer of `saved_image`.
-fn image_answer(said: ImageInto) -> Answer
-    ensures { result ≡ image_answer said }
-{
-    let (length, status) = match said {
-        ImageInto::Copied(length) => (length, Status::Done),
-        ImageInto::NoRoom(length) => (length, Status::NoRoom),
-        ImageInto::NoSuchPlace => (0, Status::NoSuchPlace),
-        ImageInto::OutOfMemory => (0, Status::OutOfMemory),
-    };
-    Answer {
-        index: 0,
-        length,
-        status: status.number(),
+        Ok(bytes) => Ok(copy_into(bytes.as_slice(), room)),
+        Err(_) => Err(Status::OutOfMemory),
     }
 }
 

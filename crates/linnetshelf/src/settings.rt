@@ -1,13 +1,14 @@
-//! The settings of a queue, as C gives them.
-ghost use Rattle.std.specs.Prelude.{◌≡◌, ◌++◌, ◌∷◌, [], IfErr, IfNone, IfOk, IfSome, OnOk, string_bytes};
+//! The settings of a queue, as C gives and gets them.
+ghost use Rattle.std.specs.Prelude.{◌≡◌, ◌++◌, ◌∷◌, [], IfErr, IfOk, OnOk, string_bytes};
 ghost use Rattle.std.specs.Str.{IsUtf8};
 ghost use Rattle.cq_model.specs.Settings.{texts};
 ghost use Rattle.cq_text.specs.Lines.{input_lines};
-ghost use Rattle.linnetshelf.specs.Asked.{HasNoNames, HasNoRoll, IsAsked, IsNoName, IsNotMade, roll_number};
+ghost use Rattle.linnetshelf.specs.Asked.{HasNoNames, IsAsked, IsNoName, IsNotMade};
+ghost use Rattle.linnetshelf.specs.Told.{settings_for};
 ghost use Rattle.linnetshelf.specs.declared.status.Status.TheVariants.{OutOfMemory};
 
 use crate::status::Status;
-use cq_cycle::{ROLLS, Roll};
+use cq_foreign::{roll_number, roll_of};
 use cq_layout::Shape;
 use cq_model::Config;
 use cq_text::InputLines;
@@ -53,19 +54,19 @@ pub(crate) fn config_of(alloc: Global, settings: &Settings, names: &[u8]) -> Res
     }
 }
 
-/// Returns the roll that has this number for C.
-fn roll_of(number: u32) -> Option<Roll>
-    ensures found { IfSome result (λ roll. roll_number roll ≡ number) }
-    ensures none { IfNone result (HasNoRoll number) }
+/// Returns the settings with which a queue was made.
+pub(crate) fn settings_of(config: &Config) -> Settings
+    ensures { result ≡ settings_for config.now }
 {
-    ROLLS.into_iter().find(|roll| number_of(*roll) == number)
-}
-
-/// Returns the number that C has for a roll.
-fn number_of(roll: Roll) -> u32
-    ensures { result ≡ roll_number roll }
-{
-    roll as u32
+    let layout = config.layout();
+    Settings {
+        epoch: config.epoch(),
+        cells: layout.cells(),
+        index_count: layout.index_count(),
+        index_spacing: layout.index_spacing(),
+        cycles: config.cycles(),
+        roll: roll_number(config.roll()),
+    }
 }
 
 /// Makes names of the lines of a text.

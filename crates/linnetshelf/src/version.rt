@@ -1,8 +1,7 @@
 //! The version of the library.
 ghost use Rattle.std.specs.Prelude.{◌≡◌};
 
-/// The version, as a number: a million for each of its first number, a thousand for each of its second, and one for
-/// each of its third. So a later version has a greater number.
+/// The version as a number: major * 1,000,000 + minor * 1,000 + patch. So a later version has a greater number.
 const VERSION: u32 = 1_000;
 
 /// Returns the version of the library. C compares it with `LINNETSHELF_VERSION`, the version of the header.

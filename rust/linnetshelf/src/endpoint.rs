@@ -328,6 +328,17 @@ impl Endpoint {
 
     // Stopping
 
+    /// Returns a copy of what the queue holds at one moment of this call, while its endpoints go on. A message that is begun is not
+    /// in it. Each name is at 0, and the floor is 0. The endpoint stays where it is.
+    ///
+    /// # Errors
+    ///
+    /// [`Error::OutOfMemory`].
+    pub fn snapshot(&mut self) -> Result<Saved, Error> {
+        let handle = self.handle.snapshot().map_err(Error::of)?;
+        Ok(Saved::of(handle, self.queue))
+    }
+
     /// Stops the queue of its last endpoint, and returns what it held. A message that was begun and forgotten is given up.
     ///
     /// # Errors

@@ -66,9 +66,14 @@ unsafe extern "C" {
     fn linnetshelf_take(endpoint: *mut Handle, name: *const u8, length: usize, room: *mut u8, size: usize) -> Answer;
     fn linnetshelf_position(endpoint: *mut Handle, name: *const u8, length: usize) -> Answer;
     fn linnetshelf_seek(endpoint: *mut Handle, name: *const u8, length: usize, from: u64, to: u64) -> Answer;
+    fn linnetshelf_cycle_of(roll: u32, epoch: u64, moment: u64) -> Answer;
+    fn linnetshelf_cycle_name(roll: u32, epoch: u64, cycle: u32, room: *mut u8, size: usize) -> Answer;
+    fn linnetshelf_cycle_named(roll: u32, epoch: u64, name: *const u8, length: usize) -> Answer;
     fn linnetshelf_stop(handle: *mut Handle) -> u32;
+    fn linnetshelf_snapshot(endpoint: *mut Handle, out: *mut Handle) -> u32;
     fn linnetshelf_saved_count(saved: *mut Handle) -> Answer;
     fn linnetshelf_saved_cycle(saved: *mut Handle, k: u32) -> Answer;
+    fn linnetshelf_saved_length(saved: *mut Handle, k: u32) -> Answer;
     fn linnetshelf_saved_ended(saved: *mut Handle, k: u32) -> Answer;
     fn linnetshelf_saved_image(saved: *mut Handle, k: u32, room: *mut u8, size: usize) -> Answer;
     fn linnetshelf_saved_position(saved: *mut Handle, k: u32) -> Answer;
@@ -127,6 +132,24 @@ pub(crate) fn create(settings: &RawSettings, names: &[u8], moment: u64) -> Resul
 pub(crate) fn saved_new(settings: &RawSettings, names: &[u8]) -> Result<Owned, u32> {
     // SAFETY: BYTES. `settings` and `out` are references, and `out` is a zero handle.
     handed_out(|out| unsafe { linnetshelf_saved_new(settings, names.as_ptr(), names.len(), out) })
+}
+
+/// Returns the cycle in which a moment lies.
+pub(crate) fn cycle_of(roll: u32, epoch: u64, moment: u64) -> Answer {
+    // SAFETY: it takes any numbers, and touches no memory of the caller.
+    unsafe { linnetshelf_cycle_of(roll, epoch, moment) }
+}
+
+/// Copies the name of a cycle to a buffer.
+pub(crate) fn cycle_name(roll: u32, epoch: u64, cycle: u32, buffer: &mut [u8]) -> Answer {
+    // SAFETY: BYTES. It touches no handle.
+    unsafe { linnetshelf_cycle_name(roll, epoch, cycle, buffer.as_mut_ptr(), buffer.len()) }
+}
+
+/// Returns the cycle with a name.
+pub(crate) fn cycle_named(roll: u32, epoch: u64, name: &str) -> Answer {
+    // SAFETY: BYTES. It touches no handle.
+    unsafe { linnetshelf_cycle_named(roll, epoch, name.as_ptr(), name.len()) }
 }
 
 /// Copies the text of a status to a buffer.
@@ -271,6 +294,11 @@ impl Owned {
         unsafe { linnetshelf_stop(&mut self.handle) }
     }
 
+    pub(crate) fn snapshot(&mut self) -> Result<Owned, u32> {
+        // SAFETY: HANDLES, THREADS. `out` is a zero handle, and another one than this.
+        handed_out(|out| unsafe { linnetshelf_snapshot(&mut self.handle, out) })
+    }
+
     pub(crate) fn saved_count(&mut self) -> Answer {
         // SAFETY: HANDLES, THREADS.
         unsafe { linnetshelf_saved_count(&mut self.handle) }
@@ -279,6 +307,11 @@ impl Owned {
     pub(crate) fn saved_cycle(&mut self, k: u32) -> Answer {
         // SAFETY: HANDLES, THREADS.
         unsafe { linnetshelf_saved_cycle(&mut self.handle, k) }
+    }
+
+    pub(crate) fn saved_length(&mut self, k: u32) -> Answer {
+        // SAFETY: HANDLES, THREADS.
+        unsafe { linnetshelf_saved_length(&mut self.handle, k) }
     }
 
     pub(crate) fn saved_ended(&mut self, k: u32) -> Answer {
@@ -332,9 +365,9 @@ mod tests {
         assert_eq!([size(0), size(1), size(2)], sizes);
     }
 
-    /// The calls that this crate does not make: those on logs, those of many messages, since one call costs little from Rust, and
-    /// that of the version.
-    const LEFT_OUT: [&str; 10] = [
+    /// The calls that this crate does not make: those on logs, those of many messages, since one call costs little from Rust, those
+    /// of settings, which its values have, and that of the version.
+    const LEFT_OUT: [&str; 14] = [
         "linnetshelf_play",
         "linnetshelf_keep",
         "linnetshelf_turn",
@@ -344,6 +377,10 @@ mod tests {
         "linnetshelf_stored",
         "linnetshelf_append_many",
         "linnetshelf_next_many",
+        "linnetshelf_settings_of",
+        "linnetshelf_names_of",
+        "linnetshelf_config_read",
+        "linnetshelf_config_write",
         "linnetshelf_version",
     ];
 

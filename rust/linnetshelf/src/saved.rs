@@ -72,6 +72,15 @@ impl Saved {
         Error::done(self.handle.saved_cycle(k)).map(|answer| answer.index as u32)
     }
 
+    /// Returns how many messages cycle `k` has, from 0.
+    ///
+    /// # Errors
+    ///
+    /// [`Error::NoSuchPlace`].
+    pub fn count(&mut self, k: u32) -> Result<u64, Error> {
+        Error::done(self.handle.saved_length(k)).map(|answer| answer.index)
+    }
+
     /// Returns whether cycle `k`, from 0, has ended.
     ///
     /// # Errors

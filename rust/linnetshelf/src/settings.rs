@@ -1,7 +1,7 @@
 use core::fmt;
 
 use crate::Error;
-use crate::raw::RawSettings;
+use crate::raw::{self, RawSettings};
 
 /// How long a cycle is.
 #[derive(Clone, Copy, Debug, Default, PartialEq, Eq, Hash)]
@@ -52,6 +52,44 @@ impl Default for Settings {
 }
 
 impl Settings {
+    /// Returns the cycle in which a moment lies, in milliseconds of Unix time.
+    ///
+    /// # Errors
+    ///
+    /// [`Error::BadMoment`]: it is in none.
+    pub fn cycle_of(&self, moment: u64) -> Result<u32, Error> {
+        Error::done(raw::cycle_of(self.roll as u32, self.epoch, moment)).map(|answer| answer.index as u32)
+    }
+
+    /// Copies the name of a cycle to a buffer, of the time in UTC at which it begins: `20240928`, `20240928-07` or `20240928-0714`.
+    ///
+    /// ```
+    /// use linnetshelf::Settings;
+    ///
+    /// let settings = Settings::default();
+    /// let cycle = settings.cycle_of(1_728_000_000_000)?;
+    /// assert_eq!(settings.cycle_name(cycle, &mut [0; 13])?, "20241004");
+    /// assert_eq!(settings.cycle_named("20241004")?, cycle);
+    /// # Ok::<(), linnetshelf::Error>(())
+    /// ```
+    ///
+    /// # Errors
+    ///
+    /// [`Error::NoSuchPlace`]: no queue has this cycle. [`Error::NoRoom`], [`Error::OutOfMemory`].
+    pub fn cycle_name<'b>(&self, cycle: u32, buffer: &'b mut [u8]) -> Result<&'b str, Error> {
+        let answer = Error::done(raw::cycle_name(self.roll as u32, self.epoch, cycle, buffer))?;
+        Ok(core::str::from_utf8(&buffer[..answer.length as usize]).unwrap_or_default())
+    }
+
+    /// Returns the cycle with this name.
+    ///
+    /// # Errors
+    ///
+    /// [`Error::NoSuchPlace`]: no cycle has it.
+    pub fn cycle_named(&self, name: &str) -> Result<u32, Error> {
+        Error::done(raw::cycle_named(self.roll as u32, self.epoch, name)).map(|answer| answer.index as u32)
+    }
+
     pub(crate) fn raw(&self) -> RawSettings {
         let Settings { epoch, cells, index_count, index_spacing, cycles, roll } = *self;
         RawSettings { epoch, cells, index_count, index_spacing, cycles, roll: roll as u32 }

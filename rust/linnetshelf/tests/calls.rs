@@ -321,6 +321,40 @@ fn a_queue_is_stopped_by_its_last_endpoint() {
 }
 
 #[test]
+fn a_queue_is_copied_while_it_goes_on() {
+    let mut queue = queue_of(2);
+    let mut other = queue.split().unwrap();
+    queue.append(DAY, b"2").unwrap();
+    let mut begun = other.begin(DAY, 8).unwrap();
+    begun.put(b"begun").unwrap();
+    let mut copy = queue.snapshot().unwrap();
+    begun.complete().unwrap();
+    assert_eq!(queue.cursor(), Ok(Index(0)));
+    assert_eq!((copy.len(), copy.count(0), copy.count(1), copy.floor()), (2, Ok(2), Ok(1), 0));
+    assert_eq!(copy.count(2), Err(Error::NoSuchPlace));
+    assert_eq!(texts(copy.open().unwrap().messages()), ["0", "1", "2"]);
+    assert_eq!(texts(queue.messages()), ["0", "1", "2", "begun"]);
+}
+
+#[test]
+fn cycles_have_names() {
+    let rows = [
+        (Settings { epoch: 0, ..SMALL }, 1_728_000_000_000, 20_000, "20241004"),
+        (Settings { roll: Roll::Hourly, ..SMALL }, 1_728_028_799_999, 480_007, "20241004-07"),
+        (Settings { roll: Roll::Minutely, epoch: 1_728_000_000_000, ..SMALL }, 1_728_008_040_000, 134, "20241004-0214"),
+    ];
+    for (settings, moment, cycle, name) in rows {
+        assert_eq!(settings.cycle_of(moment), Ok(cycle));
+        assert_eq!(settings.cycle_name(cycle, &mut [0; 13]), Ok(name));
+        assert_eq!(settings.cycle_name(cycle, &mut [0; 7]), Err(Error::NoRoom { needed: name.len() }));
+        assert_eq!(settings.cycle_named(name), Ok(cycle));
+    }
+    assert_eq!(SMALL.cycle_of(u64::MAX), Err(Error::BadMoment));
+    assert_eq!(SMALL.cycle_name(u32::MAX, &mut [0; 13]), Err(Error::NoSuchPlace));
+    assert_eq!(SMALL.cycle_named("20240231"), Err(Error::NoSuchPlace));
+}
+
+#[test]
 fn what_was_saved_is_opened_again() {
     let mut queue = queue_of(2);
     queue.append(DAY, b"next").unwrap();
@@ -330,6 +364,7 @@ fn what_was_saved_is_opened_again() {
     let images: Vec<_> = saved.images().map(Result::unwrap).collect();
     assert_eq!(images.iter().map(|image| image.cycle).collect::<Vec<_>>(), [0, 1]);
     assert_eq!((saved.has_ended(0), saved.has_ended(1), saved.floor()), (Ok(true), Ok(false), 1));
+    assert_eq!((saved.count(0), saved.count(1), saved.count(2)), (Ok(2), Ok(1), Err(Error::NoSuchPlace)));
     assert_eq!(saved.positions().collect::<Vec<_>>(), [("reader", Index(0)), ("other", Index(1))]);
     let mut buffer = vec![0; images[0].data.len()];
     assert_eq!(saved.image(0, &mut buffer), Ok(&images[0].data[..]));

@@ -37,7 +37,7 @@ use Rattle.std_alloc.proofs.VecSteps.Shapes.{after}
 use Rattle.std_alloc.proofs.BoxSteps.Form.{R, B, D, τ, word, handle}
 use Rattle.std_alloc.proofs.BoxSteps.Steps.{box_out, box_in}
 use Rattle.cq_handle.proofs.AsBox.{E}
-use Rattle.cq_handle.specs.Lent.{with_held}
+use Rattle.cq_handle.specs.Borrowed.{with_held}
 use Rattle.cq_handle.specs.contracts.handle.Handle.{the_row as Hd}
 use Rattle.cq_handle.specs.contracts.held.Held.{the_row as S}
 use Rattle.cq_handle.specs.contracts.handle.Handle.held_mut as F

@@ -5,7 +5,7 @@ ghost use types.Logic.{sem};
 ghost use denote.Follow.{follows};
 ghost use Rattle.cq_handle.specs.contracts.handle.Handle.{the_row};
 ghost use Rattle.cq_handle.specs.contracts.held.Held.{the_row as held_row};
-ghost use Rattle.cq_handle.specs.Lent.{with_held};
+ghost use Rattle.cq_handle.specs.Borrowed.{with_held};
 
 use crate::handle::Handle;
 use crate::held::Held;

@@ -1,0 +1,4 @@
+pub mod Copies
+pub mod Cycles
+pub mod Names
+pub mod Rolls
