@@ -105,7 +105,7 @@ def check_pages(check, root):
         for name, text in completions.items():
             check.that(re.search(rf"\b{command}\b", text), f"{name} names no {command}")
         for option in re.findall(r"^ +--([a-z-]+)", man_page.help_of(program, command), re.M):
-            check.that(f"\\-\\-{option}" in page, f"the page of the manual names no --{option}")
+            check.that(man_page.troff(f"--{option}") in page, f"the page of the manual names no --{option}")
             for name, text in completions.items():
                 check.that(re.search(rf"(--|-l ){option}\b", text), f"{name} names no --{option}")
     if shutil.which("man"):
