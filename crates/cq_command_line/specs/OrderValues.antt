@@ -2,7 +2,7 @@
 use Rattle.std.specs.Prelude.{◌≡◌, ℕ, Bool, List, [], true, false, codes, None, Option, Some, map, option_map, unwrap_or, string_bytes, String, ⊤}
 use Rattle.std.specs.Str.Parse.{IsNumeral, digits_value, without_leading_plus}
 use Rattle.clap.specs.Words.{Row, Text, all_of, first_of, one_of}
-use Rattle.cq_orders.specs.declared.settings.InitSettings.{InitSettings}
+use Rattle.cq_settings.specs.declared.settings.InitSettings.{InitSettings}
 use Rattle.cq_orders.specs.declared.settings.LogSettings.{LogSettings}
 use Rattle.cq_orders.specs.declared.settings.ReadSettings.{ReadSettings}
 use Rattle.cq_orders.specs.declared.settings.TrimSettings.{TrimSettings}

@@ -9,7 +9,7 @@ use Rattle.cq_folder.specs.Folder.{Files}
 use Rattle.cq_folder.specs.declared.names.TheConstants.{CONFIG_FILE}
 use Rattle.cq_text.specs.declared.fault.ToolFault.{ToolFault}
 use Rattle.cq_text.specs.declared.fault.ToolFault.TheVariants.{BadConfig, FolderFault, OutOfMemory, QueueThereAlready}
-use Rattle.cq_orders.specs.declared.settings.InitSettings.{InitSettings}
+use Rattle.cq_settings.specs.declared.settings.InitSettings.{InitSettings}
 use Rattle.cq_files.specs.FolderFaults.{HoldsConfig, IsFileFault, IsLimitFault, IsSaveFault}
 
 -- the measures that were asked for

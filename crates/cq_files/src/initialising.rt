@@ -11,7 +11,7 @@ use cq_config_text::{FolderVersion, WantedConfig, write_config};
 use cq_cycle::{Roll, roll_named};
 use cq_folder::{Access, CONFIG_FILE, Folder};
 use cq_model::{Config, copied_names};
-use cq_orders::InitSettings;
+use cq_settings::InitSettings;
 use cq_text::ToolFault;
 use std::alloc::Global;
 

@@ -8,5 +8,6 @@
 mod order;
 mod settings;
 
+pub use cq_settings::InitSettings;
 pub use order::Order;
-pub use settings::{InitSettings, LogSettings, ReadSettings, TrimSettings};
+pub use settings::{LogSettings, ReadSettings, TrimSettings};

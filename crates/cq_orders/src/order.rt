@@ -1,7 +1,8 @@
 ghost use Rattle.std.specs.Prelude.{◌≡◌, option_map};
 ghost use Rattle.cq_orders.specs.OrderFolder.{folder_of};
 
-use crate::settings::{InitSettings, LogSettings, ReadSettings, TrimSettings};
+use crate::settings::{LogSettings, ReadSettings, TrimSettings};
+use cq_settings::InitSettings;
 
 /// What the program is asked to do.
 #[derive(Debug, Drop)]

@@ -4,7 +4,7 @@ use Rattle.std.proofs.lemmas.List.{length-map}
 use Rattle.cq_cycle.specs.declared.roll.Roll.{Roll}
 use Rattle.cq_config_text.specs.ConfigText.{IsTextOf}
 use Rattle.cq_model.specs.Settings.{IsLawfulSettings, Settings, texts}
-use Rattle.cq_orders.specs.declared.settings.InitSettings.{InitSettings}
+use Rattle.cq_settings.specs.declared.settings.InitSettings.{InitSettings}
 use Rattle.cq_files.specs.Initialised.{IsTextFor, wanted_settings}
 use Rattle.cq_files.proofs.initialising.initial_text.Goals as goal
 
