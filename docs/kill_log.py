@@ -14,6 +14,9 @@ torn    N times the process is killed at a random moment or call, or a sync fail
 faults  Each system call on its files and streams fails in turn with ENOSPC, EIO or EINTR, or fails with EIO from then on:
         while it opens a new queue, one that was closed, or one that was killed, while it stores lines, while it saves the images,
         and while it closes. N of these are tried, or all if N is as large. It needs strace.
+folds   A command that saves the log of a killed queue into the images and then does its own work, `write`, `take`, `drop` or `trim`:
+        each system call fails in turn with EIO or ENOSPC, or it fails from then on, or the command is killed there. N of these
+        are tried, or all if N is as large. It needs strace.
 full    N times no file may grow past some length, and N / 5 times a file system is full (root alone may make it). Then there is
         space again. Some of these services save the images while lines come.
 calls   The process gets SIGKILL at each of these calls in turn, also while it saves the images, and with one sync for each
@@ -42,7 +45,7 @@ import random
 import sys
 import tempfile
 
-from log_faults import try_faults, try_full
+from log_faults import try_faults, try_folds, try_full
 from log_kills import try_calls, try_random, try_syncs
 from log_memory import try_memory
 from log_service import Tried
@@ -53,6 +56,7 @@ MODES = {
     "random": try_random,
     "torn": try_torn,
     "faults": try_faults,
+    "folds": try_folds,
     "full": try_full,
     "calls": try_calls,
     "syncs": try_syncs,

@@ -8,7 +8,7 @@ import signal
 import subprocess
 
 from log_kills import left_by_a_kill
-from log_life import Life
+from log_life import TEXTS, Life
 from log_service import STRACE, indexes_of, lines_of, served_one_by_one
 
 # How a call fails: once, or it and all later ones of its name.
@@ -35,28 +35,41 @@ FULL_OPTIONS = [[], ["--checkpoint", "20000"], ["--checkpoint", "20000", "--sync
 # What is said where a checkpoint is not made, and the queue goes on. It names that fault alone.
 UNSAVED = re.compile(rb"cq: [^\n]+: the images are not saved yet, and the queue goes on\n")
 
-# What is said of a fault. ERRORS.md has these texts. That the log was changed is said where a rename to it failed.
-TEXTS = re.compile(
-    rb"(cq: (folder fault|no queue here|file fault: [\w.-]+|read fault|write fault|the log could not be begun: [^\n]+|"
-    rb"the log is not opened: [^\n]+|the log was changed while the queue was opened: [^\n]+|the log has stopped: [^\n]+|"
-    rb"[^\n]*: all lines with an index are in queue\.log[^\n]*)\n)+"
-)
+# Commands that save the log into the images before they do their own work.
+COMMANDS = {
+    "write": lambda life, what, front: life.write(0, LINES, what, front=front),
+    "write that rolls": lambda life, what, front: life.write(life.last_cycle() + 1, LINES, what, front=front),
+    "take": lambda life, what, front: life.take(what, front=front),
+    "drop": lambda life, what, front: life.drop(life.last_cycle(), what, front=front),
+    "trim": lambda life, what, front: life.trim(life.last_cycle(), what, front=front),
+}
+
+# How such a command is hurt at a call.
+HURTS = ["error=EIO", "error=ENOSPC", "error=EIO+", "signal=KILL"]
+
+
+def traced_calls(trace, folder):
+    """Each system call of a process that may fail, from the first on the folder on: its name, its number among those of this name,
+    and its line."""
+    numbers, is_there = collections.Counter(), False
+    with open(trace, encoding="utf-8", errors="replace") as lines:
+        for line in lines:
+            name = line.split(None, 1)[1].split("(")[0]
+            numbers[name] += 1
+            # The arguments of the command name the folder too.
+            is_there = is_there or folder in line and name != "execve" and "/proc/" not in line
+            if is_there and name in CALLS:
+                yield name, numbers[name], line
 
 
 def calls_on(life, trace, options):
     """Each system call of `cq log` from the first on its folder on: its name, its number among those of this name, and whether
     its failure loses nothing."""
     served_one_by_one([*STRACE, "-o", trace, life.tried.program], life.folder, LINES, options)
-    numbers, found, is_there, seen = collections.Counter(), [], False, Seen()
-    with open(trace, encoding="utf-8", errors="replace") as lines:
-        for line in lines:
-            name = line.split(None, 1)[1].split("(")[0]
-            numbers[name] += 1
-            # The arguments of the command name the folder too.
-            is_there = is_there or life.folder in line and name != "execve" and "/proc/" not in line
-            if is_there and name in CALLS:
-                seen.take_call(name, line)
-                found.append((name, numbers[name], seen.is_silent()))
+    found, seen = [], Seen()
+    for name, number, line in traced_calls(trace, life.folder):
+        seen.take_call(name, line)
+        found.append((name, number, seen.is_silent()))
     return found
 
 
@@ -145,6 +158,35 @@ def try_faults(tried, runs):
                 tried.wrong.append(f"{what}: nothing was injected")
         tried.counts["faults: calls that failed"] += 1
         is_well_after(life, is_silent or error == "EINTR", answer, LINES, what)
+        life.end()
+
+
+def try_folds(tried, runs):
+    """Commands that save the log of a killed queue into the images, and then do their own work: a call fails, or it and all later
+    ones, or the command is killed there. What the log has is never lost, and the rest is done as a whole or not at all."""
+    if not tried.has("strace", "folds"):
+        return
+    trace, cases, ready = os.path.join(tried.room, "trace"), [], Life(tried, "ready")
+    for cycle in range(3):
+        ready.write(cycle, LINES, "before the log")
+    left_by_a_kill(ready, "before the folds")
+    for command, done in COMMANDS.items():
+        copy = ready.copied("traced")
+        done(copy, f"folds: {command}", [*STRACE, "-o", trace])
+        calls = [call[:2] for call in traced_calls(trace, copy.folder)]
+        # Where all writes fail nothing can be said.
+        cases += [(command, *call, hurt) for call in calls for hurt in HURTS if (call[0], hurt) != ("write", "error=EIO+")]
+        copy.end()
+    tried.counts["folds: cases"] += len(cases)
+    for command, name, number, hurt in cases if runs >= len(cases) else tried.dice.sample(cases, runs):
+        life, what = ready.copied("folds"), f"{command} with a log, {hurt} at {name} {number}"
+        inject = f"inject={name}:{hurt.rstrip('+')}:when={number}{'+' * hurt.count('+')}"
+        if COMMANDS[command](life, what, [*STRACE, "-o", trace, "-e", f"trace={name}", "-e", inject]):
+            is_served(life, f"{what}, the next")
+        with open(trace, encoding="utf-8", errors="replace") as lines:
+            if not re.search(r"\(INJECTED\)|SIGKILL", lines.read()):
+                tried.wrong.append(f"{what}: nothing was injected")
+        tried.counts[f"folds: {command}"] += 1
         life.end()
 
 

@@ -7,6 +7,13 @@ import time
 
 from log_service import indexes_of, lines_of
 
+# What is said of a fault. ERRORS.md has these texts. That the log was changed is said where a rename to it failed.
+TEXTS = re.compile(
+    rb"(cq: (folder fault|no queue here|file fault: [\w.-]+|read fault|write fault|the log could not be begun: [^\n]+|"
+    rb"the log is not opened: [^\n]+|the log was changed while the queue was opened: [^\n]+|the log has stopped: [^\n]+|"
+    rb"[^\n]*: all lines with an index are in queue\.log[^\n]*)\n)+"
+)
+
 # The length of a cycle in milliseconds, and the name of the roll.
 MINUTE, DAY = 60_000, 86_400_000
 ROLLS = {MINUTE: "minutely", DAY: "daily"}
@@ -18,11 +25,16 @@ SHAPE = ["131072", "1024", "1", "32", "reader"]
 MOST_MESSAGES, MOST_CYCLES = 3000, 24
 
 
+def is_cut(status, said, front):
+    """Whether a command was killed, or met a fault that another program in front of it made. It has done all of its work or nothing."""
+    return status == -9 or bool(front) and status == 1 and bool(TEXTS.fullmatch(said))
+
+
 class Life:
     """A folder with a queue, whose cycles last a minute or a day and begin at an epoch, and what it has to hold.
 
-    A command that was killed has done all of its work or nothing. So there may be several floors and positions, until a
-    later answer shows which it is.
+    A command that was killed or met a fault has done all of its work or nothing. So there may be several floors and positions,
+    until a later answer shows which it is.
     """
 
     def __init__(self, tried, name, seconds=10_000, length=DAY):
@@ -30,8 +42,8 @@ class Life:
         self.tried, self.folder, self.length = tried, os.path.join(tried.room, name), length
         self.epoch = int((time.time() + seconds) * 1000) - length
         self.messages, self.floors, self.positions = [], {0}, {0}
-        # How many messages came before the log was begun.
-        self.saved = 0
+        # How many messages came before the log was begun, and below which cycle the images may have been removed, all or none.
+        self.saved, self.trimmed = 0, 0
         os.makedirs(self.folder)
         assert tried.run("init", self.folder, ROLLS[length], str(self.epoch), *SHAPE) == (0, b"", b"")
 
@@ -119,7 +131,8 @@ class Life:
         status, printed, said = self.tried.run("check", self.folder)
         shown = [int(count) for count in re.findall(rb"^\S+: (\d+) messages, (?:open|ended)$", printed, re.M)]
         counts = [self.count_of(cycle) for cycle in range(self.last_cycle() + 1)]
-        is_well = not status and not said and [it for it in shown if it] == [it for it in counts if it]
+        there = [[it for it in counts[first:] if it] for first in {0, self.trimmed}]
+        is_well = not status and not said and [it for it in shown if it] in there
         return is_well or self.fails(what, f"check: {status} {printed!r} {said!r}")
 
     def is_saved(self, what):
@@ -154,9 +167,9 @@ class Life:
             pair = int(index, 16), text
             self.positions = {pair[0] + 1 for pairs in given.values() if pair in pairs}
             self.tried.counts["takes of a message that the log alone had"] += pair[0] in of_log
-        elif status == -9:
+        elif is_cut(status, said, front):
             self.positions |= {pair[0] + 1 for pairs in given.values() for pair in pairs if pair}
-            self.tried.counts["takes killed"] += 1
+            self.tried.counts["takes cut short"] += 1
         else:
             return self.fails(what, f"take: {status} {said!r}")
         return bool(self.positions) or self.fails(what, f"take gave {printed!r}, and not one of {given}")
@@ -168,28 +181,42 @@ class Life:
                 return False
         return self.take(what)
 
-    def drop(self, cycle, what, moment=None):
+    def drop(self, cycle, what, moment=None, front=()):
         """Drops the cycles before one that is not above the last."""
-        status, printed, said = self.tried.run("drop", self.folder, str(cycle), moment=moment)
+        status, printed, said = self.tried.run("drop", self.folder, str(cycle), moment=moment, front=front)
         floors = {max(floor, cycle) for floor in self.floors}
         self.tried.counts["drops"] += 1
         if lines_of(printed):
             self.floors = floors & {int(printed)}
-        elif status == -9:
+        elif is_cut(status, said, front):
             self.floors |= floors
-            self.tried.counts["drops killed"] += 1
+            self.tried.counts["drops cut short"] += 1
         else:
             return self.fails(what, f"drop: {status} {said!r}")
         return bool(self.floors) or self.fails(what, f"drop {cycle} gave {printed!r}, and not one of {floors}")
 
-    def write(self, cycle, lines, what, moment=None):
+    def trim(self, cycle, what, front=()):
+        """Drops the cycles before one that is not above the last, and removes their images."""
+        status, printed, said = self.tried.run("trim", self.folder, "--before", f"{cycle << 32:016x}", "--force", front=front)
+        self.tried.counts["trims"] += 1
+        self.trimmed = cycle
+        if is_cut(status, said, front):
+            self.floors |= {max(floor, cycle) for floor in self.floors}
+            self.tried.counts["trims cut short"] += 1
+            return True
+        if status or said:
+            return self.fails(what, f"trim: {status} {said!r}")
+        self.floors = {max(floor, cycle) for floor in self.floors}
+        return True
+
+    def write(self, cycle, lines, what, moment=None, front=()):
         """Writes lines at the beginning of a cycle."""
         given = b"".join(line + b"\n" for line in lines)
         words = ("write", self.folder, str(self.epoch + cycle * self.length))
-        status, printed, said = self.tried.run(*words, given=given, moment=moment)
+        status, printed, said = self.tried.run(*words, given=given, moment=moment, front=front)
         self.tried.counts["writes"] += 1
-        if status == -9:
-            self.tried.counts["writes killed"] += 1
+        if is_cut(status, said, front):
+            self.tried.counts["writes cut short"] += 1
         elif status or said or len(lines_of(printed)) != len(lines):
             return self.fails(what, f"write: {status} {said!r}")
         return self.compared(lines, indexes_of(printed), f"{what}, write", is_whole=True)

@@ -23,8 +23,8 @@ use std::rt::Files;
 ///
 /// The new bytes of a file are written and synced to a new file next to it, its part. The name of the part is that of
 /// the file, then a dot, the number of the process and `.part`. Then the part is renamed to the file. If several files
-/// are saved, the record `queue.save` is there while their parts are renamed. From the moment that the record is there,
-/// the files are saved.
+/// are saved, or some are removed, the record `queue.save` is there while their parts are renamed and those files are removed.
+/// From the moment that the record is there, all of that is done.
 ///
 /// A command that enters alone under a lock removes the parts that are left. It takes a file for a part exactly if its
 /// name is `FILE.NUMBER.part`. FILE is `queue.save` or a file that a record can name. NUMBER is below 2^32, in decimal

@@ -26,11 +26,7 @@ impl<'a, R: Files<File = File> + AllocGlobal + Clone + Drop> RealFolder<'a, R> {
         self.lock = Some(lock);
         self.record = self.record_there(alloc)?;
         if access == Access::Alone {
-            let had_record = self.record.is_some();
-            self.settle()?;
-            if had_record {
-                self.confirm_removal()?;
-            }
+            self.finish_earlier()?;
             // Without locks, a part may be that of a process that is running.
             if is_held {
                 self.sweep(alloc)?;
@@ -76,7 +72,22 @@ impl<'a, R: Files<File = File> + AllocGlobal + Clone + Drop> RealFolder<'a, R> {
         }
     }
 
-    /// Does what is left of the save whose record is there.
+    /// Finishes the save whose record is there, if one is. An earlier command was stopped, or an error kept this one from it.
+    ///
+    /// The record may not be on the device yet: without it, a crash could keep some of the renames and lose the others.
+    pub(super) fn finish_earlier(&mut self) -> io::Result<()>
+        ensures failures { self.new.failures ≡ self.old.failures }
+        ensures locked { self.new.lock ≡ self.old.lock }
+    {
+        if self.record.is_none() {
+            return Ok(());
+        }
+        self.confirm()?;
+        self.settle()?;
+        self.confirm_removal()
+    }
+
+    /// Does what is left of the save whose record is there, and on the device.
     pub(super) fn settle(&mut self) -> io::Result<()>
         ensures failures { self.new.failures ≡ self.old.failures }
         ensures locked { self.new.lock ≡ self.old.lock }

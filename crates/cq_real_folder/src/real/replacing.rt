@@ -13,7 +13,11 @@ use std::rt::Files;
 
 impl<'a, R: Files<File = File> + AllocGlobal + Clone + Drop> RealFolder<'a, R> {
     /// Writes a file. It then holds all of the bytes or what it held, also if the system stops in between.
-    pub(super) fn replace(&self, name: &str, bytes: &[u8]) -> io::Result<()> {
+    pub(super) fn replace(&mut self, name: &str, bytes: &[u8]) -> io::Result<()>
+        ensures failures { self.new.failures ≡ self.old.failures }
+        ensures locked { self.new.lock ≡ self.old.lock }
+    {
+        self.finish_earlier()?;
         let placed = match self.prepare(name, bytes) {
             Ok(()) => self.place(name, self.process),
             Err(error) => Err(error),
@@ -54,11 +58,12 @@ impl<'a, R: Files<File = File> + AllocGlobal + Clone + Drop> RealFolder<'a, R> {
 
     /// Writes files and removes others, together. Either all of that is done, or all files hold what they held. Once the
     /// record is on the device the files are saved. An error after that is not returned while the record is there: the next
-    /// command that is alone does what is left.
+    /// save, or the next command that is alone, does what is left.
     fn replace_all(&mut self, changes: &[NewFile], removed: &[String]) -> io::Result<()>
         ensures failures { self.new.failures ≡ self.old.failures }
         ensures locked { self.new.lock ≡ self.old.lock }
     {
+        self.finish_earlier()?;
         let record = self.record_of(changes, removed)?;
         if let Err(error) = self.promise(&record, changes) {
             self.give_up(changes);
@@ -124,8 +129,8 @@ impl<'a, R: Files<File = File> + AllocGlobal + Clone + Drop> RealFolder<'a, R> {
             self.prepare(file.name.as_str(), file.bytes.as_slice())?;
         }
         let text = record.text(self.rt.alloc())?;
-        // Nobody could read a longer one, and so finish the removals.
-        if !record.removed.is_empty() && text.len() > MOST_RECORD_BYTES {
+        // Nobody could read a longer one.
+        if text.len() > MOST_RECORD_BYTES {
             return Err(io::Error::from(ErrorKind::InvalidInput));
         }
         self.prepare(RECORD_FILE, text.as_bytes())?;
@@ -133,14 +138,22 @@ impl<'a, R: Files<File = File> + AllocGlobal + Clone + Drop> RealFolder<'a, R> {
     }
 
     /// Removes what a save wrote whose record is not there. A rename may return an error and be done nevertheless, so
-    /// the record is removed first; if it cannot be removed, the parts stay.
+    /// the record is removed first. If it cannot be, or may come back after a crash, the parts stay.
     fn give_up(&self, changes: &[NewFile]) {
-        if self.remove(RECORD_FILE).is_err() {
+        if self.withdraw().is_err() {
             return;
         }
         self.discard(RECORD_FILE);
         for file in changes {
             self.discard(file.name.as_str());
+        }
+    }
+
+    /// Removes the record, if there is one, and syncs that.
+    fn withdraw(&self) -> io::Result<()> {
+        match fs::remove_file(self.rt, self.path_of(RECORD_FILE)?.as_str()) {
+            Ok(()) => self.sync(),
+            removed => unless_missing(removed),
         }
     }
 
@@ -181,7 +194,7 @@ impl<'a, R: Files<File = File> + AllocGlobal + Clone + Drop> RealFolder<'a, R> {
 
     /// Syncs what the folder lists to the device, after a rename from which on the new bytes are seen. So its error
     /// never says out of memory, after which no file has changed.
-    fn confirm(&self) -> io::Result<()> {
+    pub(super) fn confirm(&self) -> io::Result<()> {
         match self.sync() {
             Err(error) if error.kind() == ErrorKind::OutOfMemory => {
                 Err(io::Error::from(ErrorKind::Other))
