@@ -269,8 +269,7 @@ linnetshelf_answer linnetshelf_settings_of(linnetshelf_handle *handle, linnetshe
  * most 32 bytes. No zero byte is put after it. The handle may also hold what is saved of a queue. NO_SUCH_PLACE, NO_ROOM. */
 linnetshelf_answer linnetshelf_names_of(linnetshelf_handle *handle, uint32_t k, void *room, size_t size);
 
-/* Ends what a handle holds. The last endpoint of a queue frees it. An endpoint that has begun a message has to complete it or
- * give it up first. If it does not, nobody writes to the queue any more until it is stopped. */
+/* Ends what a handle holds. The last endpoint of a queue frees it. A message that the endpoint has begun is given up. */
 void linnetshelf_destroy(linnetshelf_handle handle);
 
 /* Appending. */

@@ -586,6 +586,25 @@ static void a_message_that_is_begun_comes_before_the_close(void) {
     linnetshelf_destroy(one);
 }
 
+/* A handle is destroyed while a message is begun, with some bytes or none. The others write on, and nobody reads that message. */
+static void a_message_that_is_begun_ends_with_its_handle(void) {
+    linnetshelf_handle one = queue_of("reader", 0);
+    char room[8];
+    for (uint64_t index = 0; index < 2; index++) {
+        linnetshelf_handle other = {0};
+        CHECK(linnetshelf_split(&one, &other) == STATUS(DONE));
+        CHECK(linnetshelf_begin(&other, 0, 8) == STATUS(DONE));
+        CHECK(linnetshelf_put(&other, "begun", 5 * index) == STATUS(DONE));
+        CHECK(linnetshelf_append(&one, 0, "after", 5).status == STATUS(BUSY));
+        linnetshelf_destroy(other);
+        CHECK(linnetshelf_append(&one, 0, "after", 5).index == index);
+        CHECK(is_message(linnetshelf_next(&one, room, sizeof room), index, room, "after"));
+    }
+    CHECK(linnetshelf_next(&one, room, sizeof room).status == STATUS(NOT_YET));
+    CHECK(linnetshelf_close(&one) == STATUS(DONE));
+    linnetshelf_destroy(one);
+}
+
 /* Queues of some cycles of which the first ones are full: not one byte fits any more. Of the last queue all are. */
 static void a_full_queue_is_closed(void) {
     linnetshelf_settings tiny = SMALL;
@@ -913,6 +932,7 @@ int main(void) {
     a_queue_is_closed();
     a_closed_queue_is_read_to_its_end();
     a_message_that_is_begun_comes_before_the_close();
+    a_message_that_is_begun_ends_with_its_handle();
     a_full_queue_is_closed();
     a_full_queue_is_not_closed_at_the_end_of_time();
     a_closed_queue_is_saved_and_opened();

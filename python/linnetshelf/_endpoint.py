@@ -207,8 +207,6 @@ class Owner:
     @staticmethod
     def _destroy(handle: Handle, process: int, closed: Handle) -> None:
         if process == os.getpid():
-            # A message that is begun is given up. Otherwise nobody else could write.
-            library.roll_back(ctypes.byref(handle))
             ended = Handle(handle.at)
             handle.at = closed.at
             library.destroy(ended)

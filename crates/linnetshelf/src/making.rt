@@ -6,6 +6,7 @@ ghost use Rattle.linnetshelf.specs.Makes.{Creates, HandsOut, Makes, Splits};
 ghost use Rattle.linnetshelf.specs.Statuses.{number};
 ghost use Rattle.linnetshelf.specs.declared.status.Status.TheVariants.{WrongKind};
 
+use crate::appending::linnetshelf_roll_back;
 use crate::settings::{Settings, config_of};
 use crate::status::Status;
 use cq_endpoint::Endpoint;
@@ -77,8 +78,10 @@ pub extern "C" fn linnetshelf_split(alloc: Global, handle: &mut Handle, out: &mu
     status.number()
 }
 
-/// Ends what a handle holds. The last endpoint frees its queue.
+/// Ends what a handle holds. The last endpoint frees its queue. A message that an endpoint has begun is given up first, since
+/// nobody could write to the queue otherwise. A writer of a shelf does that at its end.
 #[unsafe(no_mangle)]
-pub extern "C" fn linnetshelf_destroy(handle: Handle) {
+pub extern "C" fn linnetshelf_destroy(mut handle: Handle) {
+    let _given_up = linnetshelf_roll_back(&mut handle);
     drop(handle.into_box());
 }

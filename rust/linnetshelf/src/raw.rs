@@ -101,8 +101,6 @@ unsafe impl Send for Owned {}
 
 impl Drop for Owned {
     fn drop(&mut self) {
-        // Otherwise a message that is begun would keep all others from writing.
-        self.roll_back();
         let handle = Handle { at: self.handle.at };
         // SAFETY: HANDLES. This value ends here, so nobody uses its handle after this.
         unsafe { linnetshelf_destroy(handle) }
