@@ -6,6 +6,7 @@ from __future__ import annotations
 
 import contextlib
 import datetime
+import errno
 import fcntl
 import os
 import pathlib
@@ -21,7 +22,14 @@ CONFIG, RECORD, IMAGE = "queue.cqc", "queue.save", ".cqi"
 # The length of a cycle in milliseconds, and the form of its name.
 ROLLS = {"daily": (86_400_000, "%Y%m%d"), "hourly": (3_600_000, "%Y%m%d-%H"), "minutely": (60_000, "%Y%m%d-%H%M")}
 START = datetime.datetime(1970, 1, 1)
-PART = re.compile(r"(queue\.save|queue\.cqc|[^/\n]*\.cqi)\.(0|[1-9][0-9]{0,9})\.part")
+# A file that a save may name, and the number of a process.
+SAVED, NUMBER = r"(?:queue\.cqc|queue\.log|[^/\n\0]*\.cqi)", r"(0|[1-9][0-9]{0,9})"
+PART = re.compile(rf"(?:queue\.save|{SAVED})\.{NUMBER}\.part")
+# Both forms of the record of a save: files that parts replace, or such files, if there are any, and files to remove.
+RECORDS = (
+    re.compile(rf"cq save 1\n{NUMBER}\n((?:{SAVED}\n)+)()end\n"),
+    re.compile(rf"cq save 2\n{NUMBER}\n((?:{SAVED}\n)*)\n((?:{SAVED}\n)+)end\n"),
+)
 MOST_RECORD_BYTES = 1_048_576
 LAST_CYCLE = 2_147_483_646
 
@@ -82,6 +90,29 @@ class Config:
         raise FolderFault(f"{name}: no cycle of the queue has this name")
 
 
+@dataclass
+class Left:
+    """What is left of a save whose record is there."""
+
+    process: int
+    """The number of the process that wrote the parts."""
+    names: list[str]
+    """The files that parts replace, unless that is done."""
+    removed: list[str]
+    """The files to remove, unless that is done."""
+
+    @classmethod
+    def read(cls, text: bytes) -> Left | None:
+        """Reads the record of a save, in either form. None: it is no record."""
+        try:
+            found = next(filter(None, (form.fullmatch(text.decode()) for form in RECORDS)), None)
+        except UnicodeDecodeError:
+            return None
+        if not found or len(text) > MOST_RECORD_BYTES or int(found[1]) >= 1 << 32:
+            return None
+        return cls(int(found[1]), found[2].split("\n")[:-1], found[3].split("\n")[:-1])
+
+
 class Folder:
     """A folder that is entered: its lock is held, and a save that was cut short is finished, or read through."""
 
@@ -90,6 +121,9 @@ class Folder:
 
     def __init__(self, path: str | os.PathLike[str], is_alone: bool) -> None:
         self.path, self._is_alone = pathlib.Path(path), is_alone
+        self._left: Left | None = None
+        # Whether something was renamed or removed that no sync has brought to the disk.
+        self._is_unsynced = False
 
     def __enter__(self) -> Folder:
         self.enter()
@@ -110,7 +144,7 @@ class Folder:
             is_held = self._lock()
             if self._is_alone:
                 self._entered.add(self._key)
-            self._process, self._left = self._record()
+            self._left = self._record()
             if self._is_alone:
                 self._finish()
                 # Without locks, a part may be that of a process that is running.
@@ -147,10 +181,12 @@ class Folder:
             return False
 
     def read(self, name: str) -> bytes:
-        """Reads a plain file; of a save that was cut short, what it wrote."""
-        if name in self._left:
+        """Reads a plain file; of a save that was cut short, what it wrote. A file that such a save removes is not found."""
+        if self._left and name in self._left.removed:
+            raise FileNotFoundError(errno.ENOENT, os.strerror(errno.ENOENT), str(self.path / name))
+        if self._left and name in self._left.names:
             with contextlib.suppress(FileNotFoundError):
-                return self._read_plain(self._part(name, self._process))
+                return self._read_plain(self._part(name, self._left.process))
         return self._read_plain(name)
 
     def read_config(self) -> Config:
@@ -161,13 +197,22 @@ class Folder:
 
     def images(self, config: Config) -> Iterator[tuple[str, int]]:
         """Returns the images with their cycles, in the order of the cycles."""
-        names = {name for name in [*os.listdir(self._at), *self._left] if name.endswith(IMAGE)}
-        for name in sorted(names):
+        names = set(os.listdir(self._at))
+        if self._left:
+            names = names.union(self._left.names).difference(self._left.removed)
+        for name in sorted(name for name in names if name.endswith(IMAGE)):
             yield name, config.cycle_of(name)
 
     def save(self, files: dict[str, bytes]) -> None:
-        """Writes files: all of them or none, also if this process stops in between. Those that stay the same are left alone."""
+        """Writes files: all of them or none, also if this process stops in between. Those that stay the same are left alone.
+
+        A save before this one that failed with its record in place is finished first.
+        """
+        self._left = self._record()
+        self._finish()
         changed = {name: data for name, data in files.items() if not (self.has(name) and self._read_plain(name) == data)}
+        if not changed:
+            return
         process = os.getpid()
         try:
             for name, data in changed.items():
@@ -175,20 +220,32 @@ class Folder:
             if len(changed) > 1:
                 lines = ["cq save 1", str(process), *changed, "end"]
                 self._write(RECORD, process, "".join(f"{line}\n" for line in lines).encode())
+            self._is_unsynced = True
             for name in [RECORD] if len(changed) > 1 else changed:
                 self._place(name, process)
         except BaseException:
-            # A rename can fail and be done nevertheless. So the record goes first, and the parts stay if it cannot go.
-            for name in [RECORD, *(self._part(name, process) for name in [RECORD, *changed])]:
-                self._remove(name)
+            self._give_up(process, [*changed])
             raise
-        if changed:
-            os.fsync(self._at)
         if len(changed) > 1:
-            # The files are saved. What fails from here on is done by the next one that is alone.
-            self._process, self._left = process, list(changed)
-            with contextlib.suppress(OSError):
-                self._finish()
+            self._left = Left(process, [*changed], [])
+        self._sync()
+        # What changed is saved. Renames that fail from here on are made by the next save, or by the next one that is alone.
+        with contextlib.suppress(OSError):
+            self._settle()
+        if self._is_unsynced:
+            self._sync()
+
+    def _give_up(self, process: int, names: list[str]) -> None:
+        """Removes what a save has made that failed. What cannot be removed is left to the next one.
+
+        A rename can fail and be done nevertheless. So the record goes first, and the parts stay if it cannot go, or may come back.
+        """
+        with contextlib.suppress(OSError):
+            if self.has(RECORD):
+                self._remove(RECORD)
+                self._sync()
+            for name in [RECORD, *names]:
+                self._remove(self._part(name, process))
 
     def _part(self, name: str, process: int) -> str:
         return f"{name}.{process}.part"
@@ -225,37 +282,53 @@ class Folder:
         with contextlib.suppress(FileNotFoundError):
             os.unlink(name, dir_fd=self._at)
 
-    def _record(self) -> tuple[int, list[str]]:
-        """Returns the process and the files of a save that was cut short."""
+    def _record(self) -> Left | None:
+        """Returns what is left of a save whose record is there."""
         try:
             text = self._read_plain(RECORD, MOST_RECORD_BYTES + 1)
         except FileNotFoundError:
-            return 0, []
-        found = re.fullmatch(rb"cq save 1\n(0|[1-9][0-9]{0,9})\n((?:(?:queue\.cqc|[^/\n]*\.cqi)\n)+)end\n", text)
-        try:
-            if found and len(text) <= MOST_RECORD_BYTES and int(found[1]) < 1 << 32:
-                return int(found[1]), found[2].decode().split("\n")[:-1]
-        except UnicodeDecodeError:
-            pass
-        raise FolderFault(f"{self.path / RECORD} is no record of a save")
+            return None
+        left = Left.read(text)
+        if left is None:
+            raise FolderFault(f"{self.path / RECORD} is no record of a save")
+        return left
 
     def _finish(self) -> None:
-        """Renames the parts that are left of a save, and removes its record. A part that is gone has been renamed."""
+        """Finishes a save whose record is there, if one is, and brings to the disk what one before this left."""
+        # The record may not be on the disk yet. Without it a crash could keep some of the renames and lose the others.
+        if self._left or self._is_unsynced:
+            self._sync()
+        self._settle()
+        # Else the record could come back after the machine stops, when a later save writes parts of the same names.
+        if self._is_unsynced:
+            self._sync()
+
+    def _settle(self) -> None:
+        """Renames the parts that are left of a save whose record is on the disk, removes the files that are to go, and the record.
+
+        A part that is gone has been renamed, and a file that is gone has been removed.
+        """
         if not self._left:
             return
-        for name in self._left:
+        for name in self._left.names:
             with contextlib.suppress(FileNotFoundError):
-                self._place(name, self._process)
-        os.fsync(self._at)
+                self._place(name, self._left.process)
+        for name in self._left.removed:
+            self._remove(name)
+        self._sync()
+        self._is_unsynced = True
         self._remove(RECORD)
-        # Else the record could come back after the machine stops, when a later save writes parts of the same names.
+        self._left = None
+
+    def _sync(self) -> None:
+        """Brings to the disk what was renamed and removed."""
         os.fsync(self._at)
-        self._process, self._left = 0, []
+        self._is_unsynced = False
 
     def _sweep(self) -> None:
         """Removes the parts of saves that were cut short before their record was there."""
         for name in os.listdir(self._at):
             found = PART.fullmatch(name)
-            if found and int(found[2]) < 1 << 32:
+            if found and int(found[1]) < 1 << 32:
                 with contextlib.suppress(OSError):
                     os.unlink(name, dir_fd=self._at)

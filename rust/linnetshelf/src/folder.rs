@@ -5,6 +5,7 @@ use std::collections::BTreeSet;
 use std::fmt;
 use std::fs::{self, File, Metadata};
 use std::io::{self, ErrorKind, Read, Write};
+use std::iter;
 use std::os::unix::fs::MetadataExt;
 use std::path::{Path, PathBuf};
 use std::process;
@@ -13,6 +14,7 @@ use crate::{Error, Index, Roll, Settings};
 
 const CONFIG: &str = "queue.cqc";
 const RECORD: &str = "queue.save";
+const LOG: &str = "queue.log";
 const IMAGE: &str = ".cqi";
 
 /// The largest record of a save, in bytes.
@@ -184,7 +186,7 @@ fn word_of(roll: Roll) -> &'static str {
 
 /// Returns whether a save may name this file.
 fn may_be_saved(name: &str) -> bool {
-    name == CONFIG || (name.ends_with(IMAGE) && !name.contains(['/', '\n']))
+    name == CONFIG || name == LOG || (name.ends_with(IMAGE) && !name.contains(['/', '\n', '\0']))
 }
 
 /// Returns the number of a process: below 2^32, in decimal, with no leading zeros.
@@ -203,26 +205,47 @@ fn is_part(name: &str) -> bool {
     parse().unwrap_or(false)
 }
 
-/// A save whose record is there: the process that made the parts, and the files that they become.
+/// A save whose record is there: the process that made the parts, the files that they become, and the files that are removed.
 #[derive(Clone, Debug, Default, PartialEq, Eq)]
 struct Save {
     process: u32,
     names: Vec<String>,
+    removed: Vec<String>,
 }
 
 impl Save {
+    /// Returns the text of the record. It has a second form where files are removed.
     fn text(&self) -> String {
-        format!("cq save 1\n{}\n{}\nend\n", self.process, self.names.join("\n"))
+        let lines = |names: &[String]| names.iter().map(|name| format!("{name}\n")).collect::<String>();
+        let (process, names) = (self.process, lines(&self.names));
+        if self.removed.is_empty() {
+            format!("cq save 1\n{process}\n{names}end\n")
+        } else {
+            format!("cq save 2\n{process}\n{names}\n{}end\n", lines(&self.removed))
+        }
     }
 
+    /// Reads the text of a record, which has to be one that `text` makes of at least one name.
     fn read(text: &str) -> Option<Save> {
-        let (process, names) = text.strip_prefix("cq save 1\n")?.strip_suffix("\nend\n")?.split_once('\n')?;
-        let names: Vec<String> = names.split('\n').map(str::to_owned).collect();
-        names.iter().all(|name| may_be_saved(name)).then_some(Save { process: process_of(process)?, names })
+        let (process, lines) = text.strip_prefix("cq save ")?.split_once('\n')?.1.split_once('\n')?;
+        let mut lines = lines.split('\n').map(str::to_owned).peekable();
+        let names: Vec<String> = iter::from_fn(|| lines.next_if(|name| may_be_saved(name))).collect();
+        lines.next_if(String::is_empty);
+        let removed: Vec<String> = iter::from_fn(|| lines.next_if(|name| may_be_saved(name))).collect();
+        let save = Save { process: process_of(process)?, names, removed };
+        (!save.is_empty() && save.text() == text).then_some(save)
+    }
+
+    fn is_empty(&self) -> bool {
+        self.names.is_empty() && self.removed.is_empty()
     }
 
     fn has(&self, name: &str) -> bool {
         self.names.iter().any(|it| it == name)
+    }
+
+    fn removes(&self, name: &str) -> bool {
+        self.removed.iter().any(|it| it == name)
     }
 
     fn part(&self, name: &str) -> String {
@@ -240,13 +263,15 @@ pub(crate) struct Folder {
     is_held: bool,
     /// What is left of a save that was cut short.
     left: Save,
+    /// Whether something was renamed or removed that no sync has brought to the disk.
+    is_unsynced: bool,
 }
 
 impl Folder {
     /// Waits for the lock of the folder, alone. Finishes a save that was cut short, and removes parts of others.
     pub(crate) fn enter(path: &Path) -> Result<Folder, FolderError> {
         let mut folder = Folder::lock(path, true)?;
-        folder.finish_last()?;
+        folder.finish_earlier()?;
         // Without locks, a part may be that of a process that is running.
         if folder.is_held {
             folder.sweep()?;
@@ -271,7 +296,7 @@ impl Folder {
             Ok((path, folder, is_held))
         };
         let (path, locked, is_held) = open().map_err(|error| FolderError::File(path.to_owned(), error))?;
-        let mut folder = Folder { path, locked, is_held, left: Save::default() };
+        let mut folder = Folder { path, locked, is_held, left: Save::default(), is_unsynced: false };
         folder.check_place()?;
         folder.left = folder.record()?;
         Ok(folder)
@@ -331,8 +356,11 @@ impl Folder {
         Ok(Some(bytes))
     }
 
-    /// Reads a file; of a save that was cut short, what it wrote.
+    /// Reads a file; of a save that was cut short, what it wrote. A file that such a save removes is not there.
     pub(crate) fn read(&self, name: &str) -> Result<Option<Vec<u8>>, FolderError> {
+        if self.left.removes(name) {
+            return Ok(None);
+        }
         if self.left.has(name)
             && let Some(bytes) = self.read_plain(&self.left.part(name), u64::MAX)?
         {
@@ -386,7 +414,7 @@ impl Folder {
     pub(crate) fn images(&self, config: &Config) -> Result<Vec<(u32, String)>, FolderError> {
         let mut names: BTreeSet<String> = self.list()?.into_iter().collect();
         names.extend(self.left.names.iter().cloned());
-        let images = names.into_iter().filter(|name| name.ends_with(IMAGE));
+        let images = names.into_iter().filter(|name| name.ends_with(IMAGE) && !self.left.removes(name));
         let found: Result<Vec<_>, _> = images
             .map(|name| match config.cycle_of(&name) {
                 Some(cycle) => Ok((cycle, name)),
@@ -408,53 +436,70 @@ impl Folder {
     }
 
     /// Makes the files of the folder these: all of them or none, also if the process ends in between. Those that stay the same
-    /// are left alone.
+    /// are left alone. A save before this one that failed with its record in place is finished first.
     pub(crate) fn save(&mut self, config: &Config, images: Vec<(String, Vec<u8>)>) -> Result<(), FolderError> {
         self.check_place()?;
-        self.finish_last()?;
+        self.left = self.record()?;
+        self.finish_earlier()?;
         let mut changed = Vec::new();
         for (name, data) in images.into_iter().chain([(CONFIG.to_owned(), config.text().into_bytes())]) {
             if self.read_plain(&name, u64::MAX)?.as_deref() != Some(&data) {
                 changed.push((name, data));
             }
         }
-        let save = Save { process: process::id(), names: changed.iter().map(|(name, _)| name.clone()).collect() };
+        let names = changed.iter().map(|(name, _)| name.clone()).collect();
+        let save = Save { process: process::id(), names, removed: Vec::new() };
         match save.names.as_slice() {
             [] => return Ok(()),
             [name] => return self.save_one(&save, name, &changed[0].1),
             _ => (),
         }
         if let Err(error) = self.prepare(&save, &changed) {
-            // A rename can fail and be done nevertheless. So the record goes first, and the parts stay if it cannot go.
-            if self.remove(RECORD).is_ok() {
-                self.remove_parts(&save);
-            }
+            self.give_up(&save);
             return Err(error);
         }
-        // From here on they are saved, once the system keeps the record. The next command that is alone does what is left.
         self.left = save;
         self.sync().map_err(self.fault(RECORD))?;
-        let _ = self.finish();
-        Ok(())
+        // What changed is saved. Renames that fail from here on are made by the next save, or by the next command that is alone.
+        if self.settle().is_err() {
+            return Ok(());
+        }
+        self.sync().map_err(self.fault(RECORD))
     }
 
-    /// Finishes the last save, or removes its record if the save failed and only that was left.
-    fn finish_last(&mut self) -> Result<(), FolderError> {
-        let ended = if !self.left.names.is_empty() {
-            self.finish()
-        } else if self.stat(RECORD)?.is_some() {
-            self.remove(RECORD).and_then(|()| self.sync())
-        } else {
-            Ok(())
+    /// Finishes a save whose record is there, if one is, and brings to the disk what one before this left.
+    fn finish_earlier(&mut self) -> Result<(), FolderError> {
+        let finish = |folder: &mut Folder| {
+            // The record may not be on the disk yet. Without it a crash could keep some of the renames and lose the others.
+            if folder.is_unsynced || !folder.left.is_empty() {
+                folder.sync()?;
+            }
+            folder.settle()?;
+            // Else the record could come back after the machine stops, when a later save writes parts of the same names.
+            if folder.is_unsynced { folder.sync() } else { Ok(()) }
         };
-        ended.map_err(self.fault(RECORD))
+        finish(self).map_err(self.fault(RECORD))
+    }
+
+    /// Removes what a save has made that failed. A rename can fail and be done nevertheless. So the record goes first, and the
+    /// parts stay if it cannot go, or may come back.
+    fn give_up(&mut self, save: &Save) {
+        let withdrawn = match self.stat(RECORD) {
+            Ok(None) => Ok(()),
+            _ => self.remove(RECORD).and_then(|()| self.sync()),
+        };
+        if withdrawn.is_ok() {
+            self.remove_parts(save);
+        }
     }
 
     /// Saves a file alone.
-    fn save_one(&self, save: &Save, name: &str, data: &[u8]) -> Result<(), FolderError> {
-        let saved = self
-            .write_part(save, name, data)
-            .and_then(|()| self.rename(&save.part(name), name).and_then(|()| self.sync()).map_err(self.fault(name)));
+    fn save_one(&mut self, save: &Save, name: &str, data: &[u8]) -> Result<(), FolderError> {
+        let renamed = self.write_part(save, name, data).and_then(|()| {
+            self.is_unsynced = true;
+            self.rename(&save.part(name), name).map_err(self.fault(name))
+        });
+        let saved = renamed.and_then(|()| self.sync().map_err(self.fault(name)));
         if saved.is_err() {
             self.remove_parts(save);
         }
@@ -462,11 +507,12 @@ impl Folder {
     }
 
     /// Writes all parts, and then the record.
-    fn prepare(&self, save: &Save, changed: &[(String, Vec<u8>)]) -> Result<(), FolderError> {
+    fn prepare(&mut self, save: &Save, changed: &[(String, Vec<u8>)]) -> Result<(), FolderError> {
         for (name, data) in changed {
             self.write_part(save, name, data)?;
         }
         self.write_part(save, RECORD, save.text().as_bytes())?;
+        self.is_unsynced = true;
         self.rename(&save.part(RECORD), RECORD).map_err(self.fault(RECORD))
     }
 
@@ -490,18 +536,26 @@ impl Folder {
         write().map_err(self.fault(name))
     }
 
-    /// Renames the parts that are left of a save, and removes its record. A part that is gone has been renamed.
-    fn finish(&mut self) -> io::Result<()> {
+    /// Renames the parts that are left of a save whose record is on the disk, removes the files that are to go, and the record. A
+    /// part that is gone has been renamed, and a file that is gone has been removed.
+    fn settle(&mut self) -> io::Result<()> {
+        if self.left.is_empty() {
+            return Ok(());
+        }
         for name in &self.left.names {
             match self.rename(&self.left.part(name), name) {
                 Err(error) if error.kind() != ErrorKind::NotFound => return Err(error),
                 _ => (),
             }
         }
+        for name in &self.left.removed {
+            self.remove(name)?;
+        }
         self.sync()?;
+        self.is_unsynced = true;
         self.remove(RECORD)?;
         self.left = Save::default();
-        self.sync()
+        Ok(())
     }
 
     /// Removes the parts of saves that were cut short before their record was there. What cannot be removed stays.
@@ -533,10 +587,12 @@ impl Folder {
         fs::rename(self.path.join(from), self.path.join(to))
     }
 
-    /// Lets the system keep what was renamed and removed.
-    fn sync(&self) -> io::Result<()> {
+    /// Brings to the disk what was renamed and removed.
+    fn sync(&mut self) -> io::Result<()> {
         step()?;
-        self.locked.sync_all()
+        self.locked.sync_all()?;
+        self.is_unsynced = false;
+        Ok(())
     }
 }
 
@@ -724,34 +780,75 @@ mod tests {
         }
     }
 
+    fn save_of(process: u32, names: &[&str], removed: &[&str]) -> Save {
+        let owned = |names: &[&str]| names.iter().map(|name| name.to_string()).collect();
+        Save { process, names: owned(names), removed: owned(removed) }
+    }
+
     #[test]
     fn a_record_of_a_save_has_one_text() {
-        let save = Save { process: 4711, names: vec!["20241004.cqi".to_owned(), CONFIG.to_owned()] };
-        let text = "cq save 1\n4711\n20241004.cqi\nqueue.cqc\nend\n";
-        assert_eq!((save.text().as_str(), Save::read(text)), (text, Some(save.clone())));
-        assert_eq!(save.part(CONFIG), "queue.cqc.4711.part");
+        let replacing = "cq save 1\n4711\n20241004.cqi\nqueue.cqc\nend\n";
+        let both = "cq save 2\n4711\nqueue.cqc\n\n20241004.cqi\n20241005.cqi\nend\n";
+        let rows = [
+            (save_of(4711, &["20241004.cqi", CONFIG], &[]), replacing),
+            (save_of(4711, &[CONFIG], &["20241004.cqi", "20241005.cqi"]), both),
+            (save_of(0, &[], &[CONFIG]), "cq save 2\n0\n\nqueue.cqc\nend\n"),
+            (save_of(u32::MAX, &[LOG], &[LOG]), "cq save 2\n4294967295\nqueue.log\n\nqueue.log\nend\n"),
+        ];
+        for (save, text) in rows {
+            assert_eq!((save.text().as_str(), Save::read(text)), (text, Some(save.clone())));
+        }
+        assert_eq!(save_of(4711, &[], &[]).part(CONFIG), "queue.cqc.4711.part");
         let changes = [
-            ("cq save 1", "cq save 2"),
             ("4711", "04711"),
             ("4711", "+4711"),
             ("4711", "4294967296"),
             ("4711\n", ""),
-            ("20241004.cqi\nqueue.cqc\n", ""),
             ("20241004.cqi", "a/20241004.cqi"),
-            ("20241004.cqi", ""),
+            ("20241004.cqi", "\0.cqi"),
+            ("20241004.cqi", "20241004.cqi "),
             ("queue.cqc", "queue.cqd"),
+            ("queue.cqc", "queue.save"),
+            ("cq save", " cq save"),
+            ("\n", "\r\n"),
             ("end\n", "end"),
+            ("end\n", "end\nx"),
             ("end\n", "end\nend\n"),
+            ("end\n", "\nend\n"),
             ("end\n", ""),
         ];
         for (from, to) in changes {
-            assert_eq!(Save::read(&text.replace(from, to)), None, "{from:?} {to:?}");
+            for text in [replacing, both] {
+                assert!(text.contains(from));
+                assert_eq!(Save::read(&text.replace(from, to)), None, "{text:?} {from:?} {to:?}");
+            }
+        }
+        let others = [
+            replacing.replace("save 1", "save 2"),
+            replacing.replace("save 1", "save 3"),
+            replacing.replace("20241004.cqi\nqueue.cqc\n", ""),
+            replacing.replace("20241004.cqi\nqueue.cqc\n", "\n"),
+            replacing.replace("20241004.cqi", ""),
+            both.replace("save 2", "save 1"),
+            both.replace("save 2", "save 02"),
+            both.replace("\n\n", "\n"),
+            both.replace("\n\n", "\n\n\n"),
+            both.replace("20241004.cqi\n20241005.cqi\n", ""),
+            both.replace("\n\n20241004.cqi\n20241005.cqi", ""),
+            "cq save 2\n4711\nend\n".to_owned(),
+            "cq save 2\n4711\n\nend\n".to_owned(),
+            String::new(),
+        ];
+        for text in others {
+            assert_eq!(Save::read(&text), None, "{text:?}");
         }
     }
 
     #[test]
     fn parts_have_names() {
-        for name in ["queue.cqc.0.part", "queue.save.4294967295.part", "20241004.cqi.7.part", ".cqi.7.part"] {
+        for name in
+            ["queue.cqc.0.part", "queue.save.4294967295.part", "queue.log.1.part", "20241004.cqi.7.part", ".cqi.7.part"]
+        {
             assert!(is_part(name), "{name}");
         }
         for name in [
@@ -796,6 +893,14 @@ mod tests {
                 let read = String::from_utf8(read.stdout).unwrap();
                 assert_eq!(read.lines().map(|line| &line[17..]).collect::<Vec<_>>(), messages);
             }
+        }
+
+        /// The files of the folder, in the order of their names.
+        fn files(&self) -> Vec<(String, Vec<u8>)> {
+            let names = fs::read_dir(&self.0).unwrap().map(|it| it.unwrap().file_name().into_string().unwrap());
+            let mut files: Vec<_> = names.map(|name| (name.clone(), fs::read(self.0.join(&name)).unwrap())).collect();
+            files.sort();
+            files
         }
 
         fn remainders(&self) -> Vec<String> {
@@ -858,7 +963,7 @@ mod tests {
             assert_eq!(folder.remainders(), [part.as_str()]);
             assert_eq!(Saved::load(&folder.0).unwrap().len(), 1);
             // A save whose record is there is finished nevertheless.
-            let save = Save { process: 7, names: vec![CONFIG.to_owned()] };
+            let save = save_of(7, &[CONFIG], &[]);
             fs::copy(folder.0.join(CONFIG), folder.0.join(&part)).unwrap();
             fs::write(folder.0.join(RECORD), save.text()).unwrap();
             drop(Folder::enter(&folder.0).unwrap());
@@ -873,7 +978,7 @@ mod tests {
     #[test]
     fn a_record_that_is_too_long_is_refused() {
         let folder = Scratch::new("record");
-        let text_of = |process| Save { process, names: vec![CONFIG.to_owned(); 104_856] }.text();
+        let text_of = |process| save_of(process, &[CONFIG; 104_856], &[]).text();
         assert_eq!(text_of(1).len() as u64, LARGEST_RECORD);
         fs::write(folder.0.join(RECORD), text_of(10)).unwrap();
         assert!(matches!(Folder::enter(&folder.0), Err(FolderError::BadRecord(_))));
@@ -884,14 +989,130 @@ mod tests {
     }
 
     #[test]
-    fn a_record_that_is_not_utf_8_is_refused_and_kept() {
+    fn a_record_of_any_other_form_is_refused_and_kept() {
         let folder = Scratch::new("bytes");
-        let bytes = b"cq save 1\n7\n\xff.cqi\nend\n";
-        fs::write(folder.0.join(RECORD), bytes).unwrap();
-        for enter in [Folder::enter, Folder::enter_shared] {
-            let refused = enter(&folder.0).unwrap_err();
-            assert!(matches!(&refused, FolderError::BadRecord(path) if path.ends_with(RECORD)), "{refused:?}");
-            assert_eq!(fs::read(folder.0.join(RECORD)).unwrap(), bytes);
+        let records: [&[u8]; 6] = [
+            b"cq save 1\n7\n\xff.cqi\nend\n",
+            b"cq save 2\n7\n\n\xff.cqi\nend\n",
+            b"cq save 2\n7\nqueue.cqc\nend\n",
+            b"cq save 2\n7\n\nend\n",
+            b"cq save 2\n7\n\n../20241004.cqi\nend\n",
+            b"",
+        ];
+        for record in records {
+            fs::write(folder.0.join(RECORD), record).unwrap();
+            let held = folder.files();
+            for enter in [Folder::enter, Folder::enter_shared] {
+                let refused = enter(&folder.0).unwrap_err();
+                assert!(matches!(&refused, FolderError::BadRecord(path) if path.ends_with(RECORD)), "{refused:?}");
+                assert_eq!(folder.files(), held);
+            }
+        }
+    }
+
+    /// Makes a folder with two cycles and a record, in which this number of its renames and removals are done. The record's
+    /// parts hold a second message of the last cycle, and the floor 20001.
+    fn cut_short(name: &str, save: &Save, done: usize) -> Scratch {
+        let folder = Scratch::new(name);
+        let mut journal = Journal::open(&folder.0).unwrap();
+        journal.append(MOMENT + DAY, b"two").unwrap();
+        journal.close().unwrap();
+        let before = folder.files();
+        let mut journal = Journal::open(&folder.0).unwrap();
+        journal.append(MOMENT + DAY, b"three").unwrap();
+        journal.drop_before(20_001).unwrap();
+        journal.close().unwrap();
+        let after = folder.files();
+        for (name, data) in before {
+            fs::write(folder.0.join(name), data).unwrap();
+        }
+        for (k, name) in save.names.iter().enumerate() {
+            let to = if k < done { name.clone() } else { save.part(name) };
+            let data = after.iter().find(|(it, _)| it == name).map_or(&[][..], |(_, data)| data);
+            fs::write(folder.0.join(to), data).unwrap();
+        }
+        for name in save.removed.iter().take(done.saturating_sub(save.names.len())) {
+            let _ = fs::remove_file(folder.0.join(name));
+        }
+        fs::write(folder.0.join(RECORD), save.text()).unwrap();
+        folder
+    }
+
+    #[test]
+    fn a_save_of_either_form_is_read_through_and_finished_at_each_step() {
+        let (first, last) = ("20241004.cqi", "20241005.cqi");
+        let rows: [(Save, u32, &[&str], &[&str]); 6] = [
+            (save_of(77, &[last, CONFIG], &[]), 20_001, &["one", "two", "three"], &[first, last, CONFIG]),
+            (save_of(77, &[last, LOG], &[]), 0, &["one", "two", "three"], &[first, last, CONFIG, LOG]),
+            (save_of(77, &[], &[first]), 0, &["two"], &[last, CONFIG]),
+            (save_of(77, &[last, CONFIG], &[first]), 20_001, &["two", "three"], &[last, CONFIG]),
+            (save_of(77, &[first, CONFIG], &[first]), 20_001, &["two"], &[last, CONFIG]),
+            (save_of(77, &[CONFIG], &["20241003.cqi", first, LOG]), 20_001, &["two"], &[last, CONFIG]),
+        ];
+        for (row, (save, floor, messages, names)) in rows.iter().enumerate() {
+            for done in 0..=save.names.len() + save.removed.len() {
+                let folder = cut_short(&format!("step-{row}-{done}"), save, done);
+                let held = folder.files();
+                let mut saved = Saved::load(&folder.0).unwrap();
+                assert_eq!(saved.floor(), *floor);
+                saved.set_floor(0);
+                let seen: Vec<_> = saved.open().unwrap().messages().map(|it| it.unwrap().data).collect();
+                assert_eq!(seen, messages.iter().map(|it| it.as_bytes()).collect::<Vec<_>>(), "row {row}, {done} done");
+                assert_eq!(folder.files(), held);
+                Journal::open(&folder.0).unwrap().close().unwrap();
+                let files = folder.files();
+                assert_eq!(files.iter().map(|(name, _)| name.as_str()).collect::<Vec<_>>(), *names);
+            }
+        }
+    }
+
+    #[test]
+    fn a_save_that_removes_files_is_finished_after_a_kill_at_each_step() {
+        let save = save_of(77, &["20241005.cqi", CONFIG], &["20241004.cqi"]);
+        for done in 0..=3 {
+            for steps in 0.. {
+                let folder = cut_short(&format!("removal-{done}-{steps}"), &save, done);
+                let was_killed = is_killed(&folder, "enter", steps);
+                assert_eq!(Saved::load(&folder.0).unwrap().floor(), 20_001);
+                drop(Folder::enter(&folder.0).unwrap());
+                let files = folder.files();
+                assert_eq!(files.iter().map(|(name, _)| name.as_str()).collect::<Vec<_>>(), ["20241005.cqi", CONFIG]);
+                if !was_killed {
+                    assert!(steps >= 6, "{steps}");
+                    break;
+                }
+            }
+        }
+    }
+
+    #[test]
+    fn a_save_that_left_its_record_is_finished_before_the_next_one() {
+        let settings = config(Roll::Daily, 0).settings;
+        let changed = |floor| Config { settings, floor, positions: vec![("a".to_owned(), Index(0))] };
+        for fault in 0.. {
+            let folder = Scratch::new(&format!("left-{fault}"));
+            let images = folder.files().into_iter().filter(|(name, _)| name != CONFIG).collect::<Vec<_>>();
+            let more = [images.clone(), vec![("20241005.cqi".to_owned(), Vec::new())]].concat();
+            let mut files = Folder::enter(&folder.0).unwrap();
+            BEFORE_FAULT.set(fault);
+            let refused = files.save(&changed(20_000), more).is_err();
+            let was_refused = BEFORE_FAULT.replace(-1) < 0;
+            let was_left = folder.0.join(RECORD).exists();
+            // The next save is stopped at its first part: so it has written nothing, and what was left is finished.
+            let step = if was_left { 6 } else { i64::from(files.is_unsynced) };
+            BEFORE_FAULT.set(step);
+            assert!(files.save(&changed(19_999), images.clone()).is_err());
+            BEFORE_FAULT.set(-1);
+            assert_eq!(folder.remainders(), [""; 0], "fault {fault}");
+            let config = fs::read_to_string(folder.0.join(CONFIG)).unwrap();
+            assert!(was_left <= config.contains("floor 20000"), "fault {fault}: {config}");
+            files.save(&changed(19_999), images).unwrap();
+            assert!(fs::read_to_string(folder.0.join(CONFIG)).unwrap().contains("floor 19999"));
+            assert_eq!(folder.remainders(), [""; 0], "fault {fault}");
+            if !was_refused {
+                assert!(fault > 14 && !refused, "{fault}");
+                break;
+            }
         }
     }
 
