@@ -12,6 +12,9 @@ from array import array
 from collections.abc import Callable, Iterable, Iterator
 from dataclasses import dataclass
 from enum import IntEnum
+from functools import partial
+from itertools import accumulate, chain, repeat
+from operator import getitem, length_hint
 from typing import TYPE_CHECKING, NamedTuple, Optional, TypeVar, Union
 
 from ._library import NO_ENDPOINT, Answer, Handle, RawSettings, check, error_of, library, number
@@ -125,6 +128,35 @@ class Message(NamedTuple):
 
     index: Index
     data: bytes
+
+
+class Batch:
+    """The messages that one call has read. Each is made and returned without a step of the interpreter of its own."""
+
+    def __init__(self, answers: memoryview, data: memoryview) -> None:
+        """Makes the messages of a call's answers, whose bytes follow one another from the start of `data`."""
+        indexes, ends = answers.cast("Q")[::2].tolist(), list(accumulate(answers.cast("I")[2::4].tolist()))
+        read = bytes(data[: ends[-1]]) if ends else b""
+        parts = map(getitem, repeat(read), map(slice, chain((0,), ends), ends))
+        self.messages: list[Message] = list(map(partial(tuple.__new__, Message), zip(map(Index, indexes), parts)))
+        # Those that are not returned yet. All iterations of an endpoint share it.
+        self.rest = iter(self.messages)
+
+    def left(self) -> list[Message]:
+        """Returns those that are not returned yet."""
+        return self.messages[len(self.messages) - length_hint(self.rest) :]
+
+    def has_left(self) -> bool:
+        return length_hint(self.rest) > 0
+
+    def last_returned(self) -> Message | None:
+        """Returns the last one that was returned, or None if none was."""
+        returned = len(self.messages) - length_hint(self.rest)
+        return self.messages[returned - 1] if returned else None
+
+    def end(self) -> None:
+        """Returns none of them any more."""
+        collections.deque(self.rest, maxlen=0)
 
 
 def now() -> int:
@@ -253,12 +285,17 @@ class Endpoint(Owner):
         super().__init__(handle)
         self._queue = queue
         queue.endpoints.add(self)
-        # What an iteration has read and not yet returned, and the index of the last message that it returned.
-        self._ahead: collections.deque[Message] = collections.deque()
-        self._returned = Index(0)
+        ENDPOINTS.add(self)
+        # What an iteration has read by its last call.
+        self._ahead = Batch(memoryview(b""), memoryview(b""))
         self._way = FORWARDS
         self._answers = bytearray(MANY * ANSWER.size)
         self._grow(4096)
+
+    def close(self) -> None:
+        """Ends it. A message that is begun is given up."""
+        super().close()
+        self._ahead.end()
 
     @property
     def settings(self) -> Settings:
@@ -436,11 +473,8 @@ class Endpoint(Owner):
                 return False
             check(many.status)
         try:
-            start = 0
-            for index, length, _ in ANSWER.iter_unpack(memoryview(self._answers)[: many.count * ANSWER.size]):
-                end = start + length
-                self._ahead.append(Message(Index(index), bytes(buffer[start:end])))
-                start = end
+            answers = memoryview(self._answers)[: many.count * ANSWER.size]
+            self._ahead = Batch(answers, memoryview(buffer))
         except BaseException:
             # It may come from outside, as by a signal. What was read is read again.
             self._unread()
@@ -449,7 +483,7 @@ class Endpoint(Owner):
 
     def _unread(self) -> None:
         """Moves back to where the messages begin that were read ahead by the last call."""
-        self._ahead.clear()
+        self._ahead.end()
         first = ANSWER.unpack_from(self._answers)[0]
         if library.move_to(self._live(), first) == Status.DONE and self._way == BACKWARDS:
             # Backwards it is after the first one.
@@ -457,26 +491,24 @@ class Endpoint(Owner):
             self._read(library.next)
             library.direction(self._live(), BACKWARDS)
 
-    def _return_next(self) -> Message:
-        """Returns the next message of those that were read ahead."""
-        self._live()
-        message = self._ahead.popleft()
-        self._returned = message.index
-        return message
-
     def _give_back(self) -> None:
         """Moves back to where the messages begin that were read ahead and not returned. What was dropped meanwhile is skipped."""
-        places = [self._returned] if self._way == BACKWARDS else [it.index for it in self._ahead]
-        if self._ahead:
-            self._ahead.clear()
-            for index in places:
-                if library.move_to(self._live(), index) == Status.DONE:
-                    return
+        left, last = self._ahead.left(), self._ahead.last_returned()
+        if not left:
+            return
+        self._ahead.end()
+        if self._way == BACKWARDS and last is None:
+            self._unread()
+            return
+        for message in [last] if self._way == BACKWARDS else left:
+            if library.move_to(self._live(), message.index) == Status.DONE:
+                return
 
     def next(self) -> Message | None:
         """Reads the next message in the direction of reading; returns None if there is none yet. Finished: none will come."""
-        if self._ahead:
-            return self._return_next()
+        if self._ahead.has_left():
+            self._live()
+            return next(self._ahead.rest)
         answer, data = self._read(library.next)
         if answer.status in (Status.NOT_YET, Status.BEFORE_START):
             return None
@@ -489,9 +521,13 @@ class Endpoint(Owner):
         It reads some hundred of them by one call of the library. If it ends early, the next read goes on after the last one
         that it returned.
         """
+        return chain.from_iterable(self._batches())
+
+    def _batches(self) -> Iterator[Iterator[Message]]:
+        """Returns what is left of a batch, and then batch after batch."""
         with contextlib.suppress(Finished):
-            while self._ahead or self._read_ahead():
-                yield self._return_next()
+            while self._ahead.has_left() or self._read_ahead():
+                yield self._ahead.rest
 
     def views(self) -> Iterator[tuple[Index, memoryview]]:
         """Reads message after message without copying it. A view is valid until the next message is read."""
@@ -525,9 +561,10 @@ class Endpoint(Owner):
 
     def peek(self) -> int | None:
         """Returns the length of the next message, or None if there is none yet. It is not read. Finished: none will come."""
-        if self._ahead:
+        left = self._ahead.left()
+        if left:
             self._live()
-            return len(self._ahead[0].data)
+            return len(left[0].data)
         _, address, _ = self._buffer
         answer = library.next(self._live(), address, 0)
         if answer.status == Status.FINISHED:
@@ -577,12 +614,12 @@ class Endpoint(Owner):
 
     def to_start(self) -> None:
         """Moves before the first message."""
-        self._ahead.clear()
+        self._ahead.end()
         check(library.to_start(self._live()))
 
     def to_end(self) -> Index:
         """Moves to the end, and returns it: the index that the next message of the current cycle gets."""
-        self._ahead.clear()
+        self._ahead.end()
         answer = library.to_end(self._live())
         check(answer.status)
         return Index(answer.index)
@@ -599,9 +636,10 @@ class Endpoint(Owner):
     @property
     def cursor(self) -> Index:
         """Where the endpoint is: the message that it reads next has this index or a later one."""
-        if self._ahead and self._way == FORWARDS:
+        left = self._ahead.left()
+        if left and self._way == FORWARDS:
             self._live()
-            return self._ahead[0].index
+            return left[0].index
         self._give_back()
         answer = library.cursor(self._live())
         check(answer.status)
@@ -687,6 +725,7 @@ class Endpoint(Owner):
 
         check(library.stop(self._live()))
         self._end.detach()
+        self._ahead.end()
         stopped = Handle(self._handle.at)
         self._handle.at = NO_ENDPOINT.at
         return Saved(stopped, self.settings, self.names)
@@ -716,6 +755,20 @@ class Begun:
     def put(self, data: Buffer) -> None:
         """Puts bytes after those that were put."""
         check(library.put(self._endpoint._live(), address_of(data), memoryview(data).nbytes))
+
+
+# All endpoints of this process.
+ENDPOINTS: weakref.WeakSet[Endpoint] = weakref.WeakSet()
+
+
+def end_batches() -> None:
+    """Lets a child process return nothing of what its parent has read ahead."""
+    for endpoint in list(ENDPOINTS):
+        endpoint._ahead.end()
+
+
+if hasattr(os, "register_at_fork"):
+    os.register_at_fork(after_in_child=end_batches)
 
 
 def create(settings: Settings = Settings(), names: Iterable[str] = (), moment: int | None = None) -> Endpoint:

@@ -179,12 +179,12 @@ class Calls(unittest.TestCase):
             # What a signal raises while messages are read ahead.
             made = itertools.count()
 
-            def make(*fields):
+            def make(index):
                 if next(made) == number:
                     raise KeyboardInterrupt
-                return linnetshelf.Message(*fields)
+                return linnetshelf.Index(index)
 
-            with unittest.mock.patch.object(_endpoint, "Message", make), self.assertRaises(KeyboardInterrupt):
+            with unittest.mock.patch.object(_endpoint, "Index", make), self.assertRaises(KeyboardInterrupt):
                 list(messages)
 
         interrupted(self.queue, 7)
@@ -441,19 +441,30 @@ class Calls(unittest.TestCase):
         self.queue.stop().close()
 
     def test_a_child_leaves_what_is_not_its_own(self):
-        self.queue.append(b"a", 0)
+        self.queue.append_all([b"a", b"b"], 0)
+        messages = iter(self.queue)
+        self.assertEqual(next(messages).data, b"a")
 
         def works():
-            with contextlib.suppress(ValueError):
-                self.queue.next()
-                return False
+            for read in (self.queue.next, lambda: next(messages)):
+                with contextlib.suppress(ValueError):
+                    read()
+                    return False
             self.queue.close()
             with linnetshelf.create(SMALL, moment=0) as own:
                 own.append(b"x", 0)
                 return data_of(own) == [b"x"]
 
         self.assertEqual(in_child(works), 0)
-        self.assertEqual(self.queue.next().data, b"a")
+        self.assertEqual(next(messages).data, b"b")
+
+    def test_a_closed_endpoint_returns_nothing_that_it_has_read(self):
+        self.queue.append_all([b"a", b"b"], 0)
+        messages = iter(self.queue)
+        self.assertEqual(next(messages).data, b"a")
+        self.queue.close()
+        with self.assertRaises(ValueError):
+            next(messages)
 
     def test_threads(self):
         count, writers = 3000, 4
@@ -558,6 +569,168 @@ def hold(folder, entered, release):
         queue.append(b"held", 1_728_000_000_000)
         entered.set()
         release.wait(60)
+
+
+class Records(unittest.TestCase):
+    """A save that was cut short after its record was there is finished, or read through."""
+
+    MOMENT = 1_728_000_000_000
+    FIRST, LAST, CONFIG = "20241004.cqi", "20241005.cqi", "queue.cqc"
+    SAVES = {
+        # The record, the files that it removes, and the messages that are there afterwards.
+        "replaces": ("cq save 1\n77\n20241005.cqi\nqueue.cqc\nend\n", [], [b"one", b"two", b"three"]),
+        "replaces the log": ("cq save 1\n77\n20241005.cqi\nqueue.log\nend\n", [], [b"one", b"two", b"three"]),
+        "removes": ("cq save 2\n77\n\n20241004.cqi\nend\n", [FIRST], [b"two"]),
+        "does both": ("cq save 2\n77\n20241005.cqi\nqueue.cqc\n\n20241004.cqi\nend\n", [FIRST], [b"two", b"three"]),
+        "names one twice": ("cq save 2\n77\n20241004.cqi\nqueue.cqc\n\n20241004.cqi\nend\n", [FIRST], [b"two"]),
+        "removes more": ("cq save 2\n77\nqueue.cqc\n\n20241003.cqi\n20241004.cqi\nqueue.log\nend\n", [FIRST, "queue.log"], [b"two"]),
+    }
+
+    def setUp(self):
+        room = tempfile.TemporaryDirectory()
+        self.addCleanup(room.cleanup)
+        self.room, self.made = pathlib.Path(room.name), 0
+        queue = self.room / "queue"
+        queue.mkdir()
+        linnetshelf.init(queue, SMALL, ["a"])
+        with linnetshelf.Journal(queue, self.MOMENT) as journal:
+            journal.append(b"one", self.MOMENT)
+            journal.append(b"two", self.MOMENT + DAY)
+        self.before = self.files_of(queue)
+        with linnetshelf.Journal(queue) as journal:
+            journal.append(b"three", self.MOMENT + DAY)
+            journal.drop_before(20_001)
+        self.after = self.files_of(queue)
+
+    @staticmethod
+    def files_of(folder):
+        return {name: (folder / name).read_bytes() for name in os.listdir(folder)}
+
+    def folder_with(self, files):
+        folder, self.made = self.room / f"copy{self.made}", self.made + 1
+        folder.mkdir()
+        for name, data in files.items():
+            (folder / name).write_bytes(data)
+        return folder
+
+    def cut_short(self, record, done):
+        """Makes a folder with this record, in which this number of its renames and removals are done."""
+        names, removed = _folder.Left.read(record.encode()).names, _folder.Left.read(record.encode()).removed
+        files = {**self.before, "queue.save": record.encode(), "queue.cqc.8.part": b"of another"}
+        if "queue.log" in removed:
+            files["queue.log"] = b""
+        for k, name in enumerate(names):
+            files[name if k < done else f"{name}.77.part"] = self.after.get(name, b"")
+        for name in removed[: max(done - len(names), 0)]:
+            files.pop(name, None)
+        return self.folder_with(files), len(names) + len(removed)
+
+    def test_a_record_of_either_form_at_each_step(self):
+        for which, (record, removed, messages) in self.SAVES.items():
+            done, steps = 0, 1
+            while done <= steps:
+                with self.subTest(save=which, done=done):
+                    folder, steps = self.cut_short(record, done)
+                    held = self.files_of(folder)
+                    floor = 20_001 if "queue.cqc" in record else 0
+                    with linnetshelf.Saved.load(folder) as saved:
+                        self.assertEqual(saved.floor, floor)
+                        saved.floor = 0
+                        with saved.open() as queue:
+                            self.assertEqual(data_of(queue), messages)
+                    self.assertEqual(self.files_of(folder), held)
+                    with linnetshelf.Journal(folder):
+                        pass
+                    left = self.files_of(folder)
+                    wanted = {self.FIRST, self.LAST, self.CONFIG} | ({"queue.log"} if "replaces the log" == which else set())
+                    self.assertEqual(set(left), wanted - set(removed))
+                    self.assertEqual(left[self.CONFIG], (self.after if floor else self.before)[self.CONFIG])
+                    if CQ:
+                        cq("check", folder)
+                done += 1
+
+    def test_a_record_of_any_other_form_is_refused(self):
+        both = self.SAVES["does both"][0]
+        changes = [("save 2", "save 1"), ("save 2", "save 3"), ("save 2", "save 02"), ("\n77", "\n077"), ("\n77", "\n+77")]
+        changes += [("\n77", "\n4294967296"), ("\n77", ""), ("20241005", "a/20241005"), ("\n20241004", "\n../20241004")]
+        changes += [("cqc\n\n", "cqc\n"), ("20241004.cqi\n", ""), ("\n\n20241004.cqi", ""), ("\n\n", "\n\n\n"), ("end", "\nend")]
+        changes += [("end\n", ""), ("end\n", "end"), ("end\n", "end\nx"), ("end\n", "end\n\n"), ("queue.cqc", "queue.cqd"), ("2024", "\0")]
+        changes += [("queue.cqc", "queue.save"), ("\n", "\r\n"), ("cq save", " cq save")]
+        wrong = [both.replace(*change).encode() for change in changes]
+        wrong += [b"", b"cq save 1\n", b"cq save 1\n77\nend\n", b"cq save 1\n77\n\nend\n", b"cq save 2\n77\nend\n", b"cq save 2\n77\n\nend\n"]
+        wrong += [b"cq save 1\n77\n\xff.cqi\nend\n", b"cq save 2\n77\n\n\xff.cqi\nend\n"]
+        longest = b"cq save 2\n1\n\n" + b"queue.cqc\n" * 104_855 + b"12345.cqi\nend\n"
+        self.assertEqual(len(longest), 1_048_577)
+        folder = self.folder_with(self.before)
+        for record in [*wrong, longest]:
+            (folder / "queue.save").write_bytes(record)
+            held = self.files_of(folder)
+            for enter in (linnetshelf.Saved.load, lambda folder: linnetshelf.Journal(folder).__enter__()):
+                with self.subTest(record=record[:60]), self.assertRaises(linnetshelf.FolderFault):
+                    enter(folder)
+                self.assertEqual(self.files_of(folder), held)
+        (folder / "queue.save").write_bytes(longest.replace(b"12345", b"1234"))
+        with self.assertRaises(FileNotFoundError):
+            linnetshelf.Saved.load(folder)
+
+    @contextlib.contextmanager
+    def calls(self, fault=None):
+        """Lists the calls that change or sync the folder, of which the one with this number fails."""
+        made = []
+
+        def listed(name, real):
+            def call(first, *arguments, **named):
+                what = first if isinstance(first, str) else "folder" if os.path.isdir(f"/proc/self/fd/{first}") else "file"
+                made.append(f"{name} {what}".replace(f".{os.getpid()}.part", ".part").replace(".77.part", ".part"))
+                if len(made) - 1 == fault:
+                    raise OSError(5, "Input/output error")
+                return real(first, *arguments, **named)
+
+            return call
+
+        with contextlib.ExitStack() as stack:
+            for name in ("fsync", "rename", "unlink"):
+                stack.enter_context(unittest.mock.patch.object(_folder.os, name, listed(name, getattr(os, name))))
+            yield made
+
+    def test_the_record_is_synced_before_parts_are_renamed(self):
+        folder, _ = self.cut_short(self.SAVES["does both"][0], 0)
+        (folder / "queue.cqc.8.part").unlink()
+        with self.calls() as made, _folder.Folder(folder, is_alone=True):
+            pass
+        renames = ["rename 20241005.cqi.part", "rename queue.cqc.part", "unlink 20241004.cqi"]
+        self.assertEqual(made, ["fsync folder", *renames, "fsync folder", "unlink queue.save", "fsync folder"])
+        folder = self.folder_with(self.before)
+        with _folder.Folder(folder, is_alone=True) as files, self.calls() as made:
+            files.save({name: self.after[name] for name in (self.LAST, self.CONFIG)})
+        parts = [f"{it}.part" for it in (self.LAST, self.CONFIG, "queue.save")]
+        wanted = [call for part in parts for call in (f"unlink {part}", "fsync file")]
+        wanted += ["rename queue.save.part", "fsync folder", "rename 20241005.cqi.part", "rename queue.cqc.part"]
+        self.assertEqual(made, [*wanted, "fsync folder", "unlink queue.save", "fsync folder"])
+
+    def test_a_save_that_left_its_record_is_finished_before_the_next_one(self):
+        first = {self.LAST: self.after[self.LAST], self.CONFIG: self.after[self.CONFIG]}
+        fault, is_refused = 0, True
+        while is_refused:
+            folder, is_refused = self.folder_with(self.before), False
+            with _folder.Folder(folder, is_alone=True) as files:
+                with self.calls(fault) as made:
+                    try:
+                        files.save(first)
+                    except OSError:
+                        is_refused = True
+                was_left = (folder / "queue.save").exists()
+                is_saved = was_left or self.files_of(folder) == self.after
+                with self.calls() as again:
+                    files.save(self.before)
+                written = again.index("unlink 20241005.cqi.part") if is_saved else 0
+                self.assertEqual("unlink queue.save" in again[:written], was_left, (fault, again))
+                if is_refused and is_saved:
+                    self.assertEqual(again[0], "fsync folder")
+            self.assertEqual(self.files_of(folder), self.before, fault)
+            is_refused |= fault < len(made)
+            fault += 1
+        self.assertEqual(fault, len(made) + 1)
 
 
 @unittest.skipUnless(CQ, "there is no program")
