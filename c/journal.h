@@ -1,12 +1,12 @@
 /* Keeps the queue of a folder in the folder's log, so that what was appended survives a crash. POSIX alone.
  *
- * Compile c/journal.c into a program, and link it with liblinnetshelf.a and -lpthread. The folder is one of the program cq (`cq init`
- * makes it, docs/FORMATS.md describes it), which reads it meanwhile. While a journal is open, commands of cq that may write are
- * refused, and so is a second journal.
+ * Compile c/journal.c and c/folder_files.c into a program, and link it with liblinnetshelf.a and -lpthread. The folder is one of the
+ * program cq (`cq init` makes it, docs/FORMATS.md describes it), which reads it meanwhile. While a journal is open, commands of cq that
+ * may write are refused, and so is a second journal.
  *
  * Each call returns 0 if it is done, -1 with errno if a call of the system failed, and else a linnetshelf_status. errno is EAGAIN if
- * another has the queue, ENOENT if the folder has none, EBADMSG if a file of the folder is not one of such a queue, and EFBIG if the
- * log has more than 1 GiB.
+ * another has the queue, ENOENT if the folder has none, EBADMSG if a file of the folder is not one of such a queue, ENOTSUP if the
+ * folder has version 1, and EFBIG if the log has more than 1 GiB.
  */
 #ifndef LINNETSHELF_JOURNAL_H
 #define LINNETSHELF_JOURNAL_H

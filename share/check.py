@@ -1,7 +1,7 @@
 #!/usr/bin/env python3
 """Tests ./install: share/check.py.
 
-Installs into an empty folder, builds and runs a program by pkg-config alone, runs the installed cq, looks at what the shared
+Installs into an empty folder, builds and runs programs by pkg-config alone, runs the installed cq, looks at what the shared
 object exports, unpacks the archive elsewhere and does the same, and removes the installation. The page of the manual and
 the completions have to name each command and option of cq.
 
@@ -75,6 +75,28 @@ def check_library(check, root, where, folder):
     status, _, said = run(os.environ.get("CC", "cc"), TOP / "c" / "example.c", "-o", program, *words)
     check.that(status == 0, f"{where}: c/example.c is not built: {said}")
     check.that(run(program)[:2] == (0, "hello\n"), f"{where}: c/example.c does not print hello")
+    check_sources(check, root, where, folder, words)
+
+
+def check_sources(check, root, where, folder, words):
+    """Programs that compile the installed sources are built, and keep a queue in a folder that the installed cq makes."""
+    paths = {**os.environ, "PKG_CONFIG_PATH": f"{root}/lib/pkgconfig"}
+    said = run("pkg-config", "--variable=sources", "linnetshelf", env=paths)[1].strip().replace("\\ ", " ")
+    sources, queue = pathlib.Path(said), folder / f"{where} queue"
+    check.that(sources.is_dir() and sources.samefile(root / "share" / "linnetshelf" / "c"), f"{where}: the sources are in {said}")
+    queue.mkdir()
+    status, _, said = run(root / "bin" / "cq", "init", queue, "daily", "0", "65536", "32", "1", "8")
+    check.that(status == 0, f"{where}: cq init: {said}")
+    for name, made in (("io_example.c", "linnetshelf_io.c"), ("journal_example.c", "journal.c")):
+        own = folder / name
+        shutil.copy(TOP / "c" / name, own)
+        program, files = folder / f"{where} {name}.out", [own, sources / made, sources / "folder_files.c"]
+        status, _, said = run(os.environ.get("CC", "cc"), "-std=c11", f"-I{sources}", *files, "-o", program, *words, "-lpthread")
+        check.that(status == 0, f"{where}: c/{name} is not built: {said}")
+        status, _, said = run(program, queue, name)
+        check.that(status == 0, f"{where}: c/{name} fails: {said}")
+    lines = run(root / "bin" / "cq", "read", queue)[1].splitlines()
+    check.that([line[17:] for line in lines] == ["io_example.c", "journal_example.c"], f"{where}: cq read prints {lines}")
 
 
 def check_wheel(check, root, folder):
