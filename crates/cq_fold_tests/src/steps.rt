@@ -1,7 +1,7 @@
 //! Steps over a folder, and what is said at each.
 use crate::logs::{Frame, log_of};
 use cq_commands::{
-    InitSettings, ReadSettings, ToolFault, check, drop_before, init, read, take, write,
+    InitSettings, ReadForm, ReadSettings, ToolFault, check, drop_before, init, read, take, write,
 };
 use cq_fixtures::{contents_text, expect_answer};
 use cq_fold::{FoldFault, Folded, fold};
@@ -107,9 +107,13 @@ fn run_step<F: Folder>(
         Step::Drop(cycle) => drop_before(alloc, folder, cycle, output),
         Step::Read => {
             let all = ReadSettings {
+                form: ReadForm::Line,
                 back: false,
                 from: None,
                 limit: None,
+                last: None,
+                since: None,
+                until: None,
             };
             read(alloc, folder, &all, output)
         }

@@ -1,5 +1,5 @@
 //! What commands see of a folder whose queue is live.
-use cq_commands::{ReadSettings, drop_before, read};
+use cq_commands::{ReadForm, ReadSettings, drop_before, read};
 use cq_fixtures::expect_text;
 use cq_logged::{LoggedFolder, SystemLock};
 use cq_real_folder::RealFolder;
@@ -22,9 +22,13 @@ fn read_text(rt: &HostRuntime, path: &str) -> Result<String, Fail> {
     let mut folder = seen_at(rt, path)?;
     let mut output = Vec::new(alloc);
     let all = ReadSettings {
+        form: ReadForm::Line,
         back: false,
         from: None,
         limit: None,
+        last: None,
+        since: None,
+        until: None,
     };
     read(alloc, &mut folder, &all, &mut output)?;
     Ok(String::from_utf8_lossy(alloc, &output)?)

@@ -1,4 +1,3 @@
-pub mod WordLemmas
 pub mod KeptLemmas
 pub mod HoldLemmas
 pub mod PlanLemmas

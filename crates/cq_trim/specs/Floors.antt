@@ -6,7 +6,8 @@ use Rattle.cq_model.specs.declared.contents.Contents.{Contents}
 use Rattle.cq_model.specs.declared.contents.CycleList.{CycleList}
 use Rattle.cq_orders.specs.declared.settings.TrimSettings.{TrimSettings}
 use Rattle.cq_text.specs.declared.fault.ToolFault.{ToolFault}
-use Rattle.cq_trim.specs.Words.{IsWordFault, MeansCycle}
+use Rattle.cq_points.specs.Points.{IsPointFault}
+use Rattle.cq_trim.specs.Words.{MeansCycle}
 
 -- the number of a cycle, and 0 without one
 abbrev pub number_of : Option CycleList → ℕ
@@ -30,7 +31,7 @@ IsBefore settings (Some word) cycle = MeansCycle settings word cycle
 -- why the word that was given means no cycle
 abbrev pub IsBeforeFault : Settings → Option (List ℕ) → ToolFault → Type 0
 IsBeforeFault settings None fault = ⊥
-IsBeforeFault settings (Some word) fault = IsWordFault settings word fault
+IsBeforeFault settings (Some word) fault = IsPointFault settings.roll settings.epoch word fault
 
 -- the floor where the cycles before one are dropped: it never falls, and is never above the last cycle
 abbrev pub raised_floor : Contents → ℕ → ℕ

@@ -2,7 +2,7 @@
 use cq_commands::{check, drop_before, init, read, take, write};
 use cq_fixtures::expect_text;
 use cq_folder::{Access, Folder, MemoryFolder};
-use cq_orders::{InitSettings, ReadSettings};
+use cq_orders::{InitSettings, ReadForm, ReadSettings};
 use cq_trim::{TrimFault, TrimSettings, trim};
 use std::alloc::{AllocError, Global};
 use std::fmt::Display;
@@ -78,9 +78,13 @@ pub fn said_at<F: Folder>(
         }
         Step::Read => {
             let all = ReadSettings {
+                form: ReadForm::Line,
                 back: false,
                 from: None,
                 limit: None,
+                last: None,
+                since: None,
+                until: None,
             };
             let done = read(alloc, folder, &all, &mut output);
             said(alloc, done, output.as_slice())

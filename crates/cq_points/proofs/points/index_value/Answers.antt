@@ -16,7 +16,7 @@ use Rattle.std.proofs.lemmas.Fmt.{digits_is_IsNumeral}
 use Rattle.std.proofs.lemmas.List.{get_or_default, length-replicate}
 use Rattle.cq_cycle.specs.Index.{index_text}
 use Rattle.cq_layout.proofs.Each.{each-all, each-from_all}
-use Rattle.cq_trim.proofs.words.index_value.Goals as goal
+use Rattle.cq_points.proofs.points.index_value.Goals as goal
 
 -- a lower-case hexadecimal digit
 abbrev IsHex : ℕ → Type 0
