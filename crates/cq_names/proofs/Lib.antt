@@ -1,0 +1,4 @@
+pub mod NameLemmas
+pub mod LeftLemmas
+pub mod FolderLemmas
+pub mod EndLemmas
