@@ -1,6 +1,7 @@
 -- The command line of the program, in the words of clap.
-use Rattle.std.specs.Prelude.{◌≡◌, ℕ, ◌-◌, ◌^◌, List, [], ◌∷◌, true, false, codes, fold, Some, ⊤}
+use Rattle.std.specs.Prelude.{◌≡◌, ◌&&◌, ℕ, ◌-◌, ◌^◌, List, [], ◌∷◌, true, false, codes, fold, Some, ⊤}
 use Rattle.clap.specs.Words.{App, Rule, app_of, new_app, new_rule, rule_of, with_rule, with_subcommand}
+use Rattle.clap.specs.Walk.{is_empty}
 use Rattle.clap.specs.declared.builder.arg.Arg.{Arg}
 use Rattle.clap.specs.declared.builder.command.Command.{Command}
 use Rattle.clap.specs.declared.builder.command.Command.TheViews.{out-Command}
@@ -8,9 +9,9 @@ use Rattle.clap.specs.declared.builder.ArgAction.TheVariants.{Append, Set, SetTr
 use Rattle.clap.specs.declared.builder.value_parser.ValueParser.TheVariants.{Unsigned}
 use Rattle.cq_command_line.specs.declared.arguments.Argument.{Argument}
 use Rattle.cq_command_line.specs.declared.commands.Description.{Description}
-use Rattle.cq_command_line.specs.declared.arguments.Argument.TheVariants.{Word, Number, Between, Words, Flag, Option, OptionBetween}
+use Rattle.cq_command_line.specs.declared.arguments.Argument.TheVariants.{Word, Number, Between, Words, Flag, Option, OptionBetween, FlagAgainst, OptionAgainst, CountAgainst, Maybe}
 use Rattle.cq_orders.specs.declared.order.Order.{Order}
-use Rattle.cq_orders.specs.declared.order.Order.TheVariants.{Echo, Cycle, Init, Write, Log, Read, Take, Check, Stat, Dump, Salvage, Race, DropBefore, Trim, Migrate}
+use Rattle.cq_orders.specs.declared.order.Order.TheVariants.{Echo, Cycle, Init, Write, Log, Read, Take, TakeBy, Check, Stat, Dump, Salvage, Race, DropBefore, Trim, Migrate, Names}
 
 -- the word that names the command
 abbrev pub word_of : Order → List ℕ
@@ -21,6 +22,7 @@ word_of (Write folder moment) = codes "write"
 word_of (Log folder settings) = codes "log"
 word_of (Read folder settings) = codes "read"
 word_of (Take folder name) = codes "take"
+word_of (TakeBy folder name settings) = codes "take"
 word_of (DropBefore folder cycle) = codes "drop"
 word_of (Trim folder settings) = codes "trim"
 word_of (Check folder) = codes "check"
@@ -29,6 +31,7 @@ word_of (Dump folder file) = codes "dump"
 word_of (Salvage folder file) = codes "salvage"
 word_of (Migrate folder) = codes "migrate"
 word_of (Race messages) = codes "race"
+word_of (Names folder change) = codes "name"
 
 -- an argument that is to be given: any word, a number below 2^64, or one between two others
 abbrev pub word_rule : List ℕ → Rule
@@ -58,6 +61,14 @@ option_rule name = record (new_rule name) { long = Some name; action = Some Set;
 abbrev pub option_between_rule : List ℕ → ℕ → ℕ → Rule
 option_between_rule name low high = record (option_rule name) { parser = Some (Unsigned low high) }
 
+-- an argument that cannot be given with any of these others. Its rule does not say which they are, but that there are some
+abbrev pub against : {A : Type 0} → List A → Rule → Rule
+against others rule = record rule { is_free = rule.is_free && is_empty others }
+
+-- one word, or none
+abbrev pub maybe_rule : List ℕ → Rule
+maybe_rule name = record (new_rule name) { action = Some Set }
+
 -- the rule of an argument
 abbrev pub rule_for : Argument → Rule
 rule_for (Word name help) = word_rule name.now
@@ -67,6 +78,10 @@ rule_for (Words name help) = words_rule name.now
 rule_for (Flag name help) = flag_rule name.now
 rule_for (Option name value_name help) = option_rule name.now
 rule_for (OptionBetween name value_name low high help) = option_between_rule name.now low high
+rule_for (FlagAgainst name others help) = against others.now (flag_rule name.now)
+rule_for (OptionAgainst name value_name others help) = against others.now (option_rule name.now)
+rule_for (CountAgainst name value_name high others help) = against others.now (option_between_rule name.now 1 high)
+rule_for (Maybe name help) = maybe_rule name.now
 
 -- the command with these arguments behind those that it has
 abbrev pub with_arguments : App → List Argument → App
@@ -119,15 +134,26 @@ log_command =
     with_rule (with_rule (with_rule (with_rule (new_app (codes "log")) (word_rule (codes "DIR"))) (option_between_rule (codes "for") 1 (2 ^ 32 - 1)))
     (option_between_rule (codes "syncs") 0 2)) (option_between_rule (codes "checkpoint") 1 (2 ^ 32 - 1))
 
+-- a rule of an argument that cannot be given with some others
+abbrev pub bound : Rule → Rule
+bound rule = record rule { is_free = false }
+
+-- the rules of `read`: the folder, which messages are printed, and in which form
+abbrev pub read_rules : List Rule
+read_rules =
+    word_rule (codes "DIR") ∷ flag_rule (codes "back") ∷ option_rule (codes "from") ∷ option_between_rule (codes "limit") 1 (2 ^ 32 - 1)
+    ∷ bound (option_between_rule (codes "last") 1 (2 ^ 32 - 1)) ∷ bound (option_rule (codes "since")) ∷ option_rule (codes "until")
+    ∷ bound (flag_rule (codes "text")) ∷ bound (flag_rule (codes "null")) ∷ bound (flag_rule (codes "hex")) ∷ flag_rule (codes "json") ∷ []
+
 -- the command `read`
 abbrev pub read_command : App
-read_command =
-    with_rule (with_rule (with_rule (with_rule (new_app (codes "read")) (word_rule (codes "DIR"))) (flag_rule (codes "back"))) (option_rule (codes "from")))
-    (option_between_rule (codes "limit") 1 (2 ^ 32 - 1))
+read_command = fold with_rule (new_app (codes "read")) read_rules
 
 -- the command `take`
 abbrev pub take_command : App
-take_command = with_rule (with_rule (new_app (codes "take")) (word_rule (codes "DIR"))) (word_rule (codes "NAME"))
+take_command =
+    with_rule (with_rule (with_rule (with_rule (new_app (codes "take")) (word_rule (codes "DIR"))) (word_rule (codes "NAME")))
+    (option_between_rule (codes "limit") 1 (2 ^ 32 - 1))) (flag_rule (codes "peek"))
 
 -- the command `drop`
 abbrev pub drop_command : App
@@ -159,19 +185,32 @@ salvage_command = with_rule (with_rule (new_app (codes "salvage")) (word_rule (c
 abbrev pub migrate_command : App
 migrate_command = with_rule (new_app (codes "migrate")) (word_rule (codes "DIR"))
 
+-- the command `name`
+abbrev pub name_command : App
+name_command =
+    with_rule (with_rule (with_rule (with_rule (with_rule (new_app (codes "name")) (word_rule (codes "DIR"))) (word_rule (codes "ACTION")))
+    (maybe_rule (codes "NAME"))) (option_rule (codes "at"))) (option_rule (codes "to"))
+
 -- the commands that need no folder
 abbrev pub plain_commands : App → App
 plain_commands app = with_subcommand (with_subcommand (with_subcommand app echo_command.top) cycle_command.top) race_command.top
 
--- the commands on a queue that is stored in a folder
-abbrev pub queue_commands : App → App
-queue_commands app =
-    with_subcommand (with_subcommand (with_subcommand (with_subcommand (with_subcommand (with_subcommand (with_subcommand (with_subcommand (with_subcommand (with_subcommand (with_subcommand (with_subcommand app init_command.top) write_command.top) log_command.top) read_command.top) take_command.top)
-    drop_command.top) trim_command.top) check_command.top) stat_command.top) dump_command.top) salvage_command.top) migrate_command.top
+-- the commands on the messages of a queue that is stored in a folder
+abbrev pub message_commands : App → App
+message_commands app =
+    with_subcommand (with_subcommand (with_subcommand (with_subcommand (with_subcommand app init_command.top) write_command.top) log_command.top)
+    read_command.top) take_command.top
+
+-- the commands that look after such a queue
+abbrev pub care_commands : App → App
+care_commands app =
+    with_subcommand (with_subcommand (with_subcommand (with_subcommand (with_subcommand (with_subcommand (with_subcommand (with_subcommand app
+    drop_command.top) trim_command.top) check_command.top) stat_command.top) dump_command.top) salvage_command.top) migrate_command.top)
+    name_command.top
 
 -- the program with all its commands
 abbrev pub command_line : App
-command_line = queue_commands (plain_commands program)
+command_line = care_commands (message_commands (plain_commands program))
 
 -- the argument follows this rule, and is one of its own command alone
 pub record Follows (arg : Arg) (rule : Rule) : Type 0 where

@@ -1,13 +1,18 @@
 -- What an order takes from the words of its command: each value under the name of its argument.
-use Rattle.std.specs.Prelude.{◌≡◌, ℕ, Bool, List, [], true, false, codes, None, Option, Some, map, option_map, unwrap_or, string_bytes, String, ⊤}
+use Rattle.std.specs.Prelude.{◌≡◌, ◌≢◌, ℕ, Bool, List, [], true, false, codes, None, Option, Some, map, option_map, unwrap_or, string_bytes, String, ⊤}
 use Rattle.std.specs.Str.Parse.{IsNumeral, digits_value, without_leading_plus}
 use Rattle.clap.specs.Words.{Row, Text, all_of, first_of, one_of}
 use Rattle.cq_settings.specs.declared.settings.InitSettings.{InitSettings}
 use Rattle.cq_orders.specs.declared.settings.LogSettings.{LogSettings}
+use Rattle.cq_orders.specs.declared.settings.ReadForm.{ReadForm}
+use Rattle.cq_orders.specs.declared.settings.ReadForm.TheVariants.{Hex, Json, Line, Null, Text as PlainText}
+use Rattle.cq_orders.specs.declared.settings.NameChange.{NameChange}
+use Rattle.cq_orders.specs.declared.settings.NameChange.TheVariants as change
 use Rattle.cq_orders.specs.declared.settings.ReadSettings.{ReadSettings}
+use Rattle.cq_orders.specs.declared.settings.TakeSettings.{TakeSettings}
 use Rattle.cq_orders.specs.declared.settings.TrimSettings.{TrimSettings}
 use Rattle.cq_orders.specs.declared.order.Order.{Order}
-use Rattle.cq_orders.specs.declared.order.Order.TheVariants.{Echo, Cycle, Init, Write, Log, Read, Take, Check, Stat, Dump, Salvage, Race, DropBefore, Trim, Migrate}
+use Rattle.cq_orders.specs.declared.order.Order.TheVariants.{Echo, Cycle, Init, Write, Log, Read, Take, TakeBy, Check, Stat, Dump, Salvage, Race, DropBefore, Trim, Migrate, Names}
 
 -- the text is the word that was given under this name
 abbrev pub IsWord : {A : Type 0} → List Row → Text → String A → Type 0
@@ -46,11 +51,44 @@ pub record AreSettings (rows : List Row) (settings : InitSettings) : Type 0 wher
   pub cycles : IsNumber rows (codes "CYCLES") settings.cycles
   pub names : AreWords rows (codes "NAMES") settings.names.items
 
--- the messages that are read are those that were asked for
+-- the form of the first of these flags that is set, and lines without one
+abbrev pub form_of : Bool → Bool → Bool → Bool → ReadForm
+form_of true null hex json = PlainText
+form_of false true hex json = Null
+form_of false false true json = Hex
+form_of false false false true = Json
+form_of false false false false = Line
+
+-- the form is the one that was given. No two are: the command line refuses that
+pub record IsForm (rows : List Row) (form : ReadForm) : Type 0 where
+  pub text : Bool
+  pub null : Bool
+  pub hex : Bool
+  pub json : Bool
+  pub text_is : IsFlag rows (codes "text") text
+  pub null_is : IsFlag rows (codes "null") null
+  pub hex_is : IsFlag rows (codes "hex") hex
+  pub json_is : IsFlag rows (codes "json") json
+  pub form_is : form ≡ form_of text null hex json
+
+-- the messages that are read are those that were asked for, and so is their form
 pub record AreReadSettings (rows : List Row) (settings : ReadSettings) : Type 0 where
+  pub form : IsForm rows settings.form
   pub back : IsFlag rows (codes "back") settings.back
   pub begin : IsOption rows (codes "from") settings.from
   pub limit : IsNumberOption rows (codes "limit") settings.limit
+  pub last : IsNumberOption rows (codes "last") settings.last
+  pub since : IsOption rows (codes "since") settings.since
+  pub until : IsOption rows (codes "until") settings.until
+
+-- messages are taken as it was given
+pub record AreTakeSettings (rows : List Row) (settings : TakeSettings) : Type 0 where
+  pub limit : IsNumberOption rows (codes "limit") settings.limit
+  pub peek : IsFlag rows (codes "peek") settings.peek
+
+-- the settings of a take without options
+abbrev pub no_options : TakeSettings
+no_options = record { limit = None; peek = false }
 
 -- a queue is kept open as it was given
 pub record AreLogSettings (rows : List Row) (settings : LogSettings) : Type 0 where
@@ -65,6 +103,21 @@ pub record AreTrimSettings (rows : List Row) (settings : TrimSettings) : Type 0 
   pub force : IsFlag rows (codes "force") settings.force
   pub dry_run : IsFlag rows (codes "dry-run") settings.dry_run
 
+-- no word was given under this name
+abbrev pub IsAbsent : List Row → Text → Type 0
+IsAbsent rows name = first_of name rows ≡ None
+
+-- with the names of a queue is done what was given, and nothing else was given
+abbrev pub IsNameChange : List Row → NameChange → Type 0
+IsNameChange rows change.List =
+    (first_of (codes "ACTION") rows ≡ Some (codes "list")) × IsAbsent rows (codes "NAME") × IsAbsent rows (codes "at") × IsAbsent rows (codes "to")
+IsNameChange rows (change.Add name at) =
+    (first_of (codes "ACTION") rows ≡ Some (codes "add")) × IsWord rows (codes "NAME") name × IsOption rows (codes "at") at × IsAbsent rows (codes "to")
+IsNameChange rows (change.Remove name) =
+    (first_of (codes "ACTION") rows ≡ Some (codes "remove")) × IsWord rows (codes "NAME") name × IsAbsent rows (codes "at") × IsAbsent rows (codes "to")
+IsNameChange rows (change.Move name to) =
+    (first_of (codes "ACTION") rows ≡ Some (codes "move")) × IsWord rows (codes "NAME") name × IsWord rows (codes "to") to × IsAbsent rows (codes "at")
+
 -- the order's values are those that were given
 abbrev pub TakesValues : List Row → Order → Type 0
 TakesValues rows Echo = ⊤
@@ -74,7 +127,10 @@ TakesValues rows (Init folder settings) = IsWord rows (codes "DIR") folder × Ar
 TakesValues rows (Write folder moment) = IsWord rows (codes "DIR") folder × IsNumber rows (codes "MOMENT") moment
 TakesValues rows (Log folder settings) = IsWord rows (codes "DIR") folder × AreLogSettings rows settings
 TakesValues rows (Read folder settings) = IsWord rows (codes "DIR") folder × AreReadSettings rows settings
-TakesValues rows (Take folder name) = IsWord rows (codes "DIR") folder × IsWord rows (codes "NAME") name
+TakesValues rows (Take folder name) =
+    IsWord rows (codes "DIR") folder × IsWord rows (codes "NAME") name × AreTakeSettings rows no_options
+TakesValues rows (TakeBy folder name settings) = IsWord rows (codes "DIR") folder × IsWord rows (codes "NAME") name
+    × AreTakeSettings rows settings × (settings ≢ no_options)
 TakesValues rows (DropBefore folder cycle) = IsWord rows (codes "DIR") folder × IsNumber rows (codes "CYCLE") cycle
 TakesValues rows (Trim folder settings) = IsWord rows (codes "DIR") folder × AreTrimSettings rows settings
 TakesValues rows (Check folder) = IsWord rows (codes "DIR") folder
@@ -83,3 +139,4 @@ TakesValues rows (Dump folder file) = IsWord rows (codes "DIR") folder × IsWord
 TakesValues rows (Salvage folder file) = IsWord rows (codes "DIR") folder × IsWord rows (codes "FILE") file
 TakesValues rows (Migrate folder) = IsWord rows (codes "DIR") folder
 TakesValues rows (Race messages) = IsNumber rows (codes "MESSAGES") messages
+TakesValues rows (Names folder change) = IsWord rows (codes "DIR") folder × IsNameChange rows change

@@ -1,10 +1,12 @@
 //! The arguments of a command.
+ghost use Rattle.std.specs.Prelude.{◌≡◌, [], false, IfOk};
+ghost use Rattle.clap.specs.Words.{rule_of};
 ghost use Rattle.cq_command_line.specs.CommandLine.{Follows, rule_for};
-ghost use Rattle.cq_command_line.specs.CommandLine.{flag_rule, number_rule, option_between_rule, option_rule, word_rule, words_rule, between_rule};
+ghost use Rattle.cq_command_line.specs.CommandLine.{against, between_rule, flag_rule, number_rule, option_between_rule, option_rule, word_rule, words_rule, maybe_rule};
 
 use clap::builder::ValueParser;
 use clap::{Arg, ArgAction, value_parser};
-use std::alloc::Global;
+use std::alloc::{AllocError, Global};
 
 /// An argument of a command, with its name first and its help last.
 #[derive(Clone, Copy)]
@@ -23,23 +25,48 @@ pub(crate) enum Argument {
     Option(&'static str, &'static str, &'static str),
     /// An option with a number between two others as its value, which may be left out. Help calls the number by the second name.
     OptionBetween(&'static str, &'static str, u64, u64, &'static str),
+    /// A flag that cannot be given with any of these others.
+    FlagAgainst(&'static str, &'static [&'static str], &'static str),
+    /// An option with one word as its value, which cannot be given with any of these others.
+    OptionAgainst(&'static str, &'static str, &'static [&'static str], &'static str),
+    /// An option with a number from 1 to a last one as its value, which cannot be given with any of these others.
+    CountAgainst(&'static str, &'static str, u64, &'static [&'static str], &'static str),
+    /// A word that may be left out, after all others.
+    Maybe(&'static str, &'static str),
 }
 
 /// Returns the argument as a value of `clap`.
-pub(crate) fn arg<'a>(alloc: Global, argument: Argument) -> Arg<'a>
-    ensures { Follows result (rule_for argument) }
+pub(crate) fn arg<'a>(alloc: Global, argument: Argument) -> Result<Arg<'a>, AllocError>
+    ensures { IfOk result (λ arg. Follows arg (rule_for argument)) }
 {
     match argument {
-        Argument::Word(name, help) => word(alloc, name, help),
-        Argument::Number(name, help) => number(alloc, name, help),
-        Argument::Between(name, low, high, help) => between(alloc, name, low, high, help),
-        Argument::Words(name, help) => words(alloc, name, help),
-        Argument::Flag(name, help) => flag(alloc, name, help),
-        Argument::Option(name, value_name, help) => option(alloc, name, value_name, help),
+        Argument::Word(name, help) => Ok(word(alloc, name, help)),
+        Argument::Number(name, help) => Ok(number(alloc, name, help)),
+        Argument::Between(name, low, high, help) => Ok(between(alloc, name, low, high, help)),
+        Argument::Words(name, help) => Ok(words(alloc, name, help)),
+        Argument::Flag(name, help) => Ok(flag(alloc, name, help)),
+        Argument::Option(name, value_name, help) => Ok(option(alloc, name, value_name, help)),
         Argument::OptionBetween(name, value_name, low, high, help) => {
-            option(alloc, name, value_name, help).value_parser(ValueParser::unsigned(low, high))
+            Ok(option_between(alloc, name, value_name, low, high, help))
         }
+        Argument::FlagAgainst(name, others, help) => against(flag(alloc, name, help), others),
+        Argument::OptionAgainst(name, value_name, others, help) => {
+            against(option(alloc, name, value_name, help), others)
+        }
+        Argument::CountAgainst(name, value_name, high, others, help) => against(
+            option_between(alloc, name, value_name, 1, high, help),
+            others,
+        ),
+        Argument::Maybe(name, help) => Ok(maybe(alloc, name, help)),
     }
+}
+
+/// Returns an argument that cannot be given with any of these others.
+fn against<'a>(arg: Arg<'a>, others: &[&'a str]) -> Result<Arg<'a>, AllocError>
+    requires { (arg.conflicts.items ≡ []) × (arg.global ≡ false) }
+    ensures { IfOk result (λ made. Follows made (against others.now (rule_of arg.entry))) }
+{
+    arg.conflicts_with_all(others)
 }
 
 /// Returns an argument that must be given.
@@ -83,6 +110,20 @@ fn flag<'a>(alloc: Global, name: &'a str, help: &'a str) -> Arg<'a>
         .action(ArgAction::SetTrue)
 }
 
+/// Returns an option with a number between two others as its value, which may be left out.
+fn option_between<'a>(
+    alloc: Global,
+    name: &'a str,
+    value_name: &'a str,
+    low: u64,
+    high: u64,
+    help: &'a str,
+) -> Arg<'a>
+    ensures { Follows result (option_between_rule name.entry.now low high) }
+{
+    option(alloc, name, value_name, help).value_parser(ValueParser::unsigned(low, high))
+}
+
 /// Returns an option with one word as its value, which may be left out.
 fn option<'a>(alloc: Global, name: &'a str, value_name: &'a str, help: &'a str) -> Arg<'a>
     ensures { Follows result (option_rule name.entry.now) }
@@ -92,4 +133,11 @@ fn option<'a>(alloc: Global, name: &'a str, value_name: &'a str, help: &'a str) 
         .value_name(value_name)
         .help(help)
         .action(ArgAction::Set)
+}
+
+/// Returns an argument of one word, which may be left out.
+fn maybe<'a>(alloc: Global, name: &'a str, help: &'a str) -> Arg<'a>
+    ensures { Follows result (maybe_rule name.entry.now) }
+{
+    Arg::new(alloc, name).help(help).action(ArgAction::Set)
 }

@@ -1,6 +1,7 @@
 //! The program's commands and their arguments, as `clap` is given them.
 ghost use Rattle.std.specs.Prelude.{IfOk};
-ghost use Rattle.cq_command_line.specs.CommandLine.{Makes, command_line};
+ghost use Rattle.clap.specs.Words.{App};
+ghost use Rattle.cq_command_line.specs.CommandLine.{Makes, care_commands, command_line, message_commands, plain_commands};
 
 use crate::arguments::Argument;
 use crate::commands::{Description, commands};
@@ -11,18 +12,38 @@ use std::alloc::{AllocError, Global};
 pub(crate) fn command_line<'a>(alloc: Global) -> Result<Command<'a>, AllocError>
     ensures { IfOk result (λ command. Makes command command_line) }
 {
-    let below = commands(alloc, COMMANDS)?;
-    Command::new(alloc, "cq")
+    let program = Command::new(alloc, "cq")
         .about("An append journal")
-        .subcommand_required(true)
-        .subcommands(below)
+        .subcommand_required(true);
+    with_care_commands(
+        alloc,
+        with_message_commands(alloc, with_plain_commands(alloc, program)?)?,
+    )
 }
 
-/// The commands that need no folder, and those on a queue that is stored in a folder.
-const COMMANDS: &[Description] = &[
-    ECHO, CYCLE, RACE, INIT, WRITE, LOG, READ, TAKE, DROP, TRIM, CHECK, STAT, DUMP, SALVAGE,
-    MIGRATE,
-];
+/// Adds the commands that need no folder.
+fn with_plain_commands<'a>(alloc: Global, program: Command<'a>) -> Result<Command<'a>, AllocError>
+    ensures { (app : App) → Makes program.entry app → IfOk result (λ made. Makes made (plain_commands app)) }
+{
+    program.subcommands(commands(alloc, &[ECHO, CYCLE, RACE])?)
+}
+
+/// Adds the commands on the messages of a queue that is stored in a folder.
+fn with_message_commands<'a>(alloc: Global, program: Command<'a>) -> Result<Command<'a>, AllocError>
+    ensures { (app : App) → Makes program.entry app → IfOk result (λ made. Makes made (message_commands app)) }
+{
+    program.subcommands(commands(alloc, &[INIT, WRITE, LOG, READ, TAKE])?)
+}
+
+/// Adds the commands that look after such a queue.
+fn with_care_commands<'a>(alloc: Global, program: Command<'a>) -> Result<Command<'a>, AllocError>
+    ensures { (app : App) → Makes program.entry app → IfOk result (λ made. Makes made (care_commands app)) }
+{
+    program.subcommands(commands(
+        alloc,
+        &[DROP, TRIM, CHECK, STAT, DUMP, SALVAGE, MIGRATE, NAME],
+    )?)
+}
 
 const ECHO: Description = Description {
     name: "echo",
@@ -148,7 +169,10 @@ const LOG: Description = Description {
 const READ: Description = Description {
     name: "read",
     about: "Prints the messages in order",
-    after_help: "Example:\n  cq read journal --from 00004e2000000000",
+    after_help: "Without --text, --null, --hex and --json it prints the index, a space and the message, on a line.\n\
+     W is an index of 16 lower-case hexadecimal digits; '@' and the milliseconds of Unix time of a moment,\n\
+     or the name of a cycle, as 20241004, which both mean the first index of their cycle.\n\n\
+     Examples:\n  cq read journal --from 00004e2000000000\n  cq read journal --since 20241004 --json",
     arguments: &[
         FOLDER,
         Argument::Flag("back", "From the end on, towards the first message"),
@@ -164,18 +188,65 @@ const READ: Description = Description {
             4_294_967_295,
             "Prints the first N of these messages, and no more",
         ),
+        Argument::CountAgainst(
+            "last",
+            "N",
+            4_294_967_295,
+            &["back", "from", "limit"],
+            "Prints the last N messages, in order. Not with --back, --from and --limit",
+        ),
+        Argument::OptionAgainst(
+            "since",
+            "W",
+            &["from"],
+            "Prints messages at or above W alone. Not with --from",
+        ),
+        Argument::Option("until", "W", "Prints messages below W alone"),
+        Argument::FlagAgainst(
+            "text",
+            &["null", "hex", "json"],
+            "Prints the message alone, on a line",
+        ),
+        Argument::FlagAgainst(
+            "null",
+            &["hex", "json"],
+            "Prints the message alone, and a byte 0 after it, as 'xargs -0' and 'sort -z' read it",
+        ),
+        Argument::FlagAgainst(
+            "hex",
+            &["json"],
+            "Prints the index, a space and the bytes in hexadecimal digits, on a line",
+        ),
+        Argument::Flag(
+            "json",
+            "Prints an object of JSON, on a line: 'index', 'cycle', 'sequence', and 'text', or 'base64' if\n\
+             the message is not UTF-8",
+        ),
     ],
 };
 
 const TAKE: Description = Description {
     name: "take",
     about: "Prints the next message of a tailer, and moves the tailer behind it",
-    after_help: "Example:\n  cq take journal reader",
+    after_help: "With an option it prints nothing where no message has come, and its status is 4 then. Without one it\n\
+     prints 'not yet'.\n\n\
+     Example:\n  cq take journal reader\n  while cq take journal reader --limit 100; do :; done",
     arguments: &[
         FOLDER,
         Argument::Word(
             "NAME",
             "The name of the tailer: one of the NAMES that the queue was made with",
+        ),
+        Argument::OptionBetween(
+            "limit",
+            "N",
+            1,
+            4_294_967_295,
+            "Takes the next N messages at once, or as many as have come",
+        ),
+        Argument::Flag(
+            "peek",
+            "Prints what it would take, and does not move the tailer",
         ),
     ],
 };
@@ -266,6 +337,29 @@ const MIGRATE: Description = Description {
      as it is. CELLS + 3 is to be at most 1,048,576, and CYCLES * (CELLS + 3) at most 4,194,304.\n\n\
      Example:\n  cq migrate journal",
     arguments: &[FOLDER],
+};
+
+const NAME: Description = Description {
+    name: "name",
+    about: "Prints the names of the tailers with their positions, adds and removes names, and moves them",
+    after_help: "'list' prints a line for each name: NAME and its position. 'add NAME' adds a name at W of --at, and\n\
+     without it at the end of the queue, so that it starts with the message that comes next. With\n\
+     --at 0000000000000000 it starts from the beginning. 'remove NAME' removes a name with its position.\n\
+     'move NAME --to W' moves a name. These three print the line of NAME.\n\
+     W is an index of 16 lower-case hexadecimal digits; or '@' and the milliseconds of Unix time of a\n\
+     moment, or the name of a cycle, as 20241004, which both mean the first index of their cycle. It is at\n\
+     most the end of the queue.\n\n\
+     Example:\n  cq name journal add reader --at 20241004",
+    arguments: &[
+        FOLDER,
+        Argument::Word("ACTION", "What is done: list, add, remove or move"),
+        Argument::Maybe(
+            "NAME",
+            "The name of a tailer: 1 to 32 bytes of A-Z, a-z, 0-9, '_', '-' and '.', and at most 16 names",
+        ),
+        Argument::Option("at", "W", "With 'add': the position of NAME"),
+        Argument::Option("to", "W", "With 'move': the position of NAME"),
+    ],
 };
 
 /// The folder of a queue.

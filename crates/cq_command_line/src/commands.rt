@@ -59,7 +59,7 @@ fn with_arguments<'a>(
     ensures { (app : App) → Makes command.entry app → IfOk result (λ made. Makes made (with_arguments app arguments.now)) }
 {
     for argument in arguments {
-        command = command.arg(arg(alloc, *argument))?;
+        command = command.arg(arg(alloc, *argument)?)?;
     }
     Ok(command)
 }

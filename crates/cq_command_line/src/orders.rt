@@ -1,11 +1,14 @@
 //! Makes an order from what `clap` found in the words.
-ghost use Rattle.std.specs.Prelude.{◌≡◌, [], ◌∷◌, List, map, option_map, codes, string_bytes, IfOk, IfSome, Ok, Some};
+ghost use Rattle.std.specs.Prelude.{◌≡◌, [], ◌∷◌, List, map, option_map, codes, string_bytes, IfOk, IfSome, IsSomeAnd, None, Ok, Some};
 ghost use Rattle.clap.specs.Words.{found_of, rows_of, subcommand_rows_of};
 ghost use Rattle.cq_command_line.specs.CommandLine.{word_of};
-ghost use Rattle.cq_command_line.specs.OrderValues.{AreLogSettings, AreReadSettings, AreSettings, AreTrimSettings, AreWords, IsFlag, IsNumber, IsNumberOption, IsOption, IsWord, TakesValues};
+ghost use Rattle.cq_command_line.specs.OrderValues.{AreLogSettings, AreReadSettings, AreSettings, AreTakeSettings, AreTrimSettings, AreWords, IsFlag, IsForm, IsNameChange, IsNumber, IsNumberOption, IsOption, IsWord, TakesValues, form_of};
 
 use clap::ArgMatches;
-use cq_orders::{InitSettings, LogSettings, Order, ReadSettings, TrimSettings};
+use cq_orders::{
+    InitSettings, LogSettings, NameChange, Order, ReadForm, ReadSettings, TakeSettings,
+    TrimSettings,
+};
 use std::alloc::{AllocError, Global};
 
 /// Why what was found is no order.
@@ -15,6 +18,8 @@ pub(crate) enum OrderFault {
     OutOfMemory,
     /// No command was found, or a value that its order needs is missing.
     NoOrder,
+    /// The command `name` was found, with other words than one of its actions takes.
+    NoAction,
 }
 
 impl From<AllocError> for OrderFault {
@@ -59,6 +64,7 @@ fn order_named(alloc: Global, name: &str, values: &ArgMatches<'_>) -> Result<Ord
         "salvage" => salvage_order(alloc, values),
         "migrate" => migrate_order(alloc, values),
         "race" => race_order(values),
+        "name" => names_order(alloc, values),
         _ => Err(OrderFault::NoOrder),
     }
 }
@@ -145,19 +151,67 @@ fn read_settings(alloc: Global, values: &ArgMatches<'_>) -> Result<ReadSettings,
     ensures { IfOk result (λ settings. AreReadSettings (rows_of (found_of values.now)) settings) }
 {
     Ok(ReadSettings {
+        form: form(values),
         back: flag(values, "back"),
         from: option(alloc, values, "from")?,
         limit: number_option(values, "limit")?,
+        last: number_option(values, "last")?,
+        since: option(alloc, values, "since")?,
+        until: option(alloc, values, "until")?,
     })
+}
+
+/// Returns in which form messages are printed.
+fn form(values: &ArgMatches<'_>) -> ReadForm
+    ensures { IsForm (rows_of (found_of values.now)) result }
+{
+    form_of(
+        flag(values, "text"),
+        flag(values, "null"),
+        flag(values, "hex"),
+        flag(values, "json"),
+    )
+}
+
+/// Returns the form of the first of these flags that is set, and lines if none is.
+fn form_of(text: bool, null: bool, hex: bool, json: bool) -> ReadForm
+    ensures { result ≡ form_of text null hex json }
+{
+    match (text, null, hex, json) {
+        (true, _, _, _) => ReadForm::Text,
+        (false, true, _, _) => ReadForm::Null,
+        (false, false, true, _) => ReadForm::Hex,
+        (false, false, false, true) => ReadForm::Json,
+        (false, false, false, false) => ReadForm::Line,
+    }
 }
 
 fn take_order(alloc: Global, values: &ArgMatches<'_>) -> Result<Order, OrderFault>
     ensures named { IfOk result (λ order. word_of order ≡ codes "take") }
     ensures values { IfOk result (λ order. TakesValues (rows_of (found_of values.now)) order) }
 {
-    Ok(Order::Take {
-        folder: word(alloc, values, "DIR")?,
-        name: word(alloc, values, "NAME")?,
+    let folder = word(alloc, values, "DIR")?;
+    let name = word(alloc, values, "NAME")?;
+    match take_settings(values)? {
+        TakeSettings {
+            limit: None,
+            peek: false,
+        } => Ok(Order::Take { folder, name }),
+        settings => Ok(Order::TakeBy {
+            folder,
+            name,
+            settings,
+        }),
+    }
+}
+
+/// Returns which messages are taken.
+fn take_settings(values: &ArgMatches<'_>) -> Result<TakeSettings, OrderFault>
+    ensures { IfOk result (λ settings. AreTakeSettings (rows_of (found_of values.now)) settings) }
+{
+    Ok(TakeSettings {
+        limit: number_option(values, "limit")?,
+        peek: flag(values, "peek"),
     })
 }
 
@@ -248,6 +302,89 @@ fn race_order(values: &ArgMatches<'_>) -> Result<Order, OrderFault>
     match u32::try_from(number(values, "MESSAGES")?) {
         Ok(messages) => Ok(Order::Race { messages }),
         Err(_) => Err(OrderFault::NoOrder),
+    }
+}
+
+fn names_order(alloc: Global, values: &ArgMatches<'_>) -> Result<Order, OrderFault>
+    ensures named { IfOk result (λ order. word_of order ≡ codes "name") }
+    ensures values { IfOk result (λ order. TakesValues (rows_of (found_of values.now)) order) }
+{
+    Ok(Order::Names {
+        folder: word(alloc, values, "DIR")?,
+        change: name_change(alloc, values)?,
+    })
+}
+
+/// Returns what is done with the names of a queue.
+fn name_change(alloc: Global, values: &ArgMatches<'_>) -> Result<NameChange, OrderFault>
+    ensures { IfOk result (IsNameChange (rows_of (found_of values.now))) }
+{
+    let action = word(alloc, values, "ACTION")?;
+    let name = option(alloc, values, "NAME")?;
+    let at = option(alloc, values, "at")?;
+    let to = option(alloc, values, "to")?;
+    match action.as_str() {
+        "list" => listing(name, at, to),
+        "add" => adding(name, at, to),
+        "remove" => removing(name, at, to),
+        "move" => moving(name, at, to),
+        _ => Err(OrderFault::NoAction),
+    }
+}
+
+/// Returns the change that lists the names, if nothing else was given.
+fn listing(
+    name: Option<String>,
+    at: Option<String>,
+    to: Option<String>,
+) -> Result<NameChange, OrderFault>
+    ensures { IfOk result (λ change. (change ≡ NameChange.List) × (name ≡ None) × (at ≡ None) × (to ≡ None)) }
+{
+    match (name, at, to) {
+        (None, None, None) => Ok(NameChange::List),
+        _ => Err(OrderFault::NoAction),
+    }
+}
+
+/// Returns the change that adds a name, if one was given.
+fn adding(
+    name: Option<String>,
+    at: Option<String>,
+    to: Option<String>,
+) -> Result<NameChange, OrderFault>
+    ensures { IfOk result (λ change. IsSomeAnd name (λ given. change ≡ NameChange.Add given at) × (to ≡ None)) }
+{
+    match (name, to) {
+        (Some(name), None) => Ok(NameChange::Add { name, at }),
+        _ => Err(OrderFault::NoAction),
+    }
+}
+
+/// Returns the change that removes a name, if one was given.
+fn removing(
+    name: Option<String>,
+    at: Option<String>,
+    to: Option<String>,
+) -> Result<NameChange, OrderFault>
+    ensures { IfOk result (λ change. IsSomeAnd name (λ given. change ≡ NameChange.Remove given) × (at ≡ None) × (to ≡ None)) }
+{
+    match (name, at, to) {
+        (Some(name), None, None) => Ok(NameChange::Remove { name }),
+        _ => Err(OrderFault::NoAction),
+    }
+}
+
+/// Returns the change that moves a name, if one was given with a position.
+fn moving(
+    name: Option<String>,
+    at: Option<String>,
+    to: Option<String>,
+) -> Result<NameChange, OrderFault>
+    ensures { IfOk result (λ change. IsSomeAnd name (λ given. IsSomeAnd to (λ word. change ≡ NameChange.Move given word)) × (at ≡ None)) }
+{
+    match (name, at, to) {
+        (Some(name), None, Some(to)) => Ok(NameChange::Move { name, to }),
+        _ => Err(OrderFault::NoAction),
     }
 }
 

@@ -12,6 +12,10 @@ use clap::{Command, Error};
 use cq_orders::Order;
 use std::alloc::{AllocError, Global};
 
+/// What is said of `name` with other words than its actions take.
+const NO_ACTION: &str =
+    "name: after DIR give one of 'list', 'add NAME [--at W]', 'remove NAME' and 'move NAME --to W'";
+
 /// Why the words of a command line are no order.
 #[derive(Debug, Drop)]
 pub enum ParseFault {
@@ -90,6 +94,11 @@ fn order_in<'a>(
         Err(OrderFault::NoOrder) => Err(
             command
                 .error(ErrorKind::InvalidSubcommand, "unknown command")?
+                .into(),
+        ),
+        Err(OrderFault::NoAction) => Err(
+            command
+                .error(ErrorKind::InvalidSubcommand, NO_ACTION)?
                 .into(),
         ),
     }

@@ -16,7 +16,8 @@ use Rattle.cq_files.specs.declared.opening.CycleImage.{CycleImage}
 use Rattle.cq_files.specs.declared.opening.SavedQueue.{SavedQueue}
 use Rattle.cq_files.specs.FolderFaults.{IsSaveFault}
 pub use Rattle.cq_files.specs.Openable.{HoldOpenable, HoldsBadContents, IsOpenFault}
-use Rattle.cq_commands.specs.Messages.{IsReadOut, IsReadStart}
+use Rattle.cq_commands.specs.Messages.{IsReadOut, IsReadStart, IsSince}
+use Rattle.cq_points.specs.Points.{IsPointFault}
 use Rattle.cq_text.specs.declared.fault.ToolFault.{ToolFault}
 use Rattle.cq_text.specs.declared.fault.ToolFault.TheVariants.{OutOfMemory, Refused, WriteFault, BadIndex, NoSuchName}
 use Rattle.cq_commands.specs.Saving.{TellsConfig}
@@ -48,11 +49,31 @@ IsRollFault settings last count cycle lines fault = (fault ≡ OutOfMemory)
 abbrev pub IsNoIndex : List ℕ → Type 0
 IsNoIndex word = (index : ℕ) → index < 2 ^ 64 → word ≢ index_text index
 
--- why messages are not read: the word is no index; else the queue is not opened; else the lines are not written
+-- why a word means no index. Without a word there is no fault
+abbrev pub IsBoundFault : Settings → Option (List ℕ) → ToolFault → Type 0
+IsBoundFault settings None fault = ⊥
+IsBoundFault settings (Some word) fault = IsPointFault settings.roll settings.epoch word fault
+
+-- why it is not known between which indexes messages are read: the first word means none, or it does, and the other means none
+abbrev pub IsBoundsFault : Settings → ReadSettings → ToolFault → Type 0
+IsBoundsFault settings wanted fault = IsBoundFault settings (option_map string_bytes wanted.since) fault
+    ⊎ (((since : ℕ) × IsSince settings wanted since) × IsBoundFault settings (option_map string_bytes wanted.until) fault)
+
+-- why a queue that was opened is not read: a word means no index in it
+pub record RefusesBounds (settings : ReadSettings) (files : Files) (fault : ToolFault) : Type 0 where
+  pub queue : SavedQueue
+  pub opened : HoldOpenable queue files
+  pub start : ℕ
+  pub start_is : IsReadStart settings start
+  pub cause : IsBoundsFault queue.config settings fault
+
+-- why messages are not read: `from` is no index; else the queue is not opened; else `since` or `until` means no index; else
+-- the text is not written
 abbrev pub IsReadFault : ReadSettings → Files → ToolFault → Type 0
 IsReadFault settings files fault = ((fault ≡ BadIndex) × IsSomeAnd (option_map string_bytes settings.from) IsNoIndex)
     ⊎ (((start : ℕ) × IsReadStart settings start × IsOpenFault files fault)
-    ⊎ ((fault ≡ WriteFault) × ((text : List ℕ) × IsReadOut settings (Some files) text)))
+    ⊎ (RefusesBounds settings files fault
+    ⊎ ((fault ≡ WriteFault) × ((text : List ℕ) × IsReadOut settings (Some files) text))))
 
 -- memory ran out, or no such name is declared
 abbrev pub IsNameFault : Settings → List ℕ → ToolFault → Type 0

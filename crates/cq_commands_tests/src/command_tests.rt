@@ -7,7 +7,7 @@ use crate::steps::{AFTER_HELLO, AT_START, WRITES_HELLO_WORLD, expect, push_said,
 use crate::streams::{Said, said};
 use crate::word_tests::words_of;
 use cq_command_line::parse;
-use cq_commands::{Order, run};
+use cq_commands::{Order, run, take_by};
 use cq_fixtures::{DAY, expect_answer};
 use cq_folder::{Folder, MemoryFolder};
 use std::alloc::Global;
@@ -171,9 +171,17 @@ fn ran<F: Folder>(alloc: Global, folder: &mut F, order: &Order) -> Said {
     let mut output = Vec::new(alloc);
     let mut rest: &[u8] = b"hello\n";
     let done = match order {
-        Order::Race { messages: _ } | Order::Log { .. } | Order::Trim { .. } => {
+        Order::Race { messages: _ }
+        | Order::Log { .. }
+        | Order::Trim { .. }
+        | Order::Names { .. } => {
             return Ok(String::from_str(alloc, "not run here")?);
         }
+        Order::TakeBy {
+            folder: _,
+            name,
+            settings,
+        } => take_by(alloc, folder, name.as_str(), settings, &mut output).map(|_| ()),
         _ => run(alloc, order, folder, &mut rest, &mut output),
     };
     said(alloc, done, &output)
@@ -220,10 +228,12 @@ static ORDERS: [(&[Step], &str, &str); 5] = [
 const HELLO: &[Step] = &[Queue(4), Write(DAY, b"hello\n")];
 
 /// The arguments of commands over that queue, in which they change no image, and what they say.
-static OVER_HELLO: [(&str, &str); 10] = [
+static OVER_HELLO: [(&str, &str); 12] = [
     ("cq|read|q", "0000000100000000 hello\n"),
     ("cq|read|q|--back|--from|0000000100000000", ""),
     ("cq|take|q|reader", "0000000100000000 hello\n"),
+    ("cq|take|q|reader|--limit|2", "0000000100000000 hello\n"),
+    ("cq|take|q|reader|--peek", "0000000100000000 hello\n"),
     ("cq|drop|q|1", "1\n"),
     ("cq|check|q", "19700102.cqi: 1 messages, open\n"),
     (

@@ -19,6 +19,8 @@ mod falling_tests;
 #[cfg(test)]
 mod fault_tests;
 #[cfg(test)]
+mod form_tests;
+#[cfg(test)]
 mod images;
 #[cfg(test)]
 mod limit_tests;
@@ -31,11 +33,15 @@ mod pair_tests;
 #[cfg(test)]
 mod race_tests;
 #[cfg(test)]
+mod reading_tests;
+#[cfg(test)]
 mod salvage_tests;
 #[cfg(test)]
 mod steps;
 #[cfg(test)]
 mod streams;
+#[cfg(test)]
+mod take_by_tests;
 #[cfg(test)]
 mod take_tests;
 #[cfg(test)]

@@ -3,7 +3,7 @@ use crate::command_tests::order_of;
 use crate::steps::{Step, said_by};
 use crate::streams::{Said, said};
 use crate::watched::{WatchedFolder, WatchedInput, WatchedOutput};
-use cq_commands::{Order, run};
+use cq_commands::{Order, run, take_by};
 use cq_fixtures::{expect_text, push_missed};
 use cq_folder::Folder;
 use std::alloc::Global;
@@ -27,9 +27,17 @@ fn said_outside(
         is_entered,
     };
     let done = match order {
-        Order::Race { messages: _ } | Order::Log { .. } | Order::Trim { .. } => {
+        Order::Race { messages: _ }
+        | Order::Log { .. }
+        | Order::Trim { .. }
+        | Order::Names { .. } => {
             return Ok(String::from_str(alloc, "not run here")?);
         }
+        Order::TakeBy {
+            folder: _,
+            name,
+            settings,
+        } => take_by(alloc, folder, name.as_str(), settings, &mut output).map(|_| ()),
         _ => run(alloc, order, folder, &mut input, &mut output),
     };
     // As the program lets its folder go.
@@ -64,7 +72,7 @@ fn expect_outside(alloc: Global, before: &[Step], table: &[Row]) -> Result<(), F
 }
 
 /// Each command that uses a folder.
-static COMMANDS: [Row; 15] = [
+static COMMANDS: [Row; 19] = [
     ("cq|init|D|daily|0|64|8|1|4|reader", b"", ""),
     ("cq|write|D|0", b"", ""),
     (
@@ -79,9 +87,17 @@ static COMMANDS: [Row; 15] = [
         "0000000000000000 a\n0000000000000001 b\n0000000100000000 c\n",
     ),
     ("cq|take|D|reader", b"", "0000000000000000 a\n"),
+    (
+        "cq|take|D|reader|--peek|--limit|2",
+        b"",
+        "0000000000000001 b\n0000000100000000 c\n",
+    ),
+    ("cq|take|D|reader|--limit|1", b"", "0000000000000001 b\n"),
     ("cq|drop|D|1", b"", "1\n"),
     ("cq|take|D|reader", b"", "0000000100000000 c\n"),
     ("cq|take|D|reader", b"", "not yet\n"),
+    ("cq|take|D|reader|--limit|1", b"", ""),
+    ("cq|take|D|reader|--peek", b"", ""),
     (
         "cq|check|D",
         b"",

@@ -2,9 +2,9 @@
 //! is reported.
 use crate::images::ENDED;
 use crate::steps::Step::{
-    self, BackFrom, Drop, Fill, Images, Init, Migrate, OldCells, OldQueue, Patch, Put, PutConfig,
-    Queue, Read, ReadFrom, Take, UnprintedCheck, UnprintedDump, UnprintedRead, UnprintedTake,
-    UnprintedWrite, Write, WriteBroken, WriteEmpty,
+    self, BackFrom, Drop, Fill, Images, Init, Migrate, OldCells, OldQueue, Patch, Peek, Put,
+    PutConfig, Queue, Read, ReadFrom, Take, TakeUpTo, UnprintedCheck, UnprintedDump, UnprintedPeek,
+    UnprintedRead, UnprintedTake, UnprintedTakeTwo, UnprintedWrite, Write, WriteBroken, WriteEmpty,
 };
 use crate::steps::{BAD_CELLS_AND_CYCLES, BAD_CYCLES, OVER, said_at, said_by};
 use crate::streams::Said;
@@ -187,17 +187,23 @@ const TOO_MANY: &[Step] = &[Queue(1), Images(&[ENDED, b""])];
 const OLD_TOO_MANY: &[Step] = &[OldQueue(1), Images(&[ENDED, b""])];
 
 /// Of `read` and `take`.
-static READ: [Pair; 6] = [
+static READ: [Pair; 12] = [
     (&[], 1, ReadFrom("x"), "cq: BadIndex"),
     (TOO_MANY, 0, BackFrom("x"), "cq: BadIndex"),
     (TOO_MANY, 0, UnprintedRead, "cq: BadContents"),
     (TOO_MANY, 0, Take("none"), "cq: BadContents"),
     (BEGUN, 5, Take("none"), "cq: NoSuchName"),
     (BEGUN, 5, UnprintedTake, "cq: file fault: queue.cqc"),
+    (TOO_MANY, 0, TakeUpTo("none", 0), "cq: BadContents"),
+    (BEGUN, 5, TakeUpTo("none", 0), "cq: NoSuchName"),
+    (BEGUN, 5, UnprintedTakeTwo, "cq: file fault: queue.cqc"),
+    (TOO_MANY, 0, Peek("none", None), "cq: BadContents"),
+    (BEGUN, 5, Peek("none", Some(0)), "cq: NoSuchName"),
+    (BEGUN, 5, UnprintedPeek, "cq: write fault"),
 ];
 
 /// Of a folder of version 1 that is to be changed: of `queue.cqc` before its version, and of all else after it.
-static CHANGE: [Pair; 9] = [
+static CHANGE: [Pair; 10] = [
     (&[OLD], 2, Write(0, b"a\n"), "cq: folder fault"),
     (&[OLD], 3, Take("reader"), "cq: file fault: queue.cqc"),
     (&[OLD, BAD_LINE], 0, Drop(0), "cq: queue.cqc: line 2"),
@@ -209,6 +215,12 @@ static CHANGE: [Pair; 9] = [
         "cq: OldVersion",
     ),
     (&[OLD, FAULTY_FIRST], 4, Take("none"), "cq: OldVersion"),
+    (
+        &[OLD, FAULTY_FIRST],
+        4,
+        TakeUpTo("none", 0),
+        "cq: OldVersion",
+    ),
     (&[OLD, ENDED_FIRST], 0, Drop(0), "cq: OldVersion"),
     (OLD_TOO_MANY, 0, WriteBroken(u64::MAX, 0), "cq: OldVersion"),
     (&[OLD], 0, WriteEmpty(0, OVER), "cq: OldVersion"),

@@ -4,8 +4,8 @@
 //! make all their calls of it, and save it.
 use crate::streams::{Broken, BrokenAfter, Said, said};
 use cq_commands::{
-    InitSettings, ReadSettings, ToolFault, check, drop_before, dump, init, migrate, read, salvage,
-    take, write,
+    InitSettings, ReadForm, ReadSettings, TakeSettings, Took, ToolFault, check, drop_before, dump,
+    init, migrate, read, salvage, take, take_by, write,
 };
 use cq_fixtures::{DAY, expect_answer, expect_text, push_missed};
 use cq_folder::{Access, FailingFolder, Folder, FolderFault, MemoryFolder};
@@ -46,6 +46,10 @@ pub enum Step {
     UnprintedRead,
     /// `take` under the name "reader" with such a writer.
     UnprintedTake,
+    /// `take --limit 2` under it with such a writer.
+    UnprintedTakeTwo,
+    /// `take --peek` under it with such a writer.
+    UnprintedPeek,
     /// `check` with such a writer.
     UnprintedCheck,
     /// `dump` of a file with such a writer.
@@ -62,6 +66,10 @@ pub enum Step {
     Limited(bool, Option<&'static str>, u64),
     /// `take` under a name.
     Take(&'static str),
+    /// `take` under a name of at most this many messages, which says if there was nothing.
+    TakeUpTo(&'static str, u64),
+    /// `take --peek` under a name, with a limit if one is given, which says if there was nothing.
+    Peek(&'static str, Option<u64>),
     /// `drop` of the cycles before one.
     Drop(u64),
     /// `check`.
@@ -172,6 +180,10 @@ pub fn said_at<F: Folder>(alloc: Global, folder: &mut F, step: &Step) -> Said {
         Step::UnprintedWrite => unprinted(alloc, folder, &Step::Write(0, b"a\n")),
         Step::UnprintedRead => unprinted(alloc, folder, &Step::Read),
         Step::UnprintedTake => unprinted(alloc, folder, &Step::Take("reader")),
+        Step::UnprintedTakeTwo => unprinted(alloc, folder, &Step::TakeUpTo("reader", 2)),
+        Step::UnprintedPeek => unprinted(alloc, folder, &Step::Peek("reader", None)),
+        Step::TakeUpTo(name, limit) => took(alloc, folder, name, Some(limit), false),
+        Step::Peek(name, limit) => took(alloc, folder, name, limit, true),
         Step::UnprintedCheck => unprinted(alloc, folder, &Step::Check),
         Step::UnprintedDump(file) => unprinted(alloc, folder, &Step::Dump(file)),
         Step::WriteDays(days) => written_each_day(alloc, folder, days),
@@ -225,6 +237,20 @@ fn run_step<F: Folder, W: Write>(
             read_lines(alloc, folder, (back, from, Some(limit)), output)
         }
         Step::Take(name) => take(alloc, folder, name, output),
+        Step::TakeUpTo(name, limit) => {
+            take_by(
+                alloc,
+                folder,
+                name,
+                &settings_of(Some(limit), false),
+                output,
+            )?;
+            Ok(())
+        }
+        Step::Peek(name, limit) => {
+            take_by(alloc, folder, name, &settings_of(limit, true), output)?;
+            Ok(())
+        }
         Step::Drop(cycle) => drop_before(alloc, folder, cycle, output),
         Step::Check => check(alloc, folder, output),
         Step::Dump(file) => dump(alloc, folder, file, output),
@@ -245,8 +271,40 @@ fn read_lines<F: Folder, W: Write>(
         None => None,
         Some(word) => Some(String::from_str(alloc, word)?),
     };
-    let settings = ReadSettings { back, from, limit };
+    let settings = ReadSettings {
+        form: ReadForm::Line,
+        back,
+        from,
+        limit,
+        last: None,
+        since: None,
+        until: None,
+    };
     read(alloc, folder, &settings, output)
+}
+
+/// The settings of a `take` with options.
+fn settings_of(limit: Option<u64>, peek: bool) -> TakeSettings {
+    TakeSettings { limit, peek }
+}
+
+/// What a `take` with options says: what it wrote, "nothing" if it found nothing, and the text of its fault.
+fn took<F: Folder>(
+    alloc: Global,
+    folder: &mut F,
+    name: &str,
+    limit: Option<u64>,
+    peek: bool,
+) -> Said {
+    let mut output = Vec::new(alloc);
+    match take_by(alloc, folder, name, &settings_of(limit, peek), &mut output) {
+        Ok(Took::Messages) => said(alloc, Ok(()), &output),
+        Ok(Took::Nothing) => {
+            output.extend_from_slice(b"nothing")?;
+            said(alloc, Ok(()), &output)
+        }
+        Err(fault) => said(alloc, Err(fault), &output),
+    }
 }
 
 /// Writes the lines of an input at a moment.

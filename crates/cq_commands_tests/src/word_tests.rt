@@ -139,46 +139,46 @@ fn parses_words(rt: HostRuntime) -> Result<(), Fail> {
 }
 
 /// Arguments of `read`, each line with what it is.
-static READERS: [(&str, &str); 20] = [
+static READERS: [(&str, &str); 38] = [
     (
         "cq|read|q",
-        "Read { folder: \"q\", settings: ReadSettings { back: false, from: None, limit: None } }",
+        "Read { folder: \"q\", settings: ReadSettings { form: Line, back: false, from: None, limit: None, last: None, since: None, until: None } }",
     ),
     (
         "cq|read|q|--back",
-        "Read { folder: \"q\", settings: ReadSettings { back: true, from: None, limit: None } }",
+        "Read { folder: \"q\", settings: ReadSettings { form: Line, back: true, from: None, limit: None, last: None, since: None, until: None } }",
     ),
     (
         "cq|read|--back|q",
-        "Read { folder: \"q\", settings: ReadSettings { back: true, from: None, limit: None } }",
+        "Read { folder: \"q\", settings: ReadSettings { form: Line, back: true, from: None, limit: None, last: None, since: None, until: None } }",
     ),
     (
         "cq|read|q|--from|0000000100000002",
-        "Read { folder: \"q\", settings: ReadSettings { back: false, from: Some(\"0000000100000002\"), limit: None } }",
+        "Read { folder: \"q\", settings: ReadSettings { form: Line, back: false, from: Some(\"0000000100000002\"), limit: None, last: None, since: None, until: None } }",
     ),
     (
         "cq|read|--from|q|r",
-        "Read { folder: \"r\", settings: ReadSettings { back: false, from: Some(\"q\"), limit: None } }",
+        "Read { folder: \"r\", settings: ReadSettings { form: Line, back: false, from: Some(\"q\"), limit: None, last: None, since: None, until: None } }",
     ),
     (
         "cq|read|q|--back|--from|no index",
-        "Read { folder: \"q\", settings: ReadSettings { back: true, from: Some(\"no index\"), limit: None } }",
+        "Read { folder: \"q\", settings: ReadSettings { form: Line, back: true, from: Some(\"no index\"), limit: None, last: None, since: None, until: None } }",
     ),
     (
         "cq|read|--from=|q|--back",
-        "Read { folder: \"q\", settings: ReadSettings { back: true, from: Some(\"\"), limit: None } }",
+        "Read { folder: \"q\", settings: ReadSettings { form: Line, back: true, from: Some(\"\"), limit: None, last: None, since: None, until: None } }",
     ),
     (
         "cq|read|--back|--from|7|q",
-        "Read { folder: \"q\", settings: ReadSettings { back: true, from: Some(\"7\"), limit: None } }",
+        "Read { folder: \"q\", settings: ReadSettings { form: Line, back: true, from: Some(\"7\"), limit: None, last: None, since: None, until: None } }",
     ),
     (
         "cq|read|--limit|10|q",
-        "Read { folder: \"q\", settings: ReadSettings { back: false, from: None, limit: Some(10) } }",
+        "Read { folder: \"q\", settings: ReadSettings { form: Line, back: false, from: None, limit: Some(10), last: None, since: None, until: None } }",
     ),
     (
         "cq|read|q|--back|--limit=4294967295|--from|7",
-        "Read { folder: \"q\", settings: ReadSettings { back: true, from: Some(\"7\"), limit: Some(4294967295) } }",
+        "Read { folder: \"q\", settings: ReadSettings { form: Line, back: true, from: Some(\"7\"), limit: Some(4294967295), last: None, since: None, until: None } }",
     ),
     (
         "cq|read|q|--limit|0",
@@ -210,6 +210,63 @@ static READERS: [(&str, &str); 20] = [
         "cq|read|q|--back=yes",
         "unexpected value 'yes' for '--back'",
     ),
+    ("cq|read|q|--text", "settings: ReadSettings { form: Text, "),
+    ("cq|read|--null|q", "settings: ReadSettings { form: Null, "),
+    (
+        "cq|read|q|--hex|--back",
+        "settings: ReadSettings { form: Hex, back: true, ",
+    ),
+    ("cq|read|q|--json", "settings: ReadSettings { form: Json, "),
+    (
+        "cq|read|q|--last|3|--until|20241004|--since=@0",
+        "limit: None, last: Some(3), since: Some(\"@0\"), until: Some(\"20241004\") }",
+    ),
+    (
+        "cq|read|q|--since|7|--until|8|--back|--limit|1|--text",
+        "Read { folder: \"q\", settings: ReadSettings { form: Text, back: true, from: None, limit: Some(1), last: None, since: Some(\"7\"), until: Some(\"8\") } }",
+    ),
+    (
+        "cq|read|q|--text|--null",
+        "the argument '--text' cannot be used with '--null'",
+    ),
+    (
+        "cq|read|q|--hex|--text",
+        "the argument '--hex' cannot be used with '--text'",
+    ),
+    (
+        "cq|read|q|--text|--json",
+        "the argument '--text' cannot be used with '--json'",
+    ),
+    (
+        "cq|read|q|--null|--hex",
+        "the argument '--null' cannot be used with '--hex'",
+    ),
+    (
+        "cq|read|q|--json|--null",
+        "the argument '--json' cannot be used with '--null'",
+    ),
+    (
+        "cq|read|q|--hex|--json",
+        "the argument '--hex' cannot be used with '--json'",
+    ),
+    (
+        "cq|read|q|--last|1|--back",
+        "the argument '--last <N>' cannot be used with '--back'",
+    ),
+    (
+        "cq|read|q|--from|7|--last|1",
+        "the argument '--from <INDEX>' cannot be used with '--last <N>'",
+    ),
+    (
+        "cq|read|q|--last|1|--limit|1",
+        "the argument '--last <N>' cannot be used with '--limit <N>'",
+    ),
+    (
+        "cq|read|q|--since|7|--from|7",
+        "the argument '--since <W>' cannot be used with '--from <INDEX>'",
+    ),
+    ("cq|read|q|--last|0", "invalid value '0' for '--last <N>'"),
+    ("cq|read|q|--until", "a value is required for '--until <W>'"),
     ("cq|read|q|--forth", "unexpected argument '--forth'"),
 ];
 
@@ -219,7 +276,7 @@ fn parses_the_words_of_a_reader(rt: HostRuntime) -> Result<(), Fail> {
 }
 
 /// Arguments of the other commands on a folder, each line with what it is.
-static OTHERS: [(&str, &str); 56] = [
+static OTHERS: [(&str, &str); 77] = [
     (
         "cq|write|q|18446744073709551615",
         "Write { folder: \"q\", moment: 18446744073709551615 }",
@@ -266,7 +323,27 @@ static OTHERS: [(&str, &str); 56] = [
     ),
     ("cq|take|q", "<NAME>"),
     ("cq|take|q|r|s", "unexpected argument 's'"),
-    ("cq|take|--help", "Usage: cq take <DIR> <NAME>"),
+    (
+        "cq|take|q|reader|--limit|4294967295",
+        "TakeBy { folder: \"q\", name: \"reader\", settings: TakeSettings { limit: Some(4294967295), peek: false } }",
+    ),
+    (
+        "cq|take|--peek|q|reader",
+        "TakeBy { folder: \"q\", name: \"reader\", settings: TakeSettings { limit: None, peek: true } }",
+    ),
+    (
+        "cq|take|q|--limit=1|reader|--peek",
+        "TakeBy { folder: \"q\", name: \"reader\", settings: TakeSettings { limit: Some(1), peek: true } }",
+    ),
+    (
+        "cq|take|q|reader|--limit|0",
+        "invalid value '0' for '--limit <N>'",
+    ),
+    (
+        "cq|take|q|reader|--limit|4294967296",
+        "invalid value '4294967296' for '--limit <N>'",
+    ),
+    ("cq|take|--help", "Usage: cq take [OPTIONS] <DIR> <NAME>"),
     (
         "cq|drop|q|20009",
         "DropBefore { folder: \"q\", cycle: 20009 }",
@@ -305,6 +382,49 @@ static OTHERS: [(&str, &str); 56] = [
     ("cq|trim", "<DIR>"),
     ("cq|trim|q|20005", "unexpected argument '20005'"),
     ("cq|trim|--help", "Usage: cq trim [OPTIONS] <DIR>"),
+    ("cq|name|q|list", "Names { folder: \"q\", change: List }"),
+    (
+        "cq|name|q|add|reader",
+        "Names { folder: \"q\", change: Add { name: \"reader\", at: None } }",
+    ),
+    (
+        "cq|name|--at|@1728086400000|q|add|reader",
+        "Names { folder: \"q\", change: Add { name: \"reader\", at: Some(\"@1728086400000\") } }",
+    ),
+    (
+        "cq|name|q|remove|reader",
+        "Names { folder: \"q\", change: Remove { name: \"reader\" } }",
+    ),
+    (
+        "cq|name|q|move|reader|--to|20241004",
+        "Names { folder: \"q\", change: Move { name: \"reader\", to: \"20241004\" } }",
+    ),
+    ("cq|name|q", "<ACTION>"),
+    ("cq|name|q|rename|a", "name: after DIR give one of 'list'"),
+    ("cq|name|q|list|a", "name: after DIR give one of 'list'"),
+    (
+        "cq|name|q|list|--at|a",
+        "name: after DIR give one of 'list'",
+    ),
+    ("cq|name|q|add", "name: after DIR give one of 'list'"),
+    (
+        "cq|name|q|add|a|--to|b",
+        "name: after DIR give one of 'list'",
+    ),
+    (
+        "cq|name|q|remove|a|--at|b",
+        "name: after DIR give one of 'list'",
+    ),
+    ("cq|name|q|move|a", "name: after DIR give one of 'list'"),
+    (
+        "cq|name|q|move|a|--at|b|--to|b",
+        "name: after DIR give one of 'list'",
+    ),
+    ("cq|name|q|add|a|b", "unexpected argument 'b'"),
+    (
+        "cq|name|--help",
+        "Usage: cq name [OPTIONS] <DIR> <ACTION> [NAME]",
+    ),
     ("cq|check|q", "Check { folder: \"q\" }"),
     ("cq|check| ", "Check { folder: \" \" }"),
     ("cq|check", "<DIR>"),
@@ -341,7 +461,7 @@ fn parses_the_words_of_other_commands(rt: HostRuntime) -> Result<(), Fail> {
 }
 
 /// Commands, and what the help of each says: of limits, of what is printed, and in an example.
-static HELP: [(&str, &[&str]); 15] = [
+static HELP: [(&str, &[&str]); 16] = [
     (
         "race",
         &[
@@ -405,14 +525,21 @@ static HELP: [(&str, &[&str]); 15] = [
         "read",
         &[
             " --from <INDEX>  The index to begin at: 16 lower-case hexadecimal digits\n",
-            "Example:\n  cq read journal --from 00004e2000000000\n",
+            " --last <N>      Prints the last N messages, in order. Not with --back, --from and --limit\n",
+            " --since <W>     Prints messages at or above W alone. Not with --from\n",
+            " --hex           Prints the index, a space and the bytes in hexadecimal digits, on a line\n",
+            "W is an index of 16 lower-case hexadecimal digits; '@' and the milliseconds of Unix time of a moment,\n",
+            "Examples:\n  cq read journal --from 00004e2000000000\n  cq read journal --since 20241004 --json\n",
         ],
     ),
     (
         "take",
         &[
             " <NAME>  The name of the tailer: one of the NAMES that the queue was made with\n",
-            "Example:\n  cq take journal reader\n",
+            " --limit <N>  Takes the next N messages at once, or as many as have come\n",
+            " --peek       Prints what it would take, and does not move the tailer\n",
+            "With an option it prints nothing where no message has come, and its status is 4 then. Without one it\n",
+            "Example:\n  cq take journal reader\n  while cq take journal reader --limit 100; do :; done\n",
         ],
     ),
     (
@@ -464,6 +591,14 @@ static HELP: [(&str, &[&str]); 15] = [
         &[
             "CELLS + 3 is to be at most 1,048,576, and CYCLES * (CELLS + 3) at most 4,194,304.\n",
             "Example:\n  cq migrate journal\n",
+        ],
+    ),
+    (
+        "name",
+        &[
+            " <ACTION>  What is done: list, add, remove or move\n",
+            "--at 0000000000000000 it starts from the beginning. 'remove NAME' removes a name with its position.\n",
+            "Example:\n  cq name journal add reader --at 20241004\n",
         ],
     ),
 ];

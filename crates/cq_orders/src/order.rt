@@ -1,7 +1,7 @@
 ghost use Rattle.std.specs.Prelude.{◌≡◌, option_map};
 ghost use Rattle.cq_orders.specs.OrderFolder.{folder_of};
 
-use crate::settings::{LogSettings, ReadSettings, TrimSettings};
+use crate::settings::{LogSettings, NameChange, ReadSettings, TakeSettings, TrimSettings};
 use cq_settings::InitSettings;
 
 /// What the program is asked to do.
@@ -53,6 +53,15 @@ pub enum Order {
         /// The name.
         name: String,
     },
+    /// Take the next messages under a name, or only print them, as options say.
+    TakeBy {
+        /// The folder.
+        folder: String,
+        /// The name.
+        name: String,
+        /// Which messages are taken.
+        settings: TakeSettings,
+    },
     /// Make reads and takes skip the cycles before one.
     DropBefore {
         /// The folder.
@@ -103,6 +112,13 @@ pub enum Order {
         /// The number of messages that each of the two appends.
         messages: u32,
     },
+    /// Print the names of a queue with their positions, or change them.
+    Names {
+        /// The folder.
+        folder: String,
+        /// What is done with them.
+        change: NameChange,
+    },
 }
 
 impl Order {
@@ -118,13 +134,15 @@ impl Order {
             | Order::Log { folder, .. }
             | Order::Read { folder, .. }
             | Order::Take { folder, .. }
+            | Order::TakeBy { folder, .. }
             | Order::DropBefore { folder, .. }
             | Order::Trim { folder, .. }
             | Order::Check { folder }
             | Order::Stat { folder, .. }
             | Order::Dump { folder, .. }
             | Order::Salvage { folder, .. }
-            | Order::Migrate { folder } => Some(folder.as_str()),
+            | Order::Migrate { folder }
+            | Order::Names { folder, .. } => Some(folder.as_str()),
         }
     }
 }

@@ -12,7 +12,7 @@ use std::sync::Wait;
 use std::thread::Threads;
 
 /// The words of each start, after the program's name.
-const STARTS: [&[&str]; 42] = [
+const STARTS: [&[&str]; 52] = [
     &["read", "."],
     &["stat", ".", "--json"],
     &["take", ".", "reader"],
@@ -25,11 +25,21 @@ const STARTS: [&[&str]; 42] = [
     &["read", "."],
     &["trim", ".", "--keep", "1"],
     &["take", ".", "reader"],
+    &["take", ".", "reader", "--peek"],
+    &["take", ".", "reader", "--limit", "2"],
+    &["take", ".", "reader", "--limit", "2"],
+    &["take", ".", "reader", "--limit", "2"],
+    &["take", ".", "reader", "--peek"],
+    &["take", ".", "writer", "--peek"],
     &["read", ".", "--back", "--from", "00004e2100000000"],
     &["take", ".", "writer"],
     &["init", ".", "daily", "0", "64", "8", "1", "4"],
     &["drop", ".", "20001"],
     &["read", "."],
+    &["name", ".", "add", "writer"],
+    &["name", ".", "list"],
+    &["name", ".", "move", "writer", "--to", "20241006"],
+    &["name", ".", "remove", "writer"],
     &["read", "nowhere"],
     &["dump", ".", "20241006.cqi"],
     &["salvage", ".", "20241005.cqi"],

@@ -5,6 +5,7 @@ use cq_keeper::KeepFault;
 use cq_live::LiveFault;
 use cq_log_file::OpenFault as PlaceFault;
 use cq_logged::LogFault;
+use cq_names::NameFault;
 use cq_text::ToolFault;
 use cq_trim::TrimFault;
 use std::alloc::{AllocError, AllocFailed};
@@ -18,6 +19,9 @@ pub(crate) enum StartFault {
     /// Nothing is removed from the folder.
     #[error("{0}")]
     Trim(TrimFault),
+    /// The names of the queue are not printed or changed.
+    #[error("{0}")]
+    Names(NameFault),
     /// The log of the folder keeps the command out.
     #[error("{0}")]
     Log(LogFault),
@@ -44,6 +48,12 @@ impl From<ToolFault> for StartFault {
 impl From<TrimFault> for StartFault {
     fn from(cause: TrimFault) -> StartFault {
         StartFault::Trim(cause)
+    }
+}
+
+impl From<NameFault> for StartFault {
+    fn from(cause: NameFault) -> StartFault {
+        StartFault::Names(cause)
     }
 }
 

@@ -2,10 +2,11 @@
 //!
 //! | item | what it is for |
 //! |---|---|
-//! | `status`, `DONE`, `FAULT`, `NOT_UNDERSTOOD` | run a whole start of the program, and its exit statuses |
+//! | `status`, `DONE`, `FAULT`, `NOT_UNDERSTOOD`, `NOTHING` | run a whole start of the program, and its exit statuses |
 //! | `parse`, `ParseFault` | make an `Order` from the words of a command line |
 //! | `Order`, `InitSettings` | a command with its values |
-//! | `run`, `echo`, `race` | run commands |
+//! | `run`, `take_by`, `echo`, `race` | run commands |
+//! | `TakeSettings`, `Took` | what a `take` with options is to do, and what it found |
 //! | `ToolFault` | why a command failed |
 //! | `Folder`, `RealFolder`, `MemoryFolder`, `FolderFault` | the folders that commands work on |
 //! | `read_config`, `write_config`, `SavedConfig`, `ConfigFault` | the text of a queue's configuration |
@@ -19,11 +20,11 @@ mod logging;
 mod starting;
 
 pub use cq_command_line::{ParseFault, parse};
-pub use cq_commands::run;
+pub use cq_commands::{Took, run, take_by};
 pub use cq_config_text::{ConfigFault, SavedConfig, read_config, write_config};
 pub use cq_folder::{Folder, FolderFault, MemoryFolder};
-pub use cq_orders::{InitSettings, Order};
+pub use cq_orders::{InitSettings, Order, TakeSettings};
 pub use cq_race::{Gate, OpenGate, race};
 pub use cq_real_folder::RealFolder;
 pub use cq_text::{ToolFault, dump_text, echo};
-pub use starting::{DONE, FAULT, NOT_UNDERSTOOD, status};
+pub use starting::{DONE, FAULT, NOT_UNDERSTOOD, NOTHING, status};

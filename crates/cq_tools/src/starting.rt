@@ -1,14 +1,16 @@
 //! A start of the program: from its command line to its exit status.
 
-ghost use Rattle.std.specs.Prelude.{◌≡◌};
+ghost use Rattle.std.specs.Prelude.{◌≡◌, ◌↔◌};
 ghost use Rattle.cq_orders.specs.OrderFolder.{IsLog, IsRace};
 
 use crate::checking::print_news;
 use crate::fault::StartFault;
 use crate::logging::log;
 use cq_command_line::{ParseFault, parse};
+use cq_commands::{Took, take_by};
 use cq_folder::{Folder, LOG_FILE};
 use cq_logged::{LogFault, LogNews, LoggedFolder, SystemLock};
+use cq_names::names;
 use cq_orders::Order;
 use cq_race::{OpenGate, race};
 use cq_real_folder::RealFolder;
@@ -29,6 +31,18 @@ pub const FAULT: u8 = 1;
 
 /// The command line is not understood.
 pub const NOT_UNDERSTOOD: u8 = 2;
+
+/// A `take` with options found no message.
+pub const NOTHING: u8 = 4;
+
+/// What a command came to that did not fail.
+#[derive(Clone, Copy, Debug, PartialEq, Eq)]
+enum Outcome {
+    /// It was done.
+    Done,
+    /// There was no message to take.
+    Nothing,
+}
 
 /// Runs the command in the words of a command line, as the process with this number, over the folder that they name and
 /// the standard streams. It prints errors to `errors`, and returns the exit status.
@@ -71,7 +85,8 @@ where
         }
     };
     match run(rt, errors, process, &order) {
-        Ok(()) => DONE,
+        Ok(Outcome::Done) => DONE,
+        Ok(Outcome::Nothing) => NOTHING,
         Err(error) => fault(errors, error),
     }
 }
@@ -85,7 +100,7 @@ fn fault<E: Eprint>(errors: &E, fault: StartFault) -> u8
 }
 
 /// Runs an order, over the folder that it names and the standard streams.
-fn run<R, E>(rt: &R, errors: &E, process: u32, order: &Order) -> Result<(), StartFault>
+fn run<R, E>(rt: &R, errors: &E, process: u32, order: &Order) -> Result<Outcome, StartFault>
 where
     R: AllocGlobal
         + Files<File = File>
@@ -103,14 +118,15 @@ where
     E: Eprint,
 {
     match order {
-        Order::Race { messages } => Ok(race(rt, *messages, &OpenGate, &mut io::writer(rt))?),
-        Order::Log { folder, settings } => log(rt, errors, process, folder.as_str(), settings),
-        _ => run_alone(rt, errors, process, order),
+        Order::Race { messages } => race(rt, *messages, &OpenGate, &mut io::writer(rt))?,
+        Order::Log { folder, settings } => log(rt, errors, process, folder.as_str(), settings)?,
+        _ => return run_alone(rt, errors, process, order),
     }
+    Ok(Outcome::Done)
 }
 
 /// Runs an order for one caller, over a folder that is seen with what its log gives. If the log is not shown, `errors` says so.
-fn run_alone<R, E>(rt: &R, errors: &E, process: u32, order: &Order) -> Result<(), StartFault>
+fn run_alone<R, E>(rt: &R, errors: &E, process: u32, order: &Order) -> Result<Outcome, StartFault>
 where
     R: AllocGlobal + Files<File = File> + Input + Print + Clone + Drop,
     E: Eprint,
@@ -119,8 +135,10 @@ where
 {
     let mut folder = logged_folder(rt, process, order.folder().unwrap_or(""))?;
     let mut done = run_in(rt, order, &mut folder);
-    if done.is_ok() {
-        done = say_news(rt, order, folder.news());
+    if done.is_ok()
+        && let Err(fault) = say_news(rt, order, folder.news())
+    {
+        done = Err(fault);
     }
     let (_folder, cause) = folder.into_parts();
     end(errors, done, cause)
@@ -155,7 +173,7 @@ where
 }
 
 /// Runs an order for one caller over a folder and the standard streams.
-fn run_in<R, F>(rt: &R, order: &Order, folder: &mut F) -> Result<(), StartFault>
+fn run_in<R, F>(rt: &R, order: &Order, folder: &mut F) -> Result<Outcome, StartFault>
 where
     R: AllocGlobal + Input + Print,
     F: Folder,
@@ -168,17 +186,37 @@ where
         Order::Trim {
             folder: _,
             settings,
-        } => Ok(trim(alloc, folder, settings, &mut output)?),
-        _ => Ok(cq_commands::run(alloc, order, folder, &mut rt.reader(), &mut output)?),
+        } => trim(alloc, folder, settings, &mut output)?,
+        Order::TakeBy {
+            folder: _,
+            name,
+            settings,
+        } => {
+            let took = take_by(alloc, folder, name.as_str(), settings, &mut output)?;
+            return Ok(outcome_of(took));
+        }
+        Order::Names { folder: _, change } => names(alloc, folder, change, &mut output)?,
+        _ => cq_commands::run(alloc, order, folder, &mut rt.reader(), &mut output)?,
+    }
+    Ok(Outcome::Done)
+}
+
+/// Returns what a `take` with options came to.
+fn outcome_of(took: Took) -> Outcome
+    ensures { result ≡ Outcome.Nothing ↔ took ≡ Took.Nothing }
+{
+    match took {
+        Took::Messages => Outcome::Done,
+        Took::Nothing => Outcome::Nothing,
     }
 }
 
 /// Returns what an order came to, by why its log kept it out or was not shown. If the log is not shown, `errors` says so.
 fn end<E: Eprint>(
     errors: &E,
-    done: Result<(), StartFault>,
+    done: Result<Outcome, StartFault>,
     cause: Option<LogFault>,
-) -> Result<(), StartFault> {
+) -> Result<Outcome, StartFault> {
     match cause {
         None => done,
         Some(LogFault::NotShown(fault)) => {

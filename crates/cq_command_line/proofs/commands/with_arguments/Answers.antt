@@ -7,7 +7,7 @@ use Rattle.cq_command_line.proofs.commands.with_arguments.Goals as goal
 pub loop-argument-preserved : goal.loop-argument-preserved
 loop-argument-preserved c app made =
     made-with_more _ _ _ app c.args.arguments.now c.loop-argument.argument-index _ c.loop-argument-test.true c.in_ok-command.ensures
-    (c.loop-argument.invariant app made) c.arg.ensures
+    (c.loop-argument.invariant app made) c.in_ok-arg.ensures
 
 pub returns : goal.returns
 returns c app made =

@@ -62,7 +62,12 @@ returns-in-Ok-clause-echo c program words =
     let met = meets _ _ c.in_ok-matches.matches c.requires.is c.in_ok-matches.ensures.ok.2 in
     same_order c.order_met.result _ c.in-Ok.order (c.order_met.ensures.echo (meets_echo _ program _ met words)) c.in-Ok.is
 
+pub returns-in-Err-NoOrder-clause-echo : goal.returns-in-Err-NoOrder-clause-echo
+returns-in-Err-NoOrder-clause-echo c program words =
+    let met = meets _ _ c.in_ok-matches.matches c.requires.is c.in_ok-matches.ensures.ok.2 in
+    absurd (not_both c.order_met.result _ c.in-Err-NoOrder.field-0 (c.order_met.ensures.echo (meets_echo _ program _ met words)) c.in-Err-NoOrder.is)
+
 pub returns-clause-echo : goal.returns-clause-echo
 returns-clause-echo c program words =
     let met = meets _ _ c.in_ok-matches.matches c.requires.is c.in_ok-matches.ensures.ok.2 in
-    absurd (not_both c.order_met.result _ c.in-Err-NoOrder.field-0 (c.order_met.ensures.echo (meets_echo _ program _ met words)) c.in-Err-NoOrder.is)
+    absurd (not_both c.order_met.result _ c.in-Err-NoAction.field-0 (c.order_met.ensures.echo (meets_echo _ program _ met words)) c.in-Err-NoAction.is)

@@ -1,0 +1,93 @@
+use Rattle.std.proofs.Common.{ℕ, ◌≤◌, ◌∷◌, [], List, false, inr, refl, subst, sym}
+use Rattle.std.proofs.KnownBytes.{Appends-nil}
+use Rattle.std.specs.Prelude.{Option}
+use Rattle.cq_commands.specs.Opened.{journal_with}
+use Rattle.cq_commands.specs.QueueFaults.{IsTakeFault}
+use Rattle.cq_commands.specs.Saving.{TellsConfig}
+use Rattle.cq_commands.specs.TakenBy.{TakesAll}
+use Rattle.cq_files.specs.FolderFaults.{IsFileFault}
+use Rattle.cq_files.specs.Queue.{contents_in}
+use Rattle.cq_files.proofs.WritingLemmas.{tells_file}
+use Rattle.cq_folder.specs.Folder.{Files, KeepsFiles, KeepsOrWrites, WritesFile}
+use Rattle.cq_folder.specs.declared.names.TheConstants.{CONFIG_FILE}
+use Rattle.cq_commands.proofs.TakenLinesLemmas.{lines_or_kept, lines_saved, no_value, nothing_by, takes_held, tells_took, took_lines, with_took}
+use Rattle.cq_commands.proofs.RefusingLemmas.{both_later, first_cause, other_name}
+use Rattle.cq_commands.proofs.SaverLemmas.{half_saved, saved_all, unopened, unsaved}
+use Rattle.cq_commands.proofs.TakingLemmas.{name_refused, take_not_saved}
+use Rattle.cq_commands.proofs.taking_by.take_all.Given as given
+use Rattle.cq_commands.proofs.taking_by.take_all.Goals as goal
+use Rattle.cq_commands.proofs.taking_by.take_all.Goals.{In_ok-taken_for}
+
+-- what was taken, or that nothing was there to take
+takes : (g : given.Over) (c : In_ok-taken_for g)
+    → TakesAll (journal_with c.in_ok-config.field-0.config (contents_in c.in_ok-config.ensures.opened.queue)) c.args.name.now c.args.most c.in_ok-taken_for.field-0
+takes g c = takes_held _ c.args.name.now c.args.most c.in_ok-config.ensures.opened c.in_ok-config.ensures.kept _ c.in_ok-taken_for.ensures.taken
+
+pub returns-in_err-config : goal.returns-in_err-config
+returns-in_err-config g c =
+    let told = c.in_err-config.ensures in
+    with_took c.args.name.now c.args.most _
+    (unopened (IsTakeFault c.args.name.now) TellsConfig _ c.from_residual.ensures.1
+    (first_cause _ _ _ told.cause) told.unprinted told.kept (told.version refl) told.counted)
+    (no_value _ _ _ c.from_residual.ensures.1)
+
+pub returns-in_err-taken_for : goal.returns-in_err-taken_for
+returns-in_err-taken_for g c =
+    let opened = c.in_ok-config.ensures in
+    let why = c.in_err-taken_for.ensures.fault in
+    with_took c.args.name.now c.args.most _
+    (unsaved (IsTakeFault c.args.name.now) TellsConfig _
+    c.from_residual-in_err-taken_for.ensures.1 (name_refused c.args.name.now _ opened.opened why)
+    (other_name c.in_ok-config.field-0.config c.args.name.now _ why) opened.kept
+    (opened.version refl) opened.counted.later)
+    (no_value _ _ _ c.from_residual-in_err-taken_for.ensures.1)
+
+pub returns-in_err-write_file-in-Some : goal.returns-in_err-write_file-in-Some
+returns-in_err-write_file-in-Some g c =
+    let after = g.F.Folder.files c.write_file.new.folder in
+    let fault = c.in_err-write_file-in-Some.field-0.0 in
+    let opened = c.in_ok-config.ensures in
+    let told = c.in_err-write_file-in-Some.ensures in
+    let some = subst (TakesAll _ c.args.name.now c.args.most) c.in-Some.is (takes g (goal.at.returns-in_err-write_file-in-Some g c).In_ok-taken_for) in
+    let tells = tells_file CONFIG_FILE.now fault told.fault in
+    with_took c.args.name.now c.args.most _
+    (half_saved (IsTakeFault c.args.name.now) TellsConfig fault
+    c.from_residual-in_err-write_file-in-Some.ensures.1
+    (take_not_saved c.args.name.now fault opened.opened (some.place, some.named) told.save tells) _
+    (λ printed. subst (IsFileFault CONFIG_FILE.now) printed told.fault) opened.kept told.save told.scarce
+    (lines_or_kept _ c.args.name.now c.args.most opened.opened opened.kept _ some after
+    (subst (λ (bytes : List ℕ). KeepsOrWrites (g.F.Folder.files c.open_journal.new.folder) after ((CONFIG_FILE.now, bytes) ∷ []))
+    c.as_slice.ensures.value told.whole))
+    (inr tells) (opened.version refl) opened.counted.later told.counted)
+    (no_value _ _ _ c.from_residual-in_err-write_file-in-Some.ensures.1)
+
+pub returns-in-None : goal.returns-in-None
+returns-in-None g c =
+    let opened = c.in_ok-config.ensures in
+    let output = g.W.Write.contents c.args.output.now in
+    let none = subst (TakesAll _ c.args.name.now c.args.most) c.in-None.is (takes g (goal.at.returns-in-None g c).In_ok-taken_for) in
+    let kept = subst (KeepsFiles (g.F.Folder.files c.args.folder.now)) (sym c.end.ensures.kept) opened.kept in
+    let nothing = nothing_by _ c.args.name.now c.args.most opened.opened kept false none in
+    with_took c.args.name.now c.args.most _
+    (saved_all (IsTakeFault c.args.name.now) TellsConfig [] nothing (Appends-nil output) tt tt
+    (take_not_saved c.args.name.now _ opened.opened (none.place, none.named) tt tt) (inr tt) (opened.version refl)
+    (subst (λ (failed : ℕ). g.F.Folder.failed c.args.folder.now ≤ failed) (sym c.end.ensures.counted) opened.counted.later))
+    ([], nothing, Appends-nil output, refl)
+
+pub returns : goal.returns
+returns g c =
+    let middle = g.F.Folder.files c.open_journal.new.folder in
+    let after = g.F.Folder.files c.end-in-Some.new.self in
+    let opened = c.in_ok-config.ensures in
+    let told = c.print_lines.ensures in
+    let some = subst (TakesAll _ c.args.name.now c.args.most) c.in-Some.is (takes g (goal.at.returns g c).In_ok-taken_for) in
+    let wrote = subst (WritesFile middle after CONFIG_FILE.now) c.as_slice.ensures.value
+    (subst (λ (files : Option Files). WritesFile middle files CONFIG_FILE.now c.as_slice.result.now) (sym c.end-in-Some.ensures.kept)
+    c.in_ok-write_file-in-Some.ensures.written) in
+    let all = lines_saved _ c.args.name.now c.args.most opened.opened opened.kept _ some after _ c.as_slice-in-Some.ensures.value wrote in
+    with_took c.args.name.now c.args.most _
+    (saved_all (IsTakeFault c.args.name.now) TellsConfig _ all told.written told.fault told.begun
+    (take_not_saved c.args.name.now _ opened.opened (some.place, some.named) tt tt) (inr tt) (opened.version refl)
+    (subst (λ (failed : ℕ). g.F.Folder.failed c.args.folder.now ≤ failed) (sym c.end-in-Some.ensures.counted)
+    (both_later opened.counted.later c.in_ok-write_file-in-Some.ensures.counted.later)))
+    (tells_took _ _ _ _ _ all (took_lines _ c.args.name.now c.args.most opened.opened opened.kept _ some _ c.as_slice-in-Some.ensures.value) told.written told.took)
