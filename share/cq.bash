@@ -13,23 +13,31 @@ _cq() {
     folder=${folder/#\~\//$HOME/}
     COMPREPLY=()
     if [ "$COMP_CWORD" = 1 ]; then
-        _cq_offer "$word" < <(printf '%s\n' echo cycle race init write log read take drop trim check stat dump salvage migrate help --help)
+        _cq_offer "$word" < <(printf '%s\n' echo cycle race init write log read take drop trim check stat dump salvage migrate name help --help)
     elif [ "${word#-}" != "$word" ]; then
         _cq_offer "$word" <<<--help
         case $command in
-        read) _cq_offer "$word" < <(printf '%s\n' --back --from --limit) ;;
+        read) _cq_offer "$word" < <(printf '%s\n' --back --from --limit --last --since --until --text --null --hex --json) ;;
+        take) _cq_offer "$word" < <(printf '%s\n' --limit --peek) ;;
         trim) _cq_offer "$word" < <(printf '%s\n' --keep --before --force --dry-run) ;;
         stat) _cq_offer "$word" <<<--json ;;
         log) _cq_offer "$word" < <(printf '%s\n' --for --syncs --checkpoint) ;;
+        name) _cq_offer "$word" < <(printf '%s\n' --at --to) ;;
         esac
     else
         case $command:$COMP_CWORD in
         cycle:2 | init:3) _cq_offer "$word" < <(printf '%s\n' daily hourly minutely) ;;
-        init:2 | write:2 | log:2 | read:2 | take:2 | drop:2 | trim:2 | check:2 | stat:2 | dump:2 | salvage:2 | migrate:2)
+        init:2 | write:2 | log:2 | read:2 | take:2 | drop:2 | trim:2 | check:2 | stat:2 | dump:2 | salvage:2 | migrate:2 | name:2)
             compopt -o filenames
             mapfile -t COMPREPLY < <(compgen -d -- "$word")
             ;;
         cycle:4 | write:3) _cq_offer "$word" < <(date +%s%3N) ;;
+        name:3) _cq_offer "$word" < <(printf '%s\n' list add remove move) ;;
+        name:4)
+            case ${COMP_WORDS[3]} in
+            remove | move) _cq_offer "$word" < <(sed -n 's/^name \([A-Za-z0-9_.-]*\) [0-9]*$/\1/p' "$folder/queue.cqc" 2>/dev/null) ;;
+            esac
+            ;;
         take:3) _cq_offer "$word" < <(sed -n 's/^name \([A-Za-z0-9_.-]*\) [0-9]*$/\1/p' "$folder/queue.cqc" 2>/dev/null) ;;
         dump:3 | salvage:3) _cq_offer "$word" < <(cd "$folder" 2>/dev/null && printf '%s\n' *.cqi | grep -x '[0-9-]*\.cqi') ;;
         esac

@@ -1,7 +1,7 @@
 #!/usr/bin/env python3
 """Prints the page of the manual on cq: share/man_page.py PROGRAM VERSION.
 
-Its text is the help of the program PROGRAM, and the table of docs/ERRORS.md. So it says what they say.
+Its text is the help of the program PROGRAM, and the tables of docs/ERRORS.md. So it says what they say.
 """
 import pathlib
 import re
@@ -34,6 +34,9 @@ The image of a cycle, named by its time.
 .TP
 .I DIR/queue.save
 The record of a save that was cut short. The next command that changes the folder finishes it.
+.TP
+.I DIR/queue.log
+The log of a queue that a program keeps open, or kept open when it ended.
 .SH EXIT STATUS
 .TP
 .B 0
@@ -44,6 +47,9 @@ The command failed. Its fault is on standard error.
 .TP
 .B 2
 The command line is not understood, or asks for help.
+.TP
+.B 4
+A take with an option found no message, and printed nothing.
 .SH FAULTS
 A command that fails prints \\(lqcq: \\(rq and one of these texts.
 """
@@ -96,7 +102,7 @@ def command_page(program, name):
             page.append(f".PP\n.B {troff(head.removeprefix('Usage: '))}\n")
         elif head in ("Arguments:", "Options:"):
             page.append(items(lines))
-        elif head == "Example:":
+        elif head in ("Example:", "Examples:"):
             page.append(".PP\n.EX\n" + "".join(f"{troff(line)}\n" for line in lines) + ".EE\n")
         else:
             page.append(f".PP\n{troff(block)}\n")
@@ -104,8 +110,9 @@ def command_page(program, name):
 
 
 def faults():
-    """Returns the table of faults as tagged paragraphs."""
-    rows = re.findall(r"^\| `([^`]+)` \| (.*) \| (.*) \|$", (TOP / "docs" / "ERRORS.md").read_text(encoding="utf-8"), re.M)
+    """Returns the tables of faults as tagged paragraphs. The statuses of the library for C come after them, and are left out."""
+    text = (TOP / "docs" / "ERRORS.md").read_text(encoding="utf-8").split("\n## Statuses", 1)[0]
+    rows = re.findall(r"^\| (`.+?`) \| (.*) \| (.*) \|$", text, re.M)
     if not rows:
         sys.exit("man_page.py: docs/ERRORS.md has no table of faults")
     page = ".TP\n.B {}\n{}\n.br\nTo do: {}\n"
