@@ -3,13 +3,13 @@
 
 The modes, all five if none is named:
 
-kills   N times (100 if it is not given) a `write` that rolls or not, a `take`, a `drop` or a `trim` is killed at a random
-        moment.
-device  `write`, `take`, `drop` and `trim` on a device that is full at every step: a small tmpfs, which root may mount, with space
+kills   N times (100 if it is not given) a `write` that rolls or not, a `take` with or without `--limit`, a `drop`, a
+        `trim` or a `name` that adds or removes is killed at a random moment.
+device  `write`, `take`, `drop`, `trim` and `name add` on a device that is full at every step: a small tmpfs, which root may mount, with space
         for k more pages, or k more files, for each k from 0 until the command is done; and on a full standard output.
 calls   Each system call that the same commands make on their folder fails in turn with EIO and with ENOSPC, and the
         command is killed there. It needs strace (apt-get install strace).
-beside  N times two `write` at once, N times two `take` at once, and 7 * N times a `read` at the same time as a `write`
+beside  N times two `write` at once, N times two `take` at once, of one message or of many, and 7 * N times a `read` at the same time as a `write`
         that rolls.
 migrate N times a `migrate` of a folder of version 1 with several images is killed at a random moment, and each of its
         system calls fails, or is killed, as in the mode calls. After that `read` has to print what the folder holds, or
@@ -50,10 +50,10 @@ CALLS = {"statx", "openat", "flock", "getdents64", "read", "write", "fsync", "cl
 
 
 class Queue:
-    """What a folder holds: the messages of each cycle, the floor, the position of the name `reader`, and its version."""
+    """What a folder holds: the messages of each cycle, the floor, the positions of `reader` and other names, and its version."""
 
     def __init__(self, version=2):
-        self.lists, self.floor, self.position = {}, 0, 0
+        self.lists, self.floor, self.position, self.others = {}, 0, 0, {}
         self.version, self.cells = version, CELLS
 
     def messages(self):
@@ -78,8 +78,12 @@ class Queue:
         floor = f"floor {self.floor}\n" if self.floor else ""
         return (
             f"cq {self.version}\nroll daily\nepoch 0\ncells {self.cells}\ncount {COUNT}\nspacing {SPACING}\ncycles {CYCLES}\n"
-            f"{floor}name reader {self.position}\n"
+            f"{floor}name reader {self.position}\n" + "".join(f"name {name} {place}\n" for name, place in self.others.items())
         ).encode()
+
+    def end(self):
+        last = max(self.lists, default=0)
+        return (last << 32) + len(self.lists.get(last, []))
 
     def image(self, cycle):
         """The image of a cycle."""
@@ -131,11 +135,20 @@ class Queue:
             queue.floor = max(self.floor, min(number, last))
             queue.lists = {cycle: texts for cycle, texts in self.lists.items() if cycle >= queue.floor}
             return queue, b"".join(b"%s\n" % name_of(cycle).encode() for cycle in sorted(set(self.lists) - set(queue.lists)))
-        for index, text in self.messages():
-            if index >= self.position and index >> 32 >= self.floor:
-                queue.position = index + 1
-                return queue, b"%016x %s\n" % (index, text)
-        return queue, b"not yet\n"
+        if kind == "name":
+            name = f"n{number}"
+            place = queue.others.pop(name) if lines == [b"remove"] else queue.others.setdefault(name, self.end())
+            return queue, b"%s %016x\n" % (name.encode(), place)
+        taken = [pair for pair in self.messages() if pair[0] >= self.position and pair[0] >> 32 >= self.floor][: number or 1]
+        if taken:
+            queue.position = taken[-1][0] + 1
+            return queue, b"".join(b"%016x %s\n" % pair for pair in taken)
+        return queue, b"" if number else b"not yet\n"
+
+
+def done_status(command, text):
+    """The status of a command that was done and prints this: a `take` with a limit says that there was nothing."""
+    return 4 if command[0] == "take" and command[1] and not text else 0
 
 
 def four(number):
@@ -168,9 +181,11 @@ class Tried:
             return [self.program, "drop", folder, str(number)], b""
         if kind == "trim":
             return [self.program, "trim", folder, "--before", f"@{number * DAY}", "--force"], b""
+        if kind == "name":
+            return [self.program, "name", folder, lines[0].decode(), f"n{number}"], b""
         if kind == "migrate":
             return [self.program, "migrate", folder], b""
-        return [self.program, "take", folder, "reader"], b""
+        return [self.program, "take", folder, "reader", *(["--limit", str(number)] if number else [])], b""
 
     def run(self, folder, command, front=(), **how):
         """What a command gives: its status, what it printed, and what it said is wrong."""
@@ -212,13 +227,13 @@ class Tried:
         status, printed, said = answer
         is_new = queue.__dict__ == new.__dict__
         self.counts[f"{what.split(',')[0]}: {'all' if is_new else 'nothing'} of it"] += 1
-        if status == 0 and not (is_new and printed in (text, None)):
+        if status in (0, 4) and not (status == done_status(command, text) and is_new and printed in (text, None)):
             self.wrong.append(f"{what}: done, and not so: {printed!r}")
         if status == 1 and not re.fullmatch(rb"cq: [^\n]+\n", said):
             self.wrong.append(f"{what}: said {said!r}")
         if status == 1 and printed and not text.startswith(printed):
             self.wrong.append(f"{what}: printed {printed!r}")
-        if status not in (0, 1, -9, 137):
+        if status not in (0, 1, 4, -9, 137):
             self.wrong.append(f"{what}: status {status}")
         return self.goes_on(folder, queue, what)
 
@@ -247,19 +262,25 @@ def some_lines(dice):
 
 
 def some_command(dice, queue):
-    """A command that changes this queue: appends without a new cycle, appends with one, takes, drops or trims."""
+    """A command that changes this queue: appends, takes one or many, drops, trims, or changes its names."""
     last = max(queue.lists, default=0)
-    kind = dice.choice(["write", "roll", "take", "drop", "trim"])
+    kind = dice.choice(["write", "roll", "take", "drop", "trim", "name"])
     if kind == "roll":
         return ("write", last + 1, some_lines(dice))
     if kind in ("drop", "trim"):
         return (kind, dice.randint(0, last + 1), [])
+    if kind == "take":
+        return (kind, dice.choice([0, 1, 3, 1000]), [])
+    if kind == "name":
+        number = dice.randrange(10)
+        return (kind, number, [b"remove" if f"n{number}" in queue.others else b"add"])
     return (kind, last, some_lines(dice))
 
 
 def kind_of(queue, command):
     is_roll = command[0] == "write" and command[1] > max(queue.lists, default=0)
-    return "write that rolls" if is_roll else command[0]
+    is_many = command[0] == "take" and command[1] > 0
+    return "write that rolls" if is_roll else "take of many" if is_many else command[0]
 
 
 def killed_at(tried, folder, command, moment):
@@ -306,7 +327,7 @@ def some_states():
     queue = Queue()
     queue.lists[0] = [b"%0100d" % number for number in range(60)]
     lines = [b"%0100d" % number for number in range(60, 120)]
-    return queue, [("write", 0, lines), ("write", 1, lines), ("take", 0, []), ("drop", 0, []), ("trim", 0, [])]
+    return queue, [("write", 0, lines), ("write", 1, lines), ("take", 0, []), ("take", 50, []), ("drop", 0, []), ("trim", 0, []), ("name", 0, [b"add"])]
 
 
 def try_full(tried, place, command, room, how):
@@ -400,7 +421,8 @@ def try_calls(tried, _runs):
     ready, folder = os.path.join(tried.room, "ready"), os.path.join(tried.room, "calls")
     log = os.path.join(tried.room, "log")
     tried.made(ready, queue)
-    for command in [("write", 1, commands[0][2]), ("write", 2, commands[1][2]), ("take", 0, []), ("drop", 1, []), ("trim", 1, [])]:
+    takes = [("take", 0, []), ("take", 50, [])]
+    for command in [("write", 1, commands[0][2]), ("write", 2, commands[1][2]), *takes, ("drop", 1, []), ("trim", 1, []), commands[-1]]:
         for answer, what in hurt_calls(tried, ready, folder, command, log, f"calls at {kind_of(queue, command)}"):
             tried.counts["calls: failed or killed"] += 1
             tried.judge(folder, queue, command, answer, what)
@@ -492,6 +514,7 @@ def try_beside(tried, runs):
         day = number % 2
         try_two(tried, ("write", day, lines[0]), ("write", day, lines[1]), "beside, two writes")
         try_two(tried, ("take", 0, []), ("take", 0, []), "beside, two takes")
+        try_two(tried, ("take", 2, []), ("take", 2, []), "beside, two takes of many")
     try_readers(tried, 7 * runs)
 
 

@@ -115,6 +115,9 @@ ROWS = [
     ([INIT, HELLO], None, (["read", "D", "--back"], b""), b"00004e2000000001 world\n00004e2000000000 hello\n"),
     ([INIT, HELLO], None, (["check", "D"], b""), b"20241004.cqi: 2 messages, open\n"),
     ([INIT, HELLO], None, (["take", "D", "reader"], b""), b"00004e2000000000 hello\n"),
+    ([INIT, HELLO], None, (["take", "D", "reader", "--limit", "3"], b""), b"00004e2000000000 hello\n00004e2000000001 world\n"),
+    ([INIT, HELLO], None, (["take", "D", "reader", "--peek"], b""), b"00004e2000000000 hello\n"),
+    ([INIT], None, (["take", "D", "reader", "--limit", "3"], b""), (4, b"", b"")),
     ([INIT, HELLO, NEXT], None, (["drop", "D", "20001"], b""), b"20001\n"),
     ([INIT, HELLO], None, (["salvage", "D", FILE], b""), b"0 hello\n1 world\nwhole\n"),
     ([INIT, HELLO], 127, (["salvage", "D", FILE], b""), b"0 hello\nCut at 124\n"),
@@ -151,6 +154,7 @@ LARGE = [(["init", "D", "daily", "0", "65536", "64", "16", "64", "reader"], b"")
 READERS = [
     (["read", "D"], b"00004e2000000000 hello\n00004e2000000001 world\n"),
     (["take", "D", "reader"], b"00004e2000000000 hello\n"),
+    (["take", "D", "reader", "--limit", "2"], b"00004e2000000001 world\n"),
     (["drop", "D", "20000"], b"20000\n"),
 ]
 LITTLE = 24 << 20
