@@ -819,6 +819,7 @@ static bool stores_last_and_ends(int fault) {
     int status = 0;
     pid_t child = fork();
     if (child == 0) {
+        failures = 0;
         bool is_stored = stores_last(fault, false);
         _exit(is_stored || failures ? 1 : 2);
     }
@@ -1025,10 +1026,10 @@ static void save_until_killed(int to) {
         pause();
 }
 
-/* Whether cq finds the folder whole, and this many messages in it. */
+/* Whether cq finds the folder whole, and this many messages in it. Their bytes may be those of LF, so it prints digits. */
 static bool cq_counts(uint32_t count) {
     char command[512];
-    snprintf(command, sizeof command, "%s check %s >/dev/null && test $(%s read %s | wc -l) = %u", cq, folder, cq, folder, count);
+    snprintf(command, sizeof command, "%s check %s >/dev/null && test $(%s read --hex %s | wc -l) = %u", cq, folder, cq, folder, count);
     return system(command) == 0;
 }
 
