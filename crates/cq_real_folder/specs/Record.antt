@@ -4,6 +4,7 @@ use Rattle.std.specs.Fmt.{decimal}
 use Rattle.std.specs.Global.{Global}
 use Rattle.std.specs.List.{ends_with, flat_map}
 use Rattle.cq_real_folder.specs.declared.record.Record.{Record}
+use Rattle.cq_real_folder.specs.declared.record.TheConstants.{KEPT_ENDING}
 use Rattle.cq_folder.specs.declared.names.TheConstants.{CONFIG_FILE, IMAGE_ENDING, LOG_FILE, PART_ENDING, RECORD_FILE}
 
 -- a file of a queue that a record can name: `queue.cqc`, `queue.log` or an image by its name, in no other folder and on one
@@ -60,9 +61,13 @@ pub record IsRecordOf (found : Record) (process : ℕ) (names removed : List (St
   pub renames : map string_bytes found.names.items ≡ map string_bytes names
   pub removals : map string_bytes found.removed.items ≡ map string_bytes removed
 
--- a file whose new bytes are written to a part first: one that a record can name, or the record
+-- a file that is kept when another replaces one that a record can name
+abbrev pub IsKeptName : List ℕ → Type 0
+IsKeptName file = (replaced : List ℕ) × (file ≡ replaced ++ KEPT_ENDING.now) × IsFileName replaced
+
+-- a file whose new bytes are written to a part first: the record, one that a record can name, or one that is kept for it
 abbrev pub HasParts : List ℕ → Type 0
-HasParts file = (file ≡ RECORD_FILE.now) ⊎ IsFileName file
+HasParts file = (file ≡ RECORD_FILE.now) ⊎ (IsFileName file ⊎ IsKeptName file)
 
 -- the name of the part that a process writes of a file: the file's name, a dot, the number of the process and `.part`
 abbrev pub part_name : List ℕ → ℕ → List ℕ

@@ -39,6 +39,8 @@ pub struct RealFolder<'a, R: Files<File = File> + AllocGlobal + Clone + Drop> {
     lock: Option<Lock>,
     /// The record that is there, through which files are listed and read.
     record: Option<Record>,
+    /// Whether a record was removed, and that may not be on the device yet.
+    may_come_back: bool,
     /// The number of calls that returned `Device`, up to 2^64 - 1.
     pub failures: u64,
 }
@@ -57,6 +59,7 @@ impl<'a, R: Files<File = File> + AllocGlobal + Clone + Drop> RealFolder<'a, R> {
             process,
             lock: None,
             record: None,
+            may_come_back: false,
             failures: 0,
         }
     }

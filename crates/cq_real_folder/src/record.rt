@@ -1,10 +1,13 @@
 ghost use Rattle.std.specs.Prelude.{◌≡◌, ◌↔◌, ◌+◌, ◌++◌, ◌<◌, ◌^◌, ℕ, IfOk, IfSome, IsSomeAnd, IsTrue, List, OnOk, String, codes, map, string_bytes, vec_len};
 ghost use Rattle.std.specs.List.{list_any};
 ghost use Rattle.std.specs.Str.{bytes_eq};
-ghost use Rattle.cq_real_folder.specs.Record.{AreFileNames, BeginsWithNoName, HasParts, IsFileName, IsPartName, IsRecord, IsRecordOf, form_of, name_text, part_name, record_lines, record_text, removal_text};
+ghost use Rattle.cq_real_folder.specs.Record.{AreFileNames, BeginsWithNoName, HasParts, IsFileName, IsKeptName, IsPartName, IsRecord, IsRecordOf, form_of, name_text, part_name, record_lines, record_text, removal_text};
 
 use cq_folder::{CONFIG_FILE, IMAGE_ENDING, LOG_FILE, PART_ENDING, RECORD_FILE};
 use std::alloc::{AllocError, Global};
+
+/// The ending of the names of files that are kept when others replace them, as `repair` does.
+const KEPT_ENDING: &str = ".bad";
 
 /// What a save has to do once its parts are written: the part of each file, which a process wrote next to it, replaces the
 /// file, and then other files are removed.
@@ -220,9 +223,19 @@ fn part_in(name: &str) -> Option<(&str, u32)>
     Some((&front[..dot], process))
 }
 
-/// Returns whether parts of the file are written: it is the record, or a record can name it.
+/// Returns whether parts of the file are written: it is the record, a record can name it, or it is kept for such a file.
 fn has_parts(file: &str) -> bool
     ensures { IsTrue result ↔ HasParts file.now }
 {
-    file == RECORD_FILE || is_file_name(file)
+    file == RECORD_FILE || is_file_name(file) || is_kept_name(file)
+}
+
+/// Returns whether a file is kept, by its name, for one that a record can name.
+fn is_kept_name(file: &str) -> bool
+    ensures { IsTrue result ↔ IsKeptName file.now }
+{
+    match file.strip_suffix(KEPT_ENDING) {
+        Some(replaced) => is_file_name(replaced),
+        None => false,
+    }
 }

@@ -72,18 +72,18 @@ impl<'a, R: Files<File = File> + AllocGlobal + Clone + Drop> RealFolder<'a, R> {
         }
     }
 
-    /// Finishes the save whose record is there, if one is. An earlier command was stopped, or an error kept this one from it.
+    /// Finishes the save whose record is there, if one is, and syncs that earlier records were removed. An earlier command was stopped,
+    /// or an error kept this one from it.
     ///
     /// The record may not be on the device yet: without it, a crash could keep some of the renames and lose the others.
     pub(super) fn finish_earlier(&mut self) -> io::Result<()>
         ensures failures { self.new.failures ≡ self.old.failures }
         ensures locked { self.new.lock ≡ self.old.lock }
     {
-        if self.record.is_none() {
-            return Ok(());
+        if self.record.is_some() {
+            self.confirm()?;
+            self.settle()?;
         }
-        self.confirm()?;
-        self.settle()?;
         self.confirm_removal()
     }
 
@@ -95,12 +95,13 @@ impl<'a, R: Files<File = File> + AllocGlobal + Clone + Drop> RealFolder<'a, R> {
         if let Some(record) = &self.record {
             self.finish(record)?;
         }
+        self.remove_record()?;
         self.record = None;
         Ok(())
     }
 
-    /// Renames the parts that are left, removes the files that are to go, and then the record. A part that is gone has been
-    /// renamed, and a file that is gone has been removed.
+    /// Renames the parts that are left, removes the files that are to go, and syncs that. A part that is gone has been renamed, and a
+    /// file that is gone has been removed.
     fn finish(&self, record: &Record) -> io::Result<()> {
         for name in &record.names {
             unless_missing(self.place(name.as_str(), record.process))?;
@@ -108,8 +109,7 @@ impl<'a, R: Files<File = File> + AllocGlobal + Clone + Drop> RealFolder<'a, R> {
         for name in &record.removed {
             self.remove(name.as_str())?;
         }
-        self.sync()?;
-        fs::remove_file(self.rt, self.path_of(RECORD_FILE)?.as_str())
+        self.sync()
     }
 
     /// Removes the parts of saves that were cut short before their record was there.

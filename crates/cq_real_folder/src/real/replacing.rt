@@ -139,7 +139,10 @@ impl<'a, R: Files<File = File> + AllocGlobal + Clone + Drop> RealFolder<'a, R> {
 
     /// Removes what a save wrote whose record is not there. A rename may return an error and be done nevertheless, so
     /// the record is removed first. If it cannot be, or may come back after a crash, the parts stay.
-    fn give_up(&self, changes: &[NewFile]) {
+    fn give_up(&mut self, changes: &[NewFile])
+        ensures failures { self.new.failures ≡ self.old.failures }
+        ensures locked { self.new.lock ≡ self.old.lock }
+    {
         if self.withdraw().is_err() {
             return;
         }
@@ -150,10 +153,25 @@ impl<'a, R: Files<File = File> + AllocGlobal + Clone + Drop> RealFolder<'a, R> {
     }
 
     /// Removes the record, if there is one, and syncs that.
-    fn withdraw(&self) -> io::Result<()> {
+    fn withdraw(&mut self) -> io::Result<()>
+        ensures failures { self.new.failures ≡ self.old.failures }
+        ensures locked { self.new.lock ≡ self.old.lock }
+    {
+        self.remove_record()?;
+        self.confirm_removal()
+    }
+
+    /// Removes the record, if there is one. After an error it may be gone too.
+    pub(super) fn remove_record(&mut self) -> io::Result<()>
+        ensures failures { self.new.failures ≡ self.old.failures }
+        ensures locked { self.new.lock ≡ self.old.lock }
+    {
         match fs::remove_file(self.rt, self.path_of(RECORD_FILE)?.as_str()) {
-            Ok(()) => self.sync(),
-            removed => unless_missing(removed),
+            Err(error) if error.kind() == ErrorKind::NotFound => Ok(()),
+            removed => {
+                self.may_come_back = true;
+                removed
+            }
         }
     }
 
@@ -204,9 +222,16 @@ impl<'a, R: Files<File = File> + AllocGlobal + Clone + Drop> RealFolder<'a, R> {
     }
 
     /// Syncs that the record of a save was removed. Else the record could come back after the machine stops, when a later save of
-    /// this process has written parts of the same names.
-    pub(super) fn confirm_removal(&self) -> io::Result<()> {
-        self.confirm()
+    /// this process has written parts of the same names. If the sync fails, the next save tries it again first.
+    pub(super) fn confirm_removal(&mut self) -> io::Result<()>
+        ensures failures { self.new.failures ≡ self.old.failures }
+        ensures locked { self.new.lock ≡ self.old.lock }
+    {
+        if self.may_come_back {
+            self.confirm()?;
+            self.may_come_back = false;
+        }
+        Ok(())
     }
 
     /// Renames the part of a file that the process with this number wrote to the file.
