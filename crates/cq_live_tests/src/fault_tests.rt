@@ -20,7 +20,7 @@ const FOLDED: &str = "0[a;b;] at [0]";
 const UNBEGUN: &str =
     "the log could not be begun: the file could not be read, written, cut or synced";
 
-static ROWS: [Row; 16] = [
+static ROWS: [Row; 17] = [
     // No file changed.
     (
         Matter::Locked,
@@ -61,6 +61,12 @@ static ROWS: [Row; 16] = [
     ),
     (
         Matter::Changed,
+        "the log was changed while the queue was opened: open the queue again",
+        FOLDED,
+        0,
+    ),
+    (
+        Matter::Kept,
         "the log was changed while the queue was opened: open the queue again",
         FOLDED,
         0,

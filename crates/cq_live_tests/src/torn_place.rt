@@ -27,6 +27,8 @@ pub(crate) enum Matter {
     OpenedScarcely,
     /// The log has a byte when it is opened.
     Changed,
+    /// The log that is opened is the one that was locked.
+    Kept,
     /// The write or sync of the log with this number fails.
     Failing(u64),
 }
@@ -54,8 +56,9 @@ impl Matter {
                 Ok(found) => Ok(found),
                 Err(_) => Err(OpenFault::OutOfMemory),
             },
-            Matter::Failing(number) => Ok(without_bytes(alloc, number)),
-            _ => Ok(without_bytes(alloc, 0)),
+            Matter::Kept => Ok(without_bytes(alloc, 0, false)),
+            Matter::Failing(number) => Ok(without_bytes(alloc, number, true)),
+            _ => Ok(without_bytes(alloc, 0, true)),
         }
     }
 }
@@ -95,20 +98,23 @@ impl LogPlace<TornFile> for TornPlace {
 
     fn open(&mut self, alloc: Global) -> Result<FoundLog<TornFile>, OpenFault> {
         let found = self.matter.log(alloc);
-        if let Err(fault) = &found {
-            self.state = PlaceState::Refused(*fault);
-        }
+        self.state = match &found {
+            Ok(log) if log.is_replaced => PlaceState::Replaced,
+            Ok(_) => PlaceState::Free,
+            Err(fault) => PlaceState::Refused(*fault),
+        };
         found
     }
 }
 
-/// A log without bytes, of which the write or sync with this number fails.
-fn without_bytes(alloc: Global, number: u64) -> FoundLog<TornFile>
+/// A log without bytes, of which the write or sync with this number fails. It is the one that was locked, or another.
+fn without_bytes(alloc: Global, number: u64, is_replaced: bool) -> FoundLog<TornFile>
     ensures { IsFound ⟦<TornFile as Device>⟧.seen ⟦<TornFile as Device>⟧.may_leave ⟦<TornFile as Device>⟧.fault result }
 {
     FoundLog {
         device: TornFile::new(alloc, number),
         bytes: Vec::new(alloc),
+        is_replaced,
     }
 }
 
@@ -120,5 +126,9 @@ fn with_a_byte(alloc: Global) -> Result<FoundLog<TornFile>, DeviceFault>
     device.write_at(0, &[0])?;
     device.sync()?;
     let bytes = device.bytes().to_vec(alloc)?;
-    Ok(FoundLog { device, bytes })
+    Ok(FoundLog {
+        device,
+        bytes,
+        is_replaced: true,
+    })
 }
