@@ -1,7 +1,9 @@
 ghost use Rattle.std.specs.Prelude.{◌≡◌, option_map};
 ghost use Rattle.cq_orders.specs.OrderFolder.{folder_of};
 
-use crate::settings::{LogSettings, NameChange, ReadSettings, TakeSettings, TrimSettings};
+use crate::settings::{
+    LogSettings, NameChange, NewSettings, ReadSettings, TakeSettings, TrimSettings, WriteSettings,
+};
 use cq_settings::InitSettings;
 
 /// What the program is asked to do.
@@ -32,6 +34,13 @@ pub enum Order {
         /// The moment of the lines, in milliseconds of Unix time.
         moment: u64,
     },
+    /// Append the messages of the input as options say.
+    WriteBy {
+        /// The folder.
+        folder: String,
+        /// At which moment, and what a message is.
+        settings: WriteSettings,
+    },
     /// Append each line of the input as it comes, and print its index once it is stored.
     Log {
         /// The folder.
@@ -45,6 +54,15 @@ pub enum Order {
         folder: String,
         /// Which messages are read.
         settings: ReadSettings,
+    },
+    /// Print the messages in order, and those that come later.
+    Follow {
+        /// The folder.
+        folder: String,
+        /// Which messages are printed. They are not read backwards.
+        settings: ReadSettings,
+        /// After how many seconds it ends. `None` is a value that was not given.
+        seconds: Option<u64>,
     },
     /// Take the next message under a name.
     Take {
@@ -119,20 +137,43 @@ pub enum Order {
         /// What is done with them.
         change: NameChange,
     },
+    /// Make a folder with a queue, whose settings are those that were given and others that serve.
+    New {
+        /// The folder, which may be there already.
+        folder: String,
+        /// What was given.
+        settings: NewSettings,
+    },
+    /// Make the messages before the fault of an image the image, and keep the file under another name.
+    Repair {
+        /// The folder.
+        folder: String,
+        /// The name of the image's file.
+        file: String,
+        /// Whether nothing is changed.
+        dry_run: bool,
+    },
+    /// Print what a fault means and what to do.
+    Explain {
+        /// The words of the fault. None means all faults.
+        words: Vec<String>,
+    },
 }
 
 impl Order {
-    /// Returns the path of the folder that the order is for; `None` for `echo`, `cycle` and `race`, which are for no
+    /// Returns the path of the folder that the order is for; `None` for `echo`, `cycle`, `race` and `explain`, which are for no
     /// folder.
     pub fn folder(&self) -> Option<&str>
         ensures { option_map (λ path. path.now) result ≡ folder_of self.now }
     {
         match self {
-            Order::Echo | Order::Cycle { .. } | Order::Race { .. } => None,
+            Order::Echo | Order::Cycle { .. } | Order::Race { .. } | Order::Explain { .. } => None,
             Order::Init { folder, .. }
             | Order::Write { folder, .. }
+            | Order::WriteBy { folder, .. }
             | Order::Log { folder, .. }
             | Order::Read { folder, .. }
+            | Order::Follow { folder, .. }
             | Order::Take { folder, .. }
             | Order::TakeBy { folder, .. }
             | Order::DropBefore { folder, .. }
@@ -142,7 +183,9 @@ impl Order {
             | Order::Dump { folder, .. }
             | Order::Salvage { folder, .. }
             | Order::Migrate { folder }
-            | Order::Names { folder, .. } => Some(folder.as_str()),
+            | Order::Names { folder, .. }
+            | Order::New { folder, .. }
+            | Order::Repair { folder, .. } => Some(folder.as_str()),
         }
     }
 }

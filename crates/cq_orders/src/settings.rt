@@ -1,3 +1,36 @@
+/// What a message of the input is.
+#[derive(Clone, Copy, Debug, PartialEq, Eq)]
+pub enum InputForm {
+    /// A line, without its line feed.
+    Lines,
+    /// What a byte 0 ends, without this byte.
+    Null,
+    /// The whole input, if it is not empty.
+    Whole,
+}
+
+/// How messages are appended, as it was given.
+#[derive(Clone, Copy, Debug, Drop)]
+pub struct WriteSettings {
+    /// The moment of the messages, in milliseconds of Unix time. `None` is the time of the machine's clock.
+    pub moment: Option<u64>,
+    /// What a message is.
+    pub form: InputForm,
+}
+
+/// The settings of a queue that is made with its folder, as it was given. `None` is a value that was not given.
+#[derive(Debug, Drop)]
+pub struct NewSettings {
+    /// The word for the roll.
+    pub roll: Option<String>,
+    /// The cells of a cycle.
+    pub cells: Option<u64>,
+    /// How many cycles may begin.
+    pub cycles: Option<u64>,
+    /// The names of the tailers.
+    pub names: Vec<String>,
+}
+
 /// In which form a message is printed.
 #[derive(Clone, Copy, Debug, PartialEq, Eq)]
 pub enum ReadForm {
@@ -39,6 +72,8 @@ pub struct TakeSettings {
     pub limit: Option<u64>,
     /// Whether they are only printed, and the name stays where it is.
     pub peek: bool,
+    /// For how many seconds it waits where there is none.
+    pub wait: Option<u64>,
 }
 
 /// How a queue is kept open, as it was given. `None` is a value that was not given.
