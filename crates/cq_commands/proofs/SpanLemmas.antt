@@ -1,5 +1,5 @@
 -- Which messages are on a way, and what comes next on it.
-use Rattle.std.proofs.Common.{◌≡◌, ℕ, zero, suc, ◌+◌, ◌-◌, ◌<◌, ◌≤◌, max, min, List, [], ◌∷◌, ◌++◌, drop, length, filter, reverse, cond, true, false, Bool, arith, refl, ap, sym, subst, ◌∙◌, take, Option, None, Some}
+use Rattle.std.proofs.Common.{◌≡◌, ℕ, zero, suc, ◌+◌, ◌-◌, ◌^◌, ◌<◌, ◌≤◌, max, min, List, [], ◌∷◌, ◌++◌, drop, length, filter, reverse, cond, true, false, Bool, arith, refl, ap, sym, subst, ◌∙◌, take, Option, None, Some}
 use Rattle.std.specs.Prelude.{nat_le, nat_lt, option_map}
 use Rattle.std.specs.List.{AllByRecursion}
 use Rattle.std.proofs.Math.Seq.{take-append_seam}
@@ -71,6 +71,12 @@ after_all p q (x ∷ xs) low = by (nat_le q x.0) refl (after_all p q xs low) whe
       (high, more)
   by false passes more = more
 
+-- backwards from a place all messages are below it
+asked_below : (p : ℕ) (xs : List Placed) → AllBelow p (asked true p xs)
+asked_below p xs =
+    let same : p ≤ p = omega arith in
+    each_turned (λ (x : Placed). x.0 < p) (below p xs) (below_all p p xs same)
+
 -- behind a message at which a way has come to its end none is on it
 beyond : (back : Bool) (stop p : ℕ) (f : Placed) (messages : List Placed) → is_within back stop f.0 ≡ false
     → filter (λ (found : Placed). is_within back stop found.0) (asked back (cursor_behind (way_of back) (Some f) p) messages) ≡ []
@@ -122,6 +128,36 @@ module _ (s : Span) (contents : Contents) (reader : ReaderFacts) (found : Option
   split f one =
       next_asked s.back contents reader.cursor f rises few (sym one ∙ is)
       ∙ ap (λ (p : ℕ). f ∷ asked s.back p (readable contents)) (sym (cursor_is f one))
+
+  -- backwards the message that is found is below the cursor
+  low_next : (f : Placed) → found ≡ Some f → s.back ≡ true → f.0 < reader.cursor
+  low_next f one back =
+      let first : asked true reader.cursor (readable contents) ≡ f ∷ asked s.back cursor (readable contents) = subst (λ (b : Bool). asked b reader.cursor (readable contents) ≡ f ∷ asked s.back cursor (readable contents)) back (split f one) in
+      (subst (AllBelow reader.cursor) first (asked_below reader.cursor (readable contents))).0
+
+  -- an index is left after the message that is found on the way
+  pub fits_next : (f : Placed) → found ≡ Some f → reader.cursor < 2 ^ 64 → s.stop < 2 ^ 64 → is_within s.back s.stop f.0 ≡ true
+      → f.0 + 1 < 2 ^ 64
+  fits_next f one low high within = by s.back refl
+    where
+      by : (b : Bool) → s.back ≡ b → f.0 + 1 < 2 ^ 64
+      by true back = let below = low_next f one back in omega (arith, below, low)
+      by false back =
+          let before : nat_lt f.0 s.stop ≡ true = subst (λ (b : Bool). is_within b s.stop f.0 ≡ true) back within in
+          let under : f.0 < s.stop = grind (arith, nat_tests) in
+          omega (arith, under, high)
+
+  -- and the cursor is an index then
+  pub cursor_next : (f : Placed) → found ≡ Some f → f.0 + 1 < 2 ^ 64 → cursor < 2 ^ 64
+  cursor_next f one fits = by s.back refl
+    where
+      by : (b : Bool) → s.back ≡ b → cursor < 2 ^ 64
+      by true back =
+          let here : cursor ≡ f.0 = subst (λ (b : Bool). cursor ≡ cursor_behind (way_of b) (Some f) reader.cursor) back (cursor_is f one) in
+          omega (arith, here, fits)
+      by false back =
+          let here : cursor ≡ f.0 + 1 = subst (λ (b : Bool). cursor ≡ cursor_behind (way_of b) (Some f) reader.cursor) back (cursor_is f one) in
+          omega (arith, here, fits)
 
   on_way : (f : Placed) (b : Bool) → found ≡ Some f → is_within s.back s.stop f.0 ≡ b
       → spanned s reader.cursor (readable contents) ≡ cond b (f ∷ spanned s cursor (readable contents)) (spanned s cursor (readable contents))

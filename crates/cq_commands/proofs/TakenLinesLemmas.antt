@@ -25,16 +25,16 @@ use Rattle.cq_files.proofs.WritingLemmas.{kept_then_wrote}
 use Rattle.cq_commands.specs.Messages.{message_line}
 use Rattle.cq_commands.specs.Opened.{HoldsContents, IsOpenedFrom, journal_with}
 use Rattle.cq_commands.specs.QueueFaults.{IsNameFault, IsTakeFault}
-use Rattle.cq_commands.specs.Saving.{SavesAndPrints, TellsConfig}
+use Rattle.cq_writing.specs.Saving.{SavesAndPrints, TellsConfig}
 use Rattle.cq_commands.specs.TakenBy.{HasTakenAll, AreTakenLines, IsTakeByFault, IsTakenBy, MovesName, TakesAll, TakesVersionBy, TellsTook, next_messages, position_after, took_of}
 use Rattle.cq_commands.specs.declared.journal.OpenedQueue.{OpenedQueue}
 use Rattle.cq_commands.specs.declared.taking_by.TakenLines.{TakenLines}
 use Rattle.cq_commands.specs.declared.taking_by.Took.{Took}
 use Rattle.cq_commands.specs.declared.taking_by.Took.TheVariants.{Messages}
 use Rattle.cq_commands.proofs.OpeningLemmas.{opened_of}
-use Rattle.cq_commands.proofs.SaverLemmas.{EndsSaving}
+use Rattle.cq_writing.proofs.SaverLemmas.{EndsSaving, no_value}
 use Rattle.cq_commands.proofs.TakingByLemmas.{position_of}
-use Rattle.cq_commands.proofs.SavingLemmas.{nothing_saved, only_printing, saved_then_printed}
+use Rattle.cq_writing.proofs.SavingLemmas.{nothing_saved, only_printing, saved_then_printed}
 
 no_empty_line : (xs ys : List ℕ) (n : ℕ) → 0 < length (xs ++ n ∷ ys)
 no_empty_line [] ys n = omega arith
@@ -49,7 +49,7 @@ one_line_less f all rest is =
     omega (arith, whole, line)
 
 -- where there is a message there is a line
-some_lines : (message : Placed) (messages : List Placed) → 0 < length (flat_map message_line (message ∷ messages))
+pub some_lines : (message : Placed) (messages : List Placed) → 0 < length (flat_map message_line (message ∷ messages))
 some_lines message messages =
     let less = one_line_less message (message ∷ messages) messages refl in
     omega (arith, less)
@@ -238,11 +238,6 @@ module _ {a : Option Files} {opened : OpenedQueue} (name : List ℕ) (from : IsO
 pub name_not_old : (settings : Settings) (name : List ℕ) (fault : ToolFault) → IsNameFault settings name fault → fault ≢ OldVersion
 name_not_old settings name fault (inl memory) is = let never : OutOfMemory ≡ OldVersion = sym memory ∙ is in cc
 name_not_old settings name fault (inr (none, undeclared)) is = let never : NoSuchName ≡ OldVersion = sym none ∙ is in cc
-
--- after a fault there is no value
-pub no_value : {T : Type 0} (result : Result T ToolFault) (P : T → Type 0) (fault : ToolFault) → IsErrAnd result (λ passed. passed ≡ fault) → IfOk result P
-no_value (Ok value) P fault is = absurd is
-no_value (Err passed) P fault is = tt
 
 -- what is said of a text that was printed
 pub tells_took : (result : Result Took ToolFault) (old new : Option (List ℕ)) (IsText : List ℕ → Type 0) (text : List ℕ) → IsText text

@@ -1,5 +1,6 @@
 -- How `read` goes through the messages of a queue that was opened.
-use Rattle.std.specs.Prelude.{ℕ, Bool, List, Option, None, Some, filter, max, min, nat_le, nat_lt, reverse, true, false}
+use Rattle.std.specs.Prelude.{◌≡◌, ◌-◌, ℕ, Bool, List, Option, None, Some, filter, length, max, min, nat_le, nat_lt, option_map, reverse, true, false}
+use Rattle.std.specs.List.{flat_map}
 use Rattle.cq_folder.specs.Folder.{Files}
 use Rattle.cq_forms.specs.Names.{AreNames, name_in}
 use Rattle.cq_model.specs.Finds.{Placed}
@@ -8,7 +9,11 @@ use Rattle.cq_orders.specs.declared.settings.ReadSettings.{ReadSettings}
 use Rattle.cq_files.specs.Queue.{contents_in}
 use Rattle.cq_commands.specs.Messages.{IsSince, IsUntil, asked, limited}
 use Rattle.cq_commands.specs.Opened.{IsOpenedFrom}
+use Rattle.cq_commands.specs.TakenBy.{position_after}
 use Rattle.cq_commands.specs.declared.printing.Bounds.{Bounds}
+use Rattle.cq_commands.specs.declared.printing.Choice.{Choice}
+use Rattle.cq_commands.specs.declared.printing.Lines.{Lines}
+use Rattle.cq_commands.specs.declared.printing.ReadPlace.{ReadPlace}
 use Rattle.cq_commands.specs.declared.printing.ReadQueue.{ReadQueue}
 use Rattle.cq_commands.specs.declared.printing.Span.{Span}
 
@@ -45,3 +50,50 @@ spanned s start messages = filter (λ found. is_within s.back s.stop found.0) (a
 abbrev pub span_messages : Option ℕ → Option ℕ → Span → List Placed → List Placed
 span_messages (Some count) limit s messages = reverse (limited (Some count) (spanned s s.start messages))
 span_messages None limit s messages = limited limit (spanned s s.start messages)
+
+-- a place at this index, with this number of messages left
+abbrev pub place_at : ℕ → Option ℕ → ReadPlace
+place_at next left = record { next = next; left = left }
+
+-- the place after these messages were printed from there on
+abbrev pub place_after : ReadPlace → List Placed → ReadPlace
+place_after place messages =
+    place_at (position_after place.next messages) (option_map (λ left. left - length messages) place.left)
+
+-- how many messages are left after this was found
+abbrev pub left_after : Option Placed → Option ℕ → Option ℕ
+left_after None left = left
+left_after (Some found) left = option_map (λ count. count - 1) left
+
+-- which messages these are
+abbrev pub choice : Option ℕ → Option ℕ → Span → Choice
+choice last limit s = record { span = s; last = last; limit = limit }
+
+-- which messages `read` prints
+abbrev pub read_choice : Option ℕ → Option ℕ → Bool → ℕ → ℕ → ℕ → Choice
+read_choice last limit back start since until = choice last limit (read_span last back start since until)
+
+-- which ones a round prints: those that `read` does forwards, and from a place on the ones up to its limit
+abbrev pub round_choice : Option ℕ → Option ℕ → Option ReadPlace → ℕ → ℕ → ℕ → Choice
+round_choice last limit None start since until = read_choice last limit false start since until
+round_choice last limit (Some place) start since until = choice None place.left (span false place.next until)
+
+-- the place before the messages on a way, and before the last ones, which have no limit
+abbrev pub place_for : Option ℕ → Option ℕ → Span → ReadPlace
+place_for None limit s = place_at s.start limit
+place_for (Some count) limit s = place_at s.stop None
+
+-- the texts of these messages, and the place after them
+pub record AreLines (line : Placed → List ℕ) (place : ReadPlace) (messages : List Placed) (lines : Lines) : Type 0 where
+  pub text : lines.text.items ≡ flat_map line messages
+  pub place_is : lines.place ≡ place_after place messages
+
+-- the same of those that were chosen
+abbrev pub AreChosenLines : (Placed → List ℕ) → Choice → List Placed → Lines → Type 0
+AreChosenLines line c messages lines =
+    AreLines line (place_for c.last c.limit c.span) (span_messages c.last c.limit c.span messages) lines
+
+-- the index after the first message that was found; the other one is that after one more
+abbrev pub first_after : Option ℕ → ℕ → Option ℕ
+first_after None next = Some next
+first_after (Some after) next = Some after

@@ -15,7 +15,7 @@ ghost use Rattle.cq_files.specs.Queue.{CanBeOpened};
 ghost use Rattle.cq_commands.specs.Messages.{message_line};
 ghost use Rattle.cq_commands.specs.Opened.{HoldsContents, journal_with};
 ghost use Rattle.cq_commands.specs.QueueFaults.{IsNameFault};
-ghost use Rattle.cq_commands.specs.Saving.{SavesAndPrints, TellsConfig};
+ghost use Rattle.cq_writing.specs.Saving.{SavesAndPrints, TellsConfig};
 ghost use Rattle.cq_commands.specs.TakenBy.{HasTakenAll, IsTakeByFault, IsTakenBy, TakesAll, TakesVersionBy, TellsTook, most_of};
 
 use crate::journal::{OpenedQueue, config_behind, open_journal};

@@ -172,9 +172,14 @@ fn ran<F: Folder>(alloc: Global, folder: &mut F, order: &Order) -> Said {
     let mut rest: &[u8] = b"hello\n";
     let done = match order {
         Order::Race { messages: _ }
+        | Order::WriteBy { .. }
         | Order::Log { .. }
+        | Order::Follow { .. }
         | Order::Trim { .. }
-        | Order::Names { .. } => {
+        | Order::Names { .. }
+        | Order::New { .. }
+        | Order::Repair { .. }
+        | Order::Explain { .. } => {
             return Ok(String::from_str(alloc, "not run here")?);
         }
         Order::TakeBy {

@@ -21,6 +21,8 @@ mod fault_tests;
 #[cfg(test)]
 mod form_tests;
 #[cfg(test)]
+mod help_tests;
+#[cfg(test)]
 mod images;
 #[cfg(test)]
 mod limit_tests;

@@ -28,9 +28,14 @@ fn said_outside(
     };
     let done = match order {
         Order::Race { messages: _ }
+        | Order::WriteBy { .. }
         | Order::Log { .. }
+        | Order::Follow { .. }
         | Order::Trim { .. }
-        | Order::Names { .. } => {
+        | Order::Names { .. }
+        | Order::New { .. }
+        | Order::Repair { .. }
+        | Order::Explain { .. } => {
             return Ok(String::from_str(alloc, "not run here")?);
         }
         Order::TakeBy {

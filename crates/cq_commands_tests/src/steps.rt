@@ -285,7 +285,11 @@ fn read_lines<F: Folder, W: Write>(
 
 /// The settings of a `take` with options.
 fn settings_of(limit: Option<u64>, peek: bool) -> TakeSettings {
-    TakeSettings { limit, peek }
+    TakeSettings {
+        limit,
+        peek,
+        wait: None,
+    }
 }
 
 /// What a `take` with options says: what it wrote, "nothing" if it found nothing, and the text of its fault.

@@ -8,6 +8,7 @@ fn parsed(alloc: Global, words: &[String]) -> Result<String, AllocError> {
     match parse(alloc, words) {
         Ok(order) => format!(in alloc; "{order:?}"),
         Err(ParseFault::NotUnderstood(error)) => error.to_string(alloc),
+        Err(ParseFault::Version(error)) => format!(in alloc; "Version: {error}"),
         Err(ParseFault::OutOfMemory) => Err(AllocError),
     }
 }
@@ -22,13 +23,13 @@ pub fn words_of(alloc: Global, line: &str) -> Result<Vec<String>, AllocError> {
 }
 
 /// What the arguments of a line are, or what is said of them.
-fn parsed_line(alloc: Global, line: &str) -> Result<String, AllocError> {
+pub fn parsed_line(alloc: Global, line: &str) -> Result<String, AllocError> {
     let words = words_of(alloc, line)?;
     parsed(alloc, words.as_slice())
 }
 
 /// Fails if what is said does not contain what is wanted, and gives both.
-fn expect_within(said: &str, want: &str) -> Result<(), Fail> {
+pub fn expect_within(said: &str, want: &str) -> Result<(), Fail> {
     if said.contains(want) {
         return Ok(());
     }
@@ -43,38 +44,20 @@ fn expect(alloc: Global, table: &[(&str, &str)]) -> Result<(), Fail> {
     Ok(())
 }
 
-/// What the help of a command says.
-fn help_of(alloc: Global, command: &str) -> Result<String, AllocError> {
-    let line = format!(in alloc; "cq|{command}|--help")?;
-    parsed_line(alloc, line.as_str())
-}
-
-/// Fails if the help of a command lacks one of these texts.
-fn expect_in_help(alloc: Global, command: &str, wants: &[&str]) -> Result<(), Fail> {
-    let help = help_of(alloc, command)?;
-    for want in wants {
-        expect_within(help.as_str(), want)?;
-    }
-    Ok(())
-}
-
-/// Fails if the help of a command lacks a text of its row.
-fn expect_help(alloc: Global, table: &[(&str, &[&str])]) -> Result<(), Fail> {
-    for &(command, wants) in table {
-        expect_in_help(alloc, command, wants)?;
-    }
-    Ok(())
-}
-
-static WORDS: [(&str, &str); 32] = [
+static WORDS: [(&str, &str); 43] = [
     // Arguments of no command, of `echo` and of `cycle`, each line with what it is.
     ("cq|echo", "Echo"),
     ("another name|echo", "Echo"),
     ("cq", "requires a subcommand"),
     ("cq|nonsense", "unrecognized subcommand 'nonsense'"),
     ("cq|echo|extra", "unexpected argument 'extra'"),
-    ("cq|--version", "unexpected argument '--version'"),
+    ("cq|--version", "Version: cq 0.1.0\n"),
+    ("cq|-V", "Version: cq 0.1.0\n"),
+    ("another name|--version", "Version: cq 0.1.0\n"),
+    ("cq|--version=1", "unexpected value '1' for '--version'"),
+    ("cq|echo|--version", "unexpected argument '--version'"),
     ("cq|--help", "Usage: cq <COMMAND>"),
+    ("cq|--help", " -V, --version  Print version\n"),
     ("cq|echo|--help", "Usage: cq echo"),
     (
         "cq|cycle|weekly|007|18446744073709551615",
@@ -131,6 +114,19 @@ static WORDS: [(&str, &str); 32] = [
     ("cq|race|ten", "invalid value 'ten' for '<MESSAGES>'"),
     ("cq|race", "<MESSAGES>"),
     ("cq|race|1|2", "unexpected argument '2'"),
+    // Arguments of `explain`, each line with what it is.
+    ("cq|explain", "Explain { words: [] }"),
+    (
+        "cq|explain|folder|fault",
+        "Explain { words: [\"folder\", \"fault\"] }",
+    ),
+    (
+        "cq|explain|line 2: empty||--|-x",
+        "Explain { words: [\"line 2: empty\", \"\", \"-x\"] }",
+    ),
+    ("cq|explain|-x", "unexpected argument '-x'"),
+    ("cq|explain|--all", "unexpected argument '--all'"),
+    ("cq|explain|--help", "Usage: cq explain [WORDS]..."),
 ];
 
 #[test]
@@ -139,7 +135,7 @@ fn parses_words(rt: HostRuntime) -> Result<(), Fail> {
 }
 
 /// Arguments of `read`, each line with what it is.
-static READERS: [(&str, &str); 38] = [
+static READERS: [(&str, &str); 53] = [
     (
         "cq|read|q",
         "Read { folder: \"q\", settings: ReadSettings { form: Line, back: false, from: None, limit: None, last: None, since: None, until: None } }",
@@ -268,6 +264,63 @@ static READERS: [(&str, &str); 38] = [
     ("cq|read|q|--last|0", "invalid value '0' for '--last <N>'"),
     ("cq|read|q|--until", "a value is required for '--until <W>'"),
     ("cq|read|q|--forth", "unexpected argument '--forth'"),
+    (
+        "cq|read|q|--follow",
+        "Follow { folder: \"q\", settings: ReadSettings { form: Line, back: false, from: None, limit: None, last: None, since: None, until: None }, seconds: None }",
+    ),
+    (
+        "cq|read|--for|1|q|--follow",
+        "Follow { folder: \"q\", settings: ReadSettings { form: Line, back: false, from: None, limit: None, last: None, since: None, until: None }, seconds: Some(1) }",
+    ),
+    (
+        "cq|read|q|--follow|--for=4294967295|--last|3|--until|@9|--json",
+        "Follow { folder: \"q\", settings: ReadSettings { form: Json, back: false, from: None, limit: None, last: Some(3), since: None, until: Some(\"@9\") }, seconds: Some(4294967295) }",
+    ),
+    (
+        "cq|read|q|--follow|--from|7|--limit|2|--null",
+        "Follow { folder: \"q\", settings: ReadSettings { form: Null, back: false, from: Some(\"7\"), limit: Some(2), last: None, since: None, until: None }, seconds: None }",
+    ),
+    (
+        "cq|read|q|--follow|--since|20241004|--text",
+        "Follow { folder: \"q\", settings: ReadSettings { form: Text, back: false, from: None, limit: None, last: None, since: Some(\"20241004\"), until: None }, seconds: None }",
+    ),
+    (
+        "cq|read|q|--follow|--back",
+        "the argument '--follow' cannot be used with '--back'",
+    ),
+    (
+        "cq|read|q|--back|--follow|--for|1",
+        "the argument '--back' cannot be used with '--follow'",
+    ),
+    (
+        "cq|read|q|--for|1",
+        "error: read: give '--for SECONDS' with '--follow', and '--follow' without '--back'\n",
+    ),
+    (
+        "cq|read|q|--for|1|--back",
+        "error: read: give '--for SECONDS' with '--follow', and '--follow' without '--back'\n",
+    ),
+    (
+        "cq|read|q|--follow|--for|0",
+        "invalid value '0' for '--for <SECONDS>': 0 is not in 1..=4294967295",
+    ),
+    (
+        "cq|read|q|--follow|--for|4294967296",
+        "4294967296 is not in 1..=4294967295",
+    ),
+    (
+        "cq|read|q|--follow|--for",
+        "a value is required for '--for <SECONDS>'",
+    ),
+    (
+        "cq|read|q|--follow|--follow",
+        "'--follow' cannot be used multiple times",
+    ),
+    (
+        "cq|read|q|--follow=yes",
+        "unexpected value 'yes' for '--follow'",
+    ),
+    ("cq|read|--help", "Usage: cq read [OPTIONS] <DIR>"),
 ];
 
 #[test]
@@ -275,8 +328,47 @@ fn parses_the_words_of_a_reader(rt: HostRuntime) -> Result<(), Fail> {
     expect(rt.alloc(), &READERS)
 }
 
-/// Arguments of the other commands on a folder, each line with what it is.
-static OTHERS: [(&str, &str); 77] = [
+/// Arguments of the commands that make a queue, and write and take messages, each line with what it is. Those of `init` are above.
+static WRITERS: [(&str, &str); 59] = [
+    (
+        "cq|new|q",
+        "New { folder: \"q\", settings: NewSettings { roll: None, cells: None, cycles: None, names: [] } }",
+    ),
+    (
+        "cq|new|q|b|a|b",
+        "New { folder: \"q\", settings: NewSettings { roll: None, cells: None, cycles: None, names: [\"b\", \"a\", \"b\"] } }",
+    ),
+    (
+        "cq|new|--roll|weekly|q|reader|--cells|1|--cycles|64",
+        "New { folder: \"q\", settings: NewSettings { roll: Some(\"weekly\"), cells: Some(1), cycles: Some(64), names: [\"reader\"] } }",
+    ),
+    (
+        "cq|new|q|--cycles=1|--cells=1048576|--roll=|--|-a",
+        "New { folder: \"q\", settings: NewSettings { roll: Some(\"\"), cells: Some(1048576), cycles: Some(1), names: [\"-a\"] } }",
+    ),
+    ("cq|new", "<DIR>"),
+    ("cq|new|q|-a", "unexpected argument '-a'"),
+    (
+        "cq|new|q|--cells|0",
+        "invalid value '0' for '--cells <CELLS>': 0 is not in 1..=1048576",
+    ),
+    (
+        "cq|new|q|--cells|1048577",
+        "invalid value '1048577' for '--cells <CELLS>'",
+    ),
+    (
+        "cq|new|q|--cycles|0",
+        "invalid value '0' for '--cycles <N>': 0 is not in 1..=64",
+    ),
+    (
+        "cq|new|q|--cycles|65",
+        "invalid value '65' for '--cycles <N>'",
+    ),
+    (
+        "cq|new|q|--roll|daily|--roll|hourly",
+        "'--roll <ROLL>' cannot be used multiple times",
+    ),
+    ("cq|new|--help", "Usage: cq new [OPTIONS] <DIR> [NAMES]..."),
     (
         "cq|write|q|18446744073709551615",
         "Write { folder: \"q\", moment: 18446744073709551615 }",
@@ -284,6 +376,68 @@ static OTHERS: [(&str, &str); 77] = [
     (
         "cq|write|ein Ordner für Ähren|0",
         "Write { folder: \"ein Ordner für Ähren\", moment: 0 }",
+    ),
+    ("cq|write|q", "<MOMENT>"),
+    ("cq|write|q|1|2", "unexpected argument '2'"),
+    ("cq|write|q|-1", "unexpected argument '-1'"),
+    (
+        "cq|write|q|18446744073709551616",
+        "invalid value '18446744073709551616' for '<MOMENT>'",
+    ),
+    (
+        "cq|write|q|18446744073709551616",
+        "': number too large to fit in target type. MOMENT is a number, or 'now'\n",
+    ),
+    (
+        "cq|write|q|x",
+        "error: invalid value 'x' for '<MOMENT>': invalid digit found in string. MOMENT is a number, or 'now'\n",
+    ),
+    (
+        "cq|write|q|--|-1",
+        "error: invalid value '-1' for '<MOMENT>': invalid digit found in string. MOMENT is a number, or 'now'\n",
+    ),
+    (
+        "cq|write|q|",
+        "error: invalid value '' for '<MOMENT>': cannot parse integer from empty string. MOMENT is a number, or 'now'\n",
+    ),
+    ("cq|write|q|Now", "invalid value 'Now' for '<MOMENT>'"),
+    ("cq|write|q|now ", "invalid value 'now ' for '<MOMENT>'"),
+    ("cq|write|q|+", "invalid value '+' for '<MOMENT>'"),
+    ("cq|write|q|+007", "Write { folder: \"q\", moment: 7 }"),
+    (
+        "cq|write|q|now",
+        "WriteBy { folder: \"q\", settings: WriteSettings { moment: None, form: Lines } }",
+    ),
+    (
+        "cq|write|now|now|--null",
+        "WriteBy { folder: \"now\", settings: WriteSettings { moment: None, form: Null } }",
+    ),
+    (
+        "cq|write|--whole|q|now",
+        "WriteBy { folder: \"q\", settings: WriteSettings { moment: None, form: Whole } }",
+    ),
+    (
+        "cq|write|q|--null|0",
+        "WriteBy { folder: \"q\", settings: WriteSettings { moment: Some(0), form: Null } }",
+    ),
+    (
+        "cq|write|q|18446744073709551615|--whole",
+        "WriteBy { folder: \"q\", settings: WriteSettings { moment: Some(18446744073709551615), form: Whole } }",
+    ),
+    (
+        "cq|write|q|0|--null|--whole",
+        "the argument '--null' cannot be used with '--whole'",
+    ),
+    (
+        "cq|write|q|now|--whole|--null",
+        "the argument '--whole' cannot be used with '--null'",
+    ),
+    ("cq|write|q|x|--null", "invalid value 'x' for '<MOMENT>'"),
+    ("cq|write|q|0|--null=1", "unexpected value '1' for '--null'"),
+    ("cq|write|q|--null", "<MOMENT>"),
+    (
+        "cq|write|--help",
+        "Usage: cq write [OPTIONS] <DIR> <MOMENT>",
     ),
     (
         "cq|log|q|--syncs|0",
@@ -308,15 +462,6 @@ static OTHERS: [(&str, &str); 77] = [
     ("cq|log", "<DIR>"),
     ("cq|log|q|now", "unexpected argument 'now'"),
     ("cq|log|--help", "Usage: cq log [OPTIONS] <DIR>"),
-    ("cq|write|q", "<MOMENT>"),
-    ("cq|write|q|1|2", "unexpected argument '2'"),
-    ("cq|write|q|-1", "unexpected argument '-1'"),
-    (
-        "cq|write|q|18446744073709551616",
-        "invalid value '18446744073709551616' for '<MOMENT>'",
-    ),
-    ("cq|write|q|now", "invalid value 'now' for '<MOMENT>'"),
-    ("cq|write|q|", "invalid value '' for '<MOMENT>'"),
     (
         "cq|take|q|reader",
         "Take { folder: \"q\", name: \"reader\" }",
@@ -325,15 +470,15 @@ static OTHERS: [(&str, &str); 77] = [
     ("cq|take|q|r|s", "unexpected argument 's'"),
     (
         "cq|take|q|reader|--limit|4294967295",
-        "TakeBy { folder: \"q\", name: \"reader\", settings: TakeSettings { limit: Some(4294967295), peek: false } }",
+        "TakeBy { folder: \"q\", name: \"reader\", settings: TakeSettings { limit: Some(4294967295), peek: false, wait: None } }",
     ),
     (
         "cq|take|--peek|q|reader",
-        "TakeBy { folder: \"q\", name: \"reader\", settings: TakeSettings { limit: None, peek: true } }",
+        "TakeBy { folder: \"q\", name: \"reader\", settings: TakeSettings { limit: None, peek: true, wait: None } }",
     ),
     (
         "cq|take|q|--limit=1|reader|--peek",
-        "TakeBy { folder: \"q\", name: \"reader\", settings: TakeSettings { limit: Some(1), peek: true } }",
+        "TakeBy { folder: \"q\", name: \"reader\", settings: TakeSettings { limit: Some(1), peek: true, wait: None } }",
     ),
     (
         "cq|take|q|reader|--limit|0",
@@ -343,7 +488,36 @@ static OTHERS: [(&str, &str); 77] = [
         "cq|take|q|reader|--limit|4294967296",
         "invalid value '4294967296' for '--limit <N>'",
     ),
+    (
+        "cq|take|q|reader|--wait|1",
+        "TakeBy { folder: \"q\", name: \"reader\", settings: TakeSettings { limit: None, peek: false, wait: Some(1) } }",
+    ),
+    (
+        "cq|take|--wait=4294967295|q|--limit|2|reader|--peek",
+        "TakeBy { folder: \"q\", name: \"reader\", settings: TakeSettings { limit: Some(2), peek: true, wait: Some(4294967295) } }",
+    ),
+    (
+        "cq|take|q|reader|--wait|0",
+        "invalid value '0' for '--wait <SECONDS>'",
+    ),
+    (
+        "cq|take|q|reader|--wait|4294967296",
+        "invalid value '4294967296' for '--wait <SECONDS>'",
+    ),
+    (
+        "cq|take|q|reader|--wait",
+        "a value is required for '--wait <SECONDS>'",
+    ),
     ("cq|take|--help", "Usage: cq take [OPTIONS] <DIR> <NAME>"),
+];
+
+#[test]
+fn parses_the_words_of_a_writer_and_a_taker(rt: HostRuntime) -> Result<(), Fail> {
+    expect(rt.alloc(), &WRITERS)
+}
+
+/// Arguments of the other commands on a folder, each line with what it is.
+static OTHERS: [(&str, &str); 58] = [
     (
         "cq|drop|q|20009",
         "DropBefore { folder: \"q\", cycle: 20009 }",
@@ -449,6 +623,24 @@ static OTHERS: [(&str, &str); 77] = [
     ("cq|salvage|q", "<FILE>"),
     ("cq|salvage|q|r|s", "unexpected argument 's'"),
     ("cq|salvage|--help", "Usage: cq salvage <DIR> <FILE>"),
+    (
+        "cq|repair|q|20241004.cqi",
+        "Repair { folder: \"q\", file: \"20241004.cqi\", dry_run: false }",
+    ),
+    (
+        "cq|repair|--dry-run|q|../x",
+        "Repair { folder: \"q\", file: \"../x\", dry_run: true }",
+    ),
+    ("cq|repair|q", "<FILE>"),
+    ("cq|repair|q|r|s", "unexpected argument 's'"),
+    (
+        "cq|repair|q|r|--dry-run=1",
+        "unexpected value '1' for '--dry-run'",
+    ),
+    (
+        "cq|repair|--help",
+        "Usage: cq repair [OPTIONS] <DIR> <FILE>",
+    ),
     ("cq|migrate|q", "Migrate { folder: \"q\" }"),
     ("cq|migrate", "<DIR>"),
     ("cq|migrate|q|r", "unexpected argument 'r'"),
@@ -458,152 +650,4 @@ static OTHERS: [(&str, &str); 77] = [
 #[test]
 fn parses_the_words_of_other_commands(rt: HostRuntime) -> Result<(), Fail> {
     expect(rt.alloc(), &OTHERS)
-}
-
-/// Commands, and what the help of each says: of limits, of what is printed, and in an example.
-static HELP: [(&str, &[&str]); 16] = [
-    (
-        "race",
-        &[
-            "Usage: cq race <MESSAGES>",
-            " <MESSAGES>  How many messages each writer appends: from 1 to 1,000\n",
-            "Prints 'writer W: K in order' for the writers 0 and 1: both readers read the first K\n\
-         messages of the writer in their order, and not one more. Then 'reader R: K read' for\n\
-         the readers 0 and 1, where K is how many messages the reader read.\n",
-            "Example:\n  cq race 1000\n",
-        ],
-    ),
-    (
-        "init",
-        &[
-            " <DIR>       The folder of the queue, which is there already\n",
-            " <ROLL>      How long a cycle is: daily, hourly or minutely\n",
-            " <EPOCH>     When cycle 0 begins, in milliseconds of Unix time: at most 253,402,300,799,999\n",
-            " <CELLS>     The cells of a cycle, of four bytes each: from 13 + 2 * (1 + COUNT) to 1,048,576\n",
-            " <COUNT>     The entries of a table of the index: a power of two from 8 to 1,024\n",
-            " <SPACING>   One message in so many has an entry in the index: a power of two from 1 to 256\n",
-            " <CYCLES>    How many cycles may begin: from 1 to 64, and CYCLES * CELLS is at most 4,194,304\n",
-            " [NAMES]...  The names of the tailers: at most 16, no two the same,\n",
-            " each of 1 to 32 bytes of A-Z, a-z, 0-9, '_', '-' and '.'\n",
-            "Example:\n  mkdir journal && cq init journal daily 0 65536 32 1 8 reader\n",
-        ],
-    ),
-    (
-        "echo",
-        &[
-            "Input: at most 129,000 bytes, in at most 1,000 lines of 1 to 128 bytes\n",
-            "Example:\n  printf 'hello\\nworld\\n' | cq echo\n",
-        ],
-    ),
-    (
-        "cycle",
-        &[
-            " <ROLL>    How long a cycle is: daily, hourly or minutely\n",
-            " <EPOCH>   When cycle 0 begins, in milliseconds of Unix time: at most 253,402,300,799,999\n",
-            " <MOMENT>  The moment, in milliseconds of Unix time: from EPOCH to 253,402,300,799,999,\n",
-            " and in a cycle up to 2,147,483,646\n",
-            "Example:\n  cq cycle daily 0 $(date +%s%3N)\n",
-        ],
-    ),
-    (
-        "log",
-        &[
-            "Input: until it ends, lines that are not empty, each in a cycle with room for it. A line has the time\n",
-            "Example:\n  printf 'hello\\nworld\\n' | cq log journal\n",
-        ],
-    ),
-    (
-        "write",
-        &[
-            " <MOMENT>  The moment of the lines, in milliseconds of Unix time: from the queue's EPOCH\n",
-            " to 253,402,300,799,999, and in a cycle up to 2,147,483,646\n",
-            "Input: at most 8,388,608 bytes, of which no line is empty, and all fit into one cycle\n",
-            "Example:\n  printf 'hello\\nworld\\n' | cq write journal $(date +%s%3N)\n",
-        ],
-    ),
-    (
-        "read",
-        &[
-            " --from <INDEX>  The index to begin at: 16 lower-case hexadecimal digits\n",
-            " --last <N>      Prints the last N messages, in order. Not with --back, --from and --limit\n",
-            " --since <W>     Prints messages at or above W alone. Not with --from\n",
-            " --hex           Prints the index, a space and the bytes in hexadecimal digits, on a line\n",
-            "W is an index of 16 lower-case hexadecimal digits; '@' and the milliseconds of Unix time of a moment,\n",
-            "Examples:\n  cq read journal --from 00004e2000000000\n  cq read journal --since 20241004 --json\n",
-        ],
-    ),
-    (
-        "take",
-        &[
-            " <NAME>  The name of the tailer: one of the NAMES that the queue was made with\n",
-            " --limit <N>  Takes the next N messages at once, or as many as have come\n",
-            " --peek       Prints what it would take, and does not move the tailer\n",
-            "With an option it prints nothing where no message has come, and its status is 4 then. Without one it\n",
-            "Example:\n  cq take journal reader\n  while cq take journal reader --limit 100; do :; done\n",
-        ],
-    ),
-    (
-        "drop",
-        &[
-            " <CYCLE>  Reads pass over the cycles before this one. One above the last cycle counts as that\n",
-            "Example:\n  cq drop journal 20005\n",
-        ],
-    ),
-    (
-        "trim",
-        &[
-            " --keep <N>    Drops all cycles but the last N that have begun\n",
-            " --before <W>  Drops the cycles before this one: that of an index of 16 lower-case hexadecimal digits,\n",
-            "With both the one that drops more counts. The last cycle is always kept. It drops nothing if messages of\n",
-            "Example:\n  cq trim journal --keep 30\n",
-        ],
-    ),
-    (
-        "check",
-        &[
-            " <DIR>  The folder of the queue, which is there already\n",
-            "Example:\n  cq check journal\n",
-        ],
-    ),
-    (
-        "stat",
-        &[
-            "'more_cycles' with what is left; 'name' with the name, its position and the messages that are left\n",
-            "Example:\n  cq stat journal | awk '$1 == \"name\" { print $2, $4 }'\n",
-        ],
-    ),
-    (
-        "dump",
-        &[
-            " <FILE>  The image's file in DIR: yyyyMMdd.cqi, yyyyMMdd-HH.cqi or yyyyMMdd-HHmm.cqi, by the roll\n",
-            "Example:\n  cq dump journal $(date -u +%Y%m%d).cqi\n",
-        ],
-    ),
-    (
-        "salvage",
-        &[
-            " <FILE>  The image's file in DIR: yyyyMMdd.cqi, yyyyMMdd-HH.cqi or yyyyMMdd-HHmm.cqi, by the roll\n",
-            "Example:\n  cq salvage journal $(date -u +%Y%m%d).cqi\n",
-        ],
-    ),
-    (
-        "migrate",
-        &[
-            "CELLS + 3 is to be at most 1,048,576, and CYCLES * (CELLS + 3) at most 4,194,304.\n",
-            "Example:\n  cq migrate journal\n",
-        ],
-    ),
-    (
-        "name",
-        &[
-            " <ACTION>  What is done: list, add, remove or move\n",
-            "--at 0000000000000000 it starts from the beginning. 'remove NAME' removes a name with its position.\n",
-            "Example:\n  cq name journal add reader --at 20241004\n",
-        ],
-    ),
-];
-
-#[test]
-fn help_says_limits_what_is_printed_and_an_example(rt: HostRuntime) -> Result<(), Fail> {
-    expect_help(rt.alloc(), &HELP)
 }

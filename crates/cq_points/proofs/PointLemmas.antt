@@ -6,7 +6,7 @@ use Rattle.cq_cycle.specs.Name.{NamesNoCycle}
 use Rattle.cq_cycle.specs.declared.roll.Roll.{Roll}
 use Rattle.cq_text.specs.declared.fault.ToolFault.{ToolFault}
 use Rattle.cq_text.specs.declared.fault.ToolFault.TheVariants.{BadIndex}
-use Rattle.cq_points.specs.Points.{IsPointFault, TellsMoment}
+use Rattle.cq_points.specs.Points.{IsPointFault, SpellsMoment}
 
 -- nothing is not something
 no_some : {X : Type 0} (x : X) → None ≡ Some x → ⊥
@@ -15,7 +15,7 @@ no_some {X} x e = subst (λ (o : Option X). MatchOption o ⊤ (λ some. ⊥)) e 
 -- a word that is no index, no moment and no name means no index
 pub means_none : (roll : Roll) (epoch : ℕ) (word : List ℕ) (fault : ToolFault)
     → ((index : ℕ) → index < 2 ^ 64 → word ≡ index_text index → None ≡ Some index)
-    → ((moment : ℕ) → TellsMoment word moment → None ≡ Some moment)
+    → ((moment : ℕ) → SpellsMoment word moment → None ≡ Some moment)
     → fault ≡ BadIndex → NamesNoCycle roll epoch word → IsPointFault roll epoch word fault
 means_none roll epoch word fault index moment is unnamed =
     subst (IsPointFault roll epoch word) (sym is) (record {

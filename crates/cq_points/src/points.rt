@@ -3,7 +3,7 @@ ghost use Rattle.std.specs.Int.{IsInRange};
 ghost use Rattle.cq_cycle.specs.Cycle.{HasCycle, IsMoment, cycle_of};
 ghost use Rattle.cq_cycle.specs.Index.{index_text};
 ghost use Rattle.cq_cycle.specs.Name.{IsName, NamesNoCycle};
-ghost use Rattle.cq_points.specs.Points.{IsPointFault, MeansPoint, TellsMoment};
+ghost use Rattle.cq_points.specs.Points.{IsPointFault, MeansPoint, SpellsMoment};
 
 use cq_cycle::{Index, Roll, cycle_named, cycle_of};
 use cq_text::ToolFault;
@@ -24,7 +24,7 @@ pub fn point_meant(roll: Roll, epoch: u64, word: &str) -> Result<Index, ToolFaul
     ensures found { IfOk result (MeansPoint roll epoch word.now) }
     ensures fault { IfErr result (IsPointFault roll epoch word.now) }
 {
-    match (index_spelled(word), moment_told(word)) {
+    match (index_spelled(word), moment_spelled(word)) {
         (Some(index), _) => Ok(index),
         (None, Some(moment)) => Ok(Index::new(cycle_at(roll, epoch, moment)?, 0)),
         (None, None) => Ok(Index::new(cycle_with_name(roll, epoch, word)?, 0)),
@@ -64,10 +64,10 @@ fn cycle_with_name(roll: Roll, epoch: u64, name: &str) -> Result<u32, ToolFault>
     }
 }
 
-/// Returns the moment that a word tells.
-fn moment_told(word: &str) -> Option<u64>
-    ensures found { IfSome result (TellsMoment word.now) }
-    ensures only { (moment : ℕ) → TellsMoment word.now moment → result ≡ Some moment }
+/// Returns the moment that a word spells.
+fn moment_spelled(word: &str) -> Option<u64>
+    ensures found { IfSome result (SpellsMoment word.now) }
+    ensures only { (moment : ℕ) → SpellsMoment word.now moment → result ≡ Some moment }
 {
     let digits = word.strip_prefix(MOMENT_SIGN)?;
     u64::from_str_radix(digits, 10).ok()

@@ -15,7 +15,7 @@ use Rattle.cq_text.specs.CycleLine.{HasCause, IsCycleLine}
 use Rattle.cq_text.specs.Output.{AppendsBeginning}
 use Rattle.cq_commands.specs.Orders.{Ends, Streams}
 use Rattle.cq_commands.specs.QueueFaults.{IsTakeFault}
-use Rattle.cq_commands.specs.Saving.{SavesAndPrints}
+use Rattle.cq_writing.specs.Saving.{SavesAndPrints}
 use Rattle.cq_commands.specs.Taken.{IsTaken}
 use Rattle.cq_commands.proofs.running.run.Goals as goal
 
