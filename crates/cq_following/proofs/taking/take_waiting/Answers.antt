@@ -1,0 +1,23 @@
+use Rattle.std.proofs.Common.{arith}
+use Rattle.std.proofs.KnownBytes.{Keeps-trans}
+use Rattle.cq_files.proofs.QueueLemmas.{keeps-trans}
+use Rattle.cq_following.proofs.WaitingLemmas.{nothing_taken}
+use Rattle.cq_following.proofs.taking.take_waiting.Goals as goal
+
+pub takes-preserved : goal.takes-preserved
+takes-preserved g c =
+    let before = g.F.Folder.files c.args.folder.now in
+    let files = g.F.Folder.files c.takes.folder in
+    let after = g.F.Folder.files c.take_by-done.new.folder in
+    let old = g.W.Write.contents c.args.output.now in
+    let middle = g.W.Write.contents c.takes.output in
+    let new = g.W.Write.contents c.take_by-done.new.output in
+    let low = c.takes.invariant.later in
+    let high = c.take_by-done.ensures.counted.later in
+    let none = nothing_taken c.args.settings.now c.args.name.now files after middle new c.take_by-done.result
+    (c.is_nothing.ensures.0 c.if-not-is_nothing.false) c.take_by-done.ensures.took in
+    record {
+      kept = keeps-trans before files after c.takes.invariant.kept none.0;
+      unwritten = Keeps-trans old middle new c.takes.invariant.unwritten none.1;
+      later = omega (arith, low, high);
+    }

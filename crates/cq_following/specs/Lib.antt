@@ -1,0 +1,3 @@
+pub mod Times
+pub mod Following
+pub mod Waiting

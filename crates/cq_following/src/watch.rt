@@ -1,0 +1,133 @@
+//! How a command waits between looks at a folder.
+ghost use Rattle.std.specs.Prelude.{◌≡◌, ◌<◌, ◌≤◌, ◌*◌, false, min, true};
+ghost use Rattle.cq_following.specs.Times.{end_after, left_until};
+
+use crate::changes::Changes;
+use std::alloc::Global;
+use std::rt::Clock;
+use std::time::Duration;
+
+/// The first pause between two looks, in milliseconds.
+pub(crate) const FIRST_PAUSE: u64 = 50;
+
+/// The longest pause.
+pub(crate) const LONGEST_PAUSE: u64 = 200;
+
+/// Waits between looks at a folder that may change (ours), up to an end. A pause has 50 milliseconds at first, and then more and
+/// more, up to 200. None goes on past the end.
+#[derive(Drop)]
+pub struct Watch<'a, R, C> {
+    rt: &'a R,
+    changes: C,
+    /// When it ends, in milliseconds of the clock; `None` if never.
+    end: Option<u64>,
+    /// The next pause, in milliseconds.
+    pause: u64,
+    /// Whether the end has come.
+    is_over: bool,
+}
+
+impl<'a, R: AllocGlobal + Clock, C: Changes> Watch<'a, R, C> {
+    /// Makes a watch over a folder, of which `changes` says whether it may have changed.
+    pub fn new(rt: &'a R, changes: C) -> Watch<'a, R, C> {
+        Watch {
+            rt,
+            changes,
+            end: None,
+            pause: FIRST_PAUSE,
+            is_over: false,
+        }
+    }
+
+    /// Returns the allocator.
+    pub(crate) fn alloc(&self) -> Global {
+        self.rt.alloc()
+    }
+
+    /// Begins to wait, for this many seconds; `None` is for ever. If the clock cannot be read, the end of a given time has come.
+    pub(crate) fn begin(&mut self, seconds: Option<u64>)
+        ensures { self.new.is_over ≡ false }
+    {
+        self.end = match seconds {
+            None => None,
+            Some(seconds) => Some(end_after(milliseconds(self.rt), seconds)),
+        };
+        self.pause = FIRST_PAUSE;
+        self.is_over = false;
+    }
+
+    /// Makes the next pause a first one, if something has come.
+    pub(crate) fn hurry_if(&mut self, has_come: bool)
+        ensures { self.new.is_over ≡ self.old.is_over }
+    {
+        if has_come {
+            self.pause = FIRST_PAUSE;
+        }
+    }
+
+    /// Returns whether the end has come.
+    pub(crate) fn is_over(&self) -> bool
+        ensures { result ≡ self.now.is_over }
+    {
+        self.is_over
+    }
+
+    /// Ends it.
+    pub(crate) fn end(&mut self)
+        ensures { self.new.is_over ≡ true }
+    {
+        self.is_over = true;
+    }
+
+    /// Waits until the folder may have changed, or until the end.
+    pub(crate) fn wait(&mut self) {
+        for _ in 0..u64::MAX {
+            let left = left_until(milliseconds(self.rt), self.end);
+            if left == 0 {
+                break;
+            }
+            self.rt.sleep(Duration::from_millis(self.pause.min(left)));
+            self.pause = longer(self.pause);
+            if self.changes.may_have_changed() {
+                return;
+            }
+        }
+        self.end();
+    }
+}
+
+/// Returns the time of the clock in milliseconds; `None` if it cannot be read.
+pub(crate) fn milliseconds<R: Clock>(rt: &R) -> Option<u64> {
+    match rt.monotonic() {
+        Ok(time) => Some(u64::try_from(time.as_millis()).unwrap_or(u64::MAX)),
+        Err(_) => None,
+    }
+}
+
+/// Returns the end of a time of this many seconds from now on, in milliseconds: 0 if it is not known what time it is.
+fn end_after(now: Option<u64>, seconds: u64) -> u64
+    ensures { result ≡ end_after now seconds }
+{
+    match now {
+        None => 0,
+        Some(now) => now.saturating_add(seconds.saturating_mul(1_000)),
+    }
+}
+
+/// Returns how many milliseconds are left until an end. There is none before an end if it is not known what time it is.
+fn left_until(now: Option<u64>, end: Option<u64>) -> u64
+    ensures { result ≡ left_until now end }
+{
+    match (now, end) {
+        (_, None) => u64::MAX,
+        (None, Some(_)) => 0,
+        (Some(now), Some(end)) => end.saturating_sub(now),
+    }
+}
+
+/// Returns the pause after this one: twice as long, but not longer than the longest one.
+fn longer(pause: u64) -> u64
+    ensures { result ≡ min (pause * 2) LONGEST_PAUSE }
+{
+    pause.saturating_mul(2).min(LONGEST_PAUSE)
+}
