@@ -1,0 +1,5 @@
+mod EndLemmas
+mod FindLemmas
+mod LineLemmas
+mod SaveLemmas
+mod PlanLemmas

@@ -1,0 +1,4 @@
+pub mod Found
+pub mod Kept
+pub mod Plans
+pub mod Repairs

@@ -1,0 +1,106 @@
+//! Decides whether an image is repaired.
+
+ghost use Rattle.std.specs.Prelude.{◌≡◌, ◌≢◌, ◌↔◌, IfErr, IfOk, IfSome, IsSome, IsSomeAnd, IsTrue, OnOk, Some};
+ghost use Rattle.cq_folder.specs.Folder.{KeepsFiles, named_file};
+ghost use Rattle.cq_files.specs.Counted.{CountsFaults};
+ghost use Rattle.cq_files.specs.FolderFaults.{IsFileFault, IsSaveFault};
+ghost use Rattle.cq_repair.specs.Plans.{Decides, IsUndecided, IsUnlessTaken, access_for};
+
+use crate::RepairRefusal;
+use crate::finding::find;
+use crate::planning::{Plan, plan_for};
+use cq_folder::{Access, Folder, FolderFault};
+use cq_text::ToolFault;
+use std::alloc::Global;
+
+/// Whether an image is repaired.
+#[derive(Drop)]
+pub(crate) enum Decision {
+    /// It is: this is done and printed.
+    Repair(Plan),
+    /// It is not.
+    Refuse(RepairRefusal),
+}
+
+/// Finds the image whose file has this name, and decides what is done.
+///
+/// Errors, in this order: those of `find`; `FileFault` of the old file's new name.
+pub(crate) fn decide<F: Folder>(
+    alloc: Global,
+    folder: &mut F,
+    file: &str,
+    dry_run: bool,
+) -> Result<Decision, ToolFault>
+    ensures decides { IfOk result (Decides dry_run file.now (F.files folder.old)) }
+    ensures cause { IfErr result (λ fault. IfSome (F.files folder.old) (λ files. IsUndecided file.now files fault)) }
+    ensures unprinted { IfErr result (λ fault. fault ≢ ToolFault.WriteFault) }
+    ensures kept { KeepsFiles (F.files folder.old) (F.files folder.new) }
+    ensures counted { CountsFaults (F.failed folder.old) (F.failed folder.new) result }
+    ensures inside { OnOk result (F.entered folder.new ≡ Some (access_for dry_run)) }
+{
+    let found = find(alloc, folder, access_for(dry_run), file)?;
+    match plan_for(alloc, found, file, dry_run)? {
+        None => Ok(Decision::Refuse(RepairRefusal::NoFault(String::from_str(alloc, file)?))),
+        Some(plan) => unless_taken(alloc, folder, plan),
+    }
+}
+
+/// Returns how the folder is entered: a dry run changes nothing, so it shares the folder.
+fn access_for(dry_run: bool) -> Access
+    ensures { result ≡ access_for dry_run }
+{
+    if dry_run {
+        Access::Shared
+    } else {
+        Access::Alone
+    }
+}
+
+/// Decides for a plan, unless a file with other bytes has the name that the old file would get.
+fn unless_taken<F: Folder>(alloc: Global, folder: &mut F, plan: Plan) -> Result<Decision, ToolFault>
+    requires { IsSome (F.entered folder.old) }
+    ensures decides { IfOk result (IsUnlessTaken plan (F.files folder.old)) }
+    ensures save { IfErr result IsSaveFault }
+    ensures fault { IfErr result (IsFileFault (named_file plan.old).0) }
+    ensures unprinted { IfErr result (λ fault. fault ≢ ToolFault.WriteFault) }
+    ensures kept { KeepsFiles (F.files folder.old) (F.files folder.new) }
+    ensures counted { CountsFaults (F.failed folder.old) (F.failed folder.new) result }
+    ensures inside { F.entered folder.new ≡ F.entered folder.old }
+{
+    if plan.is_taken
+        && !holds(
+            alloc,
+            folder,
+            plan.old.name.as_str(),
+            plan.old.bytes.as_slice(),
+        )?
+    {
+        return Ok(Decision::Refuse(RepairRefusal::ThereAlready(plan.old.name)));
+    }
+    Ok(Decision::Repair(plan))
+}
+
+/// Returns whether a file that was listed has these bytes.
+fn holds<F: Folder>(
+    alloc: Global,
+    folder: &mut F,
+    name: &str,
+    bytes: &[u8],
+) -> Result<bool, ToolFault>
+    requires { IsSome (F.entered folder.old) }
+    ensures held { IfOk result (λ same. IfSome (F.files folder.old) (λ files.
+        IsSomeAnd (files name.now) (λ held. IsTrue same ↔ (held ≡ bytes.now)))) }
+    ensures save { IfErr result IsSaveFault }
+    ensures fault { IfErr result (IsFileFault name.now) }
+    ensures unprinted { IfErr result (λ fault. fault ≢ ToolFault.WriteFault) }
+    ensures kept { KeepsFiles (F.files folder.old) (F.files folder.new) }
+    ensures counted { CountsFaults (F.failed folder.old) (F.failed folder.new) result }
+    ensures inside { F.entered folder.new ≡ F.entered folder.old }
+{
+    match folder.read(alloc, name, bytes.len()) {
+        Ok(held) => Ok(held.as_slice() == bytes),
+        Err(FolderFault::TooLarge) => Ok(false),
+        Err(FolderFault::Device) => Err(ToolFault::FileFault(String::from_str(alloc, name)?)),
+        Err(FolderFault::OutOfMemory) => Err(ToolFault::OutOfMemory),
+    }
+}
