@@ -4,13 +4,22 @@
 //! standard error.
 #![tactic(auto)]
 
+use cq_tools::{Start, Terminals, status};
+use std::io::IsTerminal;
 use std::process::ExitCode;
 use std::rt::Env;
 use std::{env, io, process};
 
 fn main(rt: HostRuntime) -> ExitCode {
-    let process = process::id(rt.process());
-    ExitCode::from(cq_tools::status(&rt, &rt, words(&rt), process))
+    let start = Start {
+        words: words(&rt),
+        process: process::id(rt.process()),
+        terminals: Terminals {
+            input: rt.stdin().is_terminal(),
+            errors: rt.stderr().is_terminal(),
+        },
+    };
+    ExitCode::from(status(&rt, &rt, start))
 }
 
 /// Returns the words of the command line. The first is the program's name.

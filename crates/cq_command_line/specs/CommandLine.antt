@@ -11,16 +11,19 @@ use Rattle.cq_command_line.specs.declared.arguments.Argument.{Argument}
 use Rattle.cq_command_line.specs.declared.commands.Description.{Description}
 use Rattle.cq_command_line.specs.declared.arguments.Argument.TheVariants.{Word, Number, Between, Words, Flag, Option, OptionBetween, FlagAgainst, OptionAgainst, CountAgainst, Maybe}
 use Rattle.cq_orders.specs.declared.order.Order.{Order}
-use Rattle.cq_orders.specs.declared.order.Order.TheVariants.{Echo, Cycle, Init, Write, Log, Read, Take, TakeBy, Check, Stat, Dump, Salvage, Race, DropBefore, Trim, Migrate, Names}
+use Rattle.cq_orders.specs.declared.order.Order.TheVariants.{Echo, Cycle, Init, Write, WriteBy, Log, Read, Follow, Take, TakeBy, Check, Stat, Dump, Salvage, Race, DropBefore, Trim, Migrate, Names, New, Repair, Explain}
 
 -- the word that names the command
 abbrev pub word_of : Order → List ℕ
 word_of Echo = codes "echo"
 word_of (Cycle roll epoch moment) = codes "cycle"
 word_of (Init folder settings) = codes "init"
+word_of (New folder settings) = codes "new"
 word_of (Write folder moment) = codes "write"
+word_of (WriteBy folder settings) = codes "write"
 word_of (Log folder settings) = codes "log"
 word_of (Read folder settings) = codes "read"
+word_of (Follow folder settings seconds) = codes "read"
 word_of (Take folder name) = codes "take"
 word_of (TakeBy folder name settings) = codes "take"
 word_of (DropBefore folder cycle) = codes "drop"
@@ -29,9 +32,11 @@ word_of (Check folder) = codes "check"
 word_of (Stat folder json) = codes "stat"
 word_of (Dump folder file) = codes "dump"
 word_of (Salvage folder file) = codes "salvage"
+word_of (Repair folder file dry_run) = codes "repair"
 word_of (Migrate folder) = codes "migrate"
 word_of (Race messages) = codes "race"
 word_of (Names folder change) = codes "name"
+word_of (Explain words) = codes "explain"
 
 -- an argument that is to be given: any word, a number below 2^64, or one between two others
 abbrev pub word_rule : List ℕ → Rule
@@ -64,6 +69,10 @@ option_between_rule name low high = record (option_rule name) { parser = Some (U
 -- an argument that cannot be given with any of these others. Its rule does not say which they are, but that there are some
 abbrev pub against : {A : Type 0} → List A → Rule → Rule
 against others rule = record rule { is_free = rule.is_free && is_empty others }
+
+-- a rule of an argument that cannot be given with some others
+abbrev pub bound : Rule → Rule
+bound rule = record rule { is_free = false }
 
 -- one word, or none
 abbrev pub maybe_rule : List ℕ → Rule
@@ -100,9 +109,10 @@ abbrev pub with_commands : App → List Description → App
 with_commands app [] = app
 with_commands app (first ∷ rest) = with_commands (with_subcommand app (command_for first).top) rest
 
--- the program without its commands, of which one is to be named
+-- the program without its commands, of which one is to be named. It has a version
 abbrev pub program : App
-program = let app = new_app (codes "cq") in record { top = record app.top { subcommand_required = true }; subs = app.subs }
+program =
+    let app = new_app (codes "cq") in record { top = record app.top { subcommand_required = true; has_version = true }; subs = app.subs }
 
 -- the command `echo`, without arguments
 abbrev pub echo_command : App
@@ -117,6 +127,10 @@ cycle_command =
 abbrev pub race_command : App
 race_command = with_rule (new_app (codes "race")) (between_rule (codes "MESSAGES") 1 1000)
 
+-- the command `explain`: the words of a fault
+abbrev pub explain_command : App
+explain_command = with_rule (new_app (codes "explain")) (words_rule (codes "WORDS"))
+
 -- the command `init`
 abbrev pub init_command : App
 init_command =
@@ -124,9 +138,17 @@ init_command =
     (word_rule (codes "DIR"))) (word_rule (codes "ROLL"))) (number_rule (codes "EPOCH"))) (number_rule (codes "CELLS"))) (number_rule (codes "COUNT")))
     (number_rule (codes "SPACING"))) (number_rule (codes "CYCLES"))) (words_rule (codes "NAMES"))
 
--- the command `write`
+-- the command `new`: the folder, the names, and what may be left out of the other settings
+abbrev pub new_command : App
+new_command =
+    with_rule (with_rule (with_rule (with_rule (with_rule (new_app (codes "new")) (word_rule (codes "DIR"))) (words_rule (codes "NAMES")))
+    (option_rule (codes "roll"))) (option_between_rule (codes "cells") 1 1048576)) (option_between_rule (codes "cycles") 1 64)
+
+-- the command `write`. The moment is a number or the word `now`, so any word passes here
 abbrev pub write_command : App
-write_command = with_rule (with_rule (new_app (codes "write")) (word_rule (codes "DIR"))) (number_rule (codes "MOMENT"))
+write_command =
+    with_rule (with_rule (with_rule (with_rule (new_app (codes "write")) (word_rule (codes "DIR"))) (word_rule (codes "MOMENT")))
+    (bound (flag_rule (codes "null")))) (flag_rule (codes "whole"))
 
 -- the command `log`
 abbrev pub log_command : App
@@ -134,16 +156,13 @@ log_command =
     with_rule (with_rule (with_rule (with_rule (new_app (codes "log")) (word_rule (codes "DIR"))) (option_between_rule (codes "for") 1 (2 ^ 32 - 1)))
     (option_between_rule (codes "syncs") 0 2)) (option_between_rule (codes "checkpoint") 1 (2 ^ 32 - 1))
 
--- a rule of an argument that cannot be given with some others
-abbrev pub bound : Rule → Rule
-bound rule = record rule { is_free = false }
-
 -- the rules of `read`: the folder, which messages are printed, and in which form
 abbrev pub read_rules : List Rule
 read_rules =
     word_rule (codes "DIR") ∷ flag_rule (codes "back") ∷ option_rule (codes "from") ∷ option_between_rule (codes "limit") 1 (2 ^ 32 - 1)
     ∷ bound (option_between_rule (codes "last") 1 (2 ^ 32 - 1)) ∷ bound (option_rule (codes "since")) ∷ option_rule (codes "until")
-    ∷ bound (flag_rule (codes "text")) ∷ bound (flag_rule (codes "null")) ∷ bound (flag_rule (codes "hex")) ∷ flag_rule (codes "json") ∷ []
+    ∷ bound (flag_rule (codes "text")) ∷ bound (flag_rule (codes "null")) ∷ bound (flag_rule (codes "hex")) ∷ flag_rule (codes "json")
+    ∷ bound (flag_rule (codes "follow")) ∷ option_between_rule (codes "for") 1 (2 ^ 32 - 1) ∷ []
 
 -- the command `read`
 abbrev pub read_command : App
@@ -152,8 +171,8 @@ read_command = fold with_rule (new_app (codes "read")) read_rules
 -- the command `take`
 abbrev pub take_command : App
 take_command =
-    with_rule (with_rule (with_rule (with_rule (new_app (codes "take")) (word_rule (codes "DIR"))) (word_rule (codes "NAME")))
-    (option_between_rule (codes "limit") 1 (2 ^ 32 - 1))) (flag_rule (codes "peek"))
+    with_rule (with_rule (with_rule (with_rule (with_rule (new_app (codes "take")) (word_rule (codes "DIR"))) (word_rule (codes "NAME")))
+    (option_between_rule (codes "limit") 1 (2 ^ 32 - 1))) (flag_rule (codes "peek"))) (option_between_rule (codes "wait") 1 (2 ^ 32 - 1))
 
 -- the command `drop`
 abbrev pub drop_command : App
@@ -181,6 +200,11 @@ dump_command = with_rule (with_rule (new_app (codes "dump")) (word_rule (codes "
 abbrev pub salvage_command : App
 salvage_command = with_rule (with_rule (new_app (codes "salvage")) (word_rule (codes "DIR"))) (word_rule (codes "FILE"))
 
+-- the command `repair`
+abbrev pub repair_command : App
+repair_command =
+    with_rule (with_rule (with_rule (new_app (codes "repair")) (word_rule (codes "DIR"))) (word_rule (codes "FILE"))) (flag_rule (codes "dry-run"))
+
 -- the command `migrate`
 abbrev pub migrate_command : App
 migrate_command = with_rule (new_app (codes "migrate")) (word_rule (codes "DIR"))
@@ -193,24 +217,30 @@ name_command =
 
 -- the commands that need no folder
 abbrev pub plain_commands : App → App
-plain_commands app = with_subcommand (with_subcommand (with_subcommand app echo_command.top) cycle_command.top) race_command.top
+plain_commands app =
+    with_subcommand (with_subcommand (with_subcommand (with_subcommand app echo_command.top) cycle_command.top) race_command.top) explain_command.top
 
 -- the commands on the messages of a queue that is stored in a folder
 abbrev pub message_commands : App → App
 message_commands app =
-    with_subcommand (with_subcommand (with_subcommand (with_subcommand (with_subcommand app init_command.top) write_command.top) log_command.top)
-    read_command.top) take_command.top
+    with_subcommand (with_subcommand (with_subcommand (with_subcommand (with_subcommand (with_subcommand app init_command.top) new_command.top)
+    write_command.top) log_command.top) read_command.top) take_command.top
 
 -- the commands that look after such a queue
 abbrev pub care_commands : App → App
 care_commands app =
-    with_subcommand (with_subcommand (with_subcommand (with_subcommand (with_subcommand (with_subcommand (with_subcommand (with_subcommand app
-    drop_command.top) trim_command.top) check_command.top) stat_command.top) dump_command.top) salvage_command.top) migrate_command.top)
-    name_command.top
+    with_subcommand (with_subcommand (with_subcommand (with_subcommand (with_subcommand app drop_command.top) trim_command.top) name_command.top)
+    migrate_command.top) stat_command.top
+
+-- the commands that look at its images
+abbrev pub image_commands : App → App
+image_commands app =
+    with_subcommand (with_subcommand (with_subcommand (with_subcommand app check_command.top) dump_command.top) salvage_command.top)
+    repair_command.top
 
 -- the program with all its commands
 abbrev pub command_line : App
-command_line = care_commands (message_commands (plain_commands program))
+command_line = image_commands (care_commands (message_commands (plain_commands program)))
 
 -- the argument follows this rule, and is one of its own command alone
 pub record Follows (arg : Arg) (rule : Rule) : Type 0 where

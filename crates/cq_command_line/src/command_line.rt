@@ -1,12 +1,15 @@
 //! The program's commands and their arguments, as `clap` is given them.
 ghost use Rattle.std.specs.Prelude.{IfOk};
 ghost use Rattle.clap.specs.Words.{App};
-ghost use Rattle.cq_command_line.specs.CommandLine.{Makes, care_commands, command_line, message_commands, plain_commands};
+ghost use Rattle.cq_command_line.specs.CommandLine.{Makes, care_commands, command_line, image_commands, message_commands, plain_commands};
 
 use crate::arguments::Argument;
 use crate::commands::{Description, commands};
 use clap::Command;
 use std::alloc::{AllocError, Global};
+
+/// The version, which `LINNETSHELF_VERSION` of `c/linnetshelf.h` has too.
+const VERSION: &str = "0.1.0";
 
 /// Returns the program and its commands.
 pub(crate) fn command_line<'a>(alloc: Global) -> Result<Command<'a>, AllocError>
@@ -14,35 +17,40 @@ pub(crate) fn command_line<'a>(alloc: Global) -> Result<Command<'a>, AllocError>
 {
     let program = Command::new(alloc, "cq")
         .about("An append journal")
+        .version(VERSION)
         .subcommand_required(true);
-    with_care_commands(
-        alloc,
-        with_message_commands(alloc, with_plain_commands(alloc, program)?)?,
-    )
+    let plain = with_plain_commands(alloc, program)?;
+    let with_messages = with_message_commands(alloc, plain)?;
+    let with_care = with_care_commands(alloc, with_messages)?;
+    with_image_commands(alloc, with_care)
 }
 
 /// Adds the commands that need no folder.
 fn with_plain_commands<'a>(alloc: Global, program: Command<'a>) -> Result<Command<'a>, AllocError>
     ensures { (app : App) → Makes program.entry app → IfOk result (λ made. Makes made (plain_commands app)) }
 {
-    program.subcommands(commands(alloc, &[ECHO, CYCLE, RACE])?)
+    program.subcommands(commands(alloc, &[ECHO, CYCLE, RACE, EXPLAIN])?)
 }
 
 /// Adds the commands on the messages of a queue that is stored in a folder.
 fn with_message_commands<'a>(alloc: Global, program: Command<'a>) -> Result<Command<'a>, AllocError>
     ensures { (app : App) → Makes program.entry app → IfOk result (λ made. Makes made (message_commands app)) }
 {
-    program.subcommands(commands(alloc, &[INIT, WRITE, LOG, READ, TAKE])?)
+    program.subcommands(commands(alloc, &[INIT, NEW, WRITE, LOG, READ, TAKE])?)
 }
 
 /// Adds the commands that look after such a queue.
 fn with_care_commands<'a>(alloc: Global, program: Command<'a>) -> Result<Command<'a>, AllocError>
     ensures { (app : App) → Makes program.entry app → IfOk result (λ made. Makes made (care_commands app)) }
 {
-    program.subcommands(commands(
-        alloc,
-        &[DROP, TRIM, CHECK, STAT, DUMP, SALVAGE, MIGRATE, NAME],
-    )?)
+    program.subcommands(commands(alloc, &[DROP, TRIM, NAME, MIGRATE, STAT])?)
+}
+
+/// Adds the commands that look at its images.
+fn with_image_commands<'a>(alloc: Global, program: Command<'a>) -> Result<Command<'a>, AllocError>
+    ensures { (app : App) → Makes program.entry app → IfOk result (λ made. Makes made (image_commands app)) }
+{
+    program.subcommands(commands(alloc, &[CHECK, DUMP, SALVAGE, REPAIR])?)
 }
 
 const ECHO: Description = Description {
@@ -83,6 +91,15 @@ const RACE: Description = Description {
     )],
 };
 
+const EXPLAIN: Description = Description {
+    name: "explain",
+    about: "Prints what a fault means, and what to do",
+    after_help: "It explains the faults whose texts have WORDS in them, or the one whose message WORDS are. Without WORDS it\n\
+     explains all.\n\n\
+     Example:\n  cq explain folder fault",
+    arguments: &[Argument::Words("WORDS", "Words of the text of a fault")],
+};
+
 const INIT: Description = Description {
     name: "init",
     about: "Makes a queue in a folder",
@@ -107,10 +124,41 @@ const INIT: Description = Description {
             "CYCLES",
             "How many cycles may begin: from 1 to 64, and CYCLES * CELLS is at most 4,194,304",
         ),
-        Argument::Words(
-            "NAMES",
-            "The names of the tailers: at most 16, no two the same,\n\
-             each of 1 to 32 bytes of A-Z, a-z, 0-9, '_', '-' and '.'",
+        NAMES,
+    ],
+};
+
+const NEW: Description = Description {
+    name: "new",
+    about: "Makes a folder with a queue, and prints the line of 'init' that does the same",
+    after_help: "A folder without a queue may be there already. EPOCH is 0. COUNT and SPACING are chosen by the cells: the\n\
+     line that it prints has them.\n\n\
+     Example:\n  cq new journal reader",
+    arguments: &[
+        Argument::Word(
+            "DIR",
+            "The folder of the queue. It is made if it is not there",
+        ),
+        NAMES,
+        Argument::Option(
+            "roll",
+            "ROLL",
+            "How long a cycle is: daily, hourly or minutely. It is daily by default",
+        ),
+        Argument::OptionBetween(
+            "cells",
+            "CELLS",
+            1,
+            1_048_576,
+            "The cells of a cycle, of four bytes each: at most 1,048,576, and 65,536 by default",
+        ),
+        Argument::OptionBetween(
+            "cycles",
+            "N",
+            1,
+            64,
+            "How many cycles may begin: from 1 to 64, and N * CELLS is at most 4,194,304. By default\n\
+             as many as that allows",
         ),
     ],
 };
@@ -119,13 +167,23 @@ const WRITE: Description = Description {
     name: "write",
     about: "Appends each line of the input",
     after_help: "Input: at most 8,388,608 bytes, of which no line is empty, and all fit into one cycle\n\n\
-     Example:\n  printf 'hello\\nworld\\n' | cq write journal $(date +%s%3N)",
+     Examples:\n  printf 'hello\\nworld\\n' | cq write journal $(date +%s%3N)\n  find . -print0 | cq write journal now --null",
     arguments: &[
         FOLDER,
-        Argument::Number(
+        Argument::Word(
             "MOMENT",
             "The moment of the lines, in milliseconds of Unix time: from the queue's EPOCH\n\
-             to 253,402,300,799,999, and in a cycle up to 2,147,483,646",
+             to 253,402,300,799,999, and in a cycle up to 2,147,483,646. Or 'now', the time\n\
+             of the machine's clock",
+        ),
+        Argument::FlagAgainst(
+            "null",
+            &["whole"],
+            "Appends what each byte 0 ends, in place of each line. It may have line feeds",
+        ),
+        Argument::Flag(
+            "whole",
+            "Appends the whole input as one message, with all of its bytes",
         ),
     ],
 };
@@ -172,7 +230,8 @@ const READ: Description = Description {
     after_help: "Without --text, --null, --hex and --json it prints the index, a space and the message, on a line.\n\
      W is an index of 16 lower-case hexadecimal digits; '@' and the milliseconds of Unix time of a moment,\n\
      or the name of a cycle, as 20241004, which both mean the first index of their cycle.\n\n\
-     Examples:\n  cq read journal --from 00004e2000000000\n  cq read journal --since 20241004 --json",
+     Examples:\n  cq read journal --from 00004e2000000000\n  cq read journal --since 20241004 --json\n\
+     \x20 cq read journal --last 10 --follow",
     arguments: &[
         FOLDER,
         Argument::Flag("back", "From the end on, towards the first message"),
@@ -222,6 +281,18 @@ const READ: Description = Description {
             "Prints an object of JSON, on a line: 'index', 'cycle', 'sequence', and 'text', or 'base64' if\n\
              the message is not UTF-8",
         ),
+        Argument::FlagAgainst(
+            "follow",
+            &["back"],
+            "Then waits, and prints the messages that come. Not with --back",
+        ),
+        Argument::OptionBetween(
+            "for",
+            "SECONDS",
+            1,
+            4_294_967_295,
+            "With --follow: ends after this time",
+        ),
     ],
 };
 
@@ -235,7 +306,7 @@ const TAKE: Description = Description {
         FOLDER,
         Argument::Word(
             "NAME",
-            "The name of the tailer: one of the NAMES that the queue was made with",
+            "The name of the tailer: one of the names of the queue, which 'name DIR list' prints",
         ),
         Argument::OptionBetween(
             "limit",
@@ -247,6 +318,13 @@ const TAKE: Description = Description {
         Argument::Flag(
             "peek",
             "Prints what it would take, and does not move the tailer",
+        ),
+        Argument::OptionBetween(
+            "wait",
+            "SECONDS",
+            1,
+            4_294_967_295,
+            "Waits up to this time where no message has come",
         ),
     ],
 };
@@ -330,6 +408,18 @@ const SALVAGE: Description = Description {
     arguments: &[FOLDER, IMAGE_FILE],
 };
 
+const REPAIR: Description = Description {
+    name: "repair",
+    about: "Makes the messages before the fault of an image the image, and keeps the old file as FILE.bad",
+    after_help: "The messages are those that 'salvage' prints.\n\n\
+     Example:\n  cq repair journal $(date -u +%Y%m%d).cqi --dry-run",
+    arguments: &[
+        FOLDER,
+        IMAGE_FILE,
+        Argument::Flag("dry-run", "Prints what it would do, and changes nothing"),
+    ],
+};
+
 const MIGRATE: Description = Description {
     name: "migrate",
     about: "Makes a folder of version 1 one of version 2, in which each cycle has 3 more cells",
@@ -369,6 +459,13 @@ const FOLDER: Argument = Argument::Word("DIR", "The folder of the queue, which i
 const IMAGE_FILE: Argument = Argument::Word(
     "FILE",
     "The image's file in DIR: yyyyMMdd.cqi, yyyyMMdd-HH.cqi or yyyyMMdd-HHmm.cqi, by the roll",
+);
+
+/// The names of tailers.
+const NAMES: Argument = Argument::Words(
+    "NAMES",
+    "The names of the tailers: at most 16, no two the same,\n\
+     each of 1 to 32 bytes of A-Z, a-z, 0-9, '_', '-' and '.'",
 );
 
 /// How long a cycle is.

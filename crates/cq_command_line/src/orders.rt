@@ -1,13 +1,16 @@
 //! Makes an order from what `clap` found in the words.
 ghost use Rattle.std.specs.Prelude.{◌≡◌, [], ◌∷◌, List, map, option_map, codes, string_bytes, IfOk, IfSome, IsSomeAnd, None, Ok, Some};
+ghost use Rattle.std.specs.Str.Parse.{IsNumeral, digits_value, without_leading_plus};
 ghost use Rattle.clap.specs.Words.{found_of, rows_of, subcommand_rows_of};
 ghost use Rattle.cq_command_line.specs.CommandLine.{word_of};
-ghost use Rattle.cq_command_line.specs.OrderValues.{AreLogSettings, AreReadSettings, AreSettings, AreTakeSettings, AreTrimSettings, AreWords, IsFlag, IsForm, IsNameChange, IsNumber, IsNumberOption, IsOption, IsWord, TakesValues, form_of};
+ghost use Rattle.cq_command_line.specs.OrderValues.{AreLogSettings, AreNewSettings, AreReadSettings, AreSettings, AreTakeSettings, AreTrimSettings, AreWords, AreWriteSettings};
+ghost use Rattle.cq_command_line.specs.OrderValues.{IsFlag, IsForm, IsMoment, IsNameChange, IsNumber, IsNumberOption, IsOption, IsWord, TakesValues};
+ghost use Rattle.cq_command_line.specs.OrderValues.{form_of, input_form_of};
 
 use clap::ArgMatches;
 use cq_orders::{
-    InitSettings, LogSettings, NameChange, Order, ReadForm, ReadSettings, TakeSettings,
-    TrimSettings,
+    InitSettings, InputForm, LogSettings, NameChange, NewSettings, Order, ReadForm, ReadSettings,
+    TakeSettings, TrimSettings, WriteSettings,
 };
 use std::alloc::{AllocError, Global};
 
@@ -20,6 +23,10 @@ pub(crate) enum OrderFault {
     NoOrder,
     /// The command `name` was found, with other words than one of its actions takes.
     NoAction,
+    /// The command `read` was found with `--for`, or with `--back`, where they are not taken.
+    NoFollow,
+    /// The word for a moment is no number below 2^64, and not `now`. The text says so.
+    NoMoment(String),
 }
 
 impl From<AllocError> for OrderFault {
@@ -52,6 +59,7 @@ fn order_named(alloc: Global, name: &str, values: &ArgMatches<'_>) -> Result<Ord
         "echo" => Ok(Order::Echo),
         "cycle" => cycle_order(alloc, values),
         "init" => init_order(alloc, values),
+        "new" => new_order(alloc, values),
         "write" => write_order(alloc, values),
         "log" => log_order(alloc, values),
         "read" => read_order(alloc, values),
@@ -62,9 +70,11 @@ fn order_named(alloc: Global, name: &str, values: &ArgMatches<'_>) -> Result<Ord
         "stat" => stat_order(alloc, values),
         "dump" => dump_order(alloc, values),
         "salvage" => salvage_order(alloc, values),
+        "repair" => repair_order(alloc, values),
         "migrate" => migrate_order(alloc, values),
         "race" => race_order(values),
         "name" => names_order(alloc, values),
+        "explain" => explain_order(alloc, values),
         _ => Err(OrderFault::NoOrder),
     }
 }
@@ -105,14 +115,85 @@ fn init_settings(alloc: Global, values: &ArgMatches<'_>) -> Result<InitSettings,
     })
 }
 
+fn new_order(alloc: Global, values: &ArgMatches<'_>) -> Result<Order, OrderFault>
+    ensures named { IfOk result (λ order. word_of order ≡ codes "new") }
+    ensures values { IfOk result (λ order. TakesValues (rows_of (found_of values.now)) order) }
+{
+    Ok(Order::New {
+        folder: word(alloc, values, "DIR")?,
+        settings: new_settings(alloc, values)?,
+    })
+}
+
+/// Returns the settings of a queue that is made with its folder, which are not checked here.
+fn new_settings(alloc: Global, values: &ArgMatches<'_>) -> Result<NewSettings, OrderFault>
+    ensures { IfOk result (λ settings. AreNewSettings (rows_of (found_of values.now)) settings) }
+{
+    Ok(NewSettings {
+        roll: option(alloc, values, "roll")?,
+        cells: number_option(values, "cells")?,
+        cycles: number_option(values, "cycles")?,
+        names: words(alloc, values, "NAMES")?,
+    })
+}
+
 fn write_order(alloc: Global, values: &ArgMatches<'_>) -> Result<Order, OrderFault>
     ensures named { IfOk result (λ order. word_of order ≡ codes "write") }
     ensures values { IfOk result (λ order. TakesValues (rows_of (found_of values.now)) order) }
 {
-    Ok(Order::Write {
-        folder: word(alloc, values, "DIR")?,
-        moment: number(values, "MOMENT")?,
+    let folder = word(alloc, values, "DIR")?;
+    match write_settings(alloc, values)? {
+        WriteSettings {
+            moment: Some(moment),
+            form: InputForm::Lines,
+        } => Ok(Order::Write { folder, moment }),
+        settings => Ok(Order::WriteBy { folder, settings }),
+    }
+}
+
+/// Returns how messages are appended.
+fn write_settings(alloc: Global, values: &ArgMatches<'_>) -> Result<WriteSettings, OrderFault>
+    ensures { IfOk result (λ settings. AreWriteSettings (rows_of (found_of values.now)) settings) }
+{
+    Ok(WriteSettings {
+        moment: moment(alloc, values)?,
+        form: input_form_of(flag(values, "null"), flag(values, "whole")),
     })
+}
+
+/// Returns the moment that was given. `None` is the time of the clock.
+fn moment(alloc: Global, values: &ArgMatches<'_>) -> Result<Option<u64>, OrderFault>
+    ensures { IfOk result (IsMoment (rows_of (found_of values.now))) }
+{
+    match values.get_str("MOMENT") {
+        Some("now") => Ok(None),
+        Some(given) => Ok(Some(moment_of(alloc, given)?)),
+        None => Err(OrderFault::NoOrder),
+    }
+}
+
+/// Returns the number in the word for a moment.
+fn moment_of(alloc: Global, given: &str) -> Result<u64, OrderFault>
+    ensures { IfOk result (λ moment. IsNumeral 10 (without_leading_plus given.now)
+        × (moment ≡ digits_value 10 (without_leading_plus given.now))) }
+{
+    match given.parse::<u64>() {
+        Ok(moment) => Ok(moment),
+        Err(error) => Err(OrderFault::NoMoment(format!(in alloc;
+            "invalid value '{given}' for '<MOMENT>': {error}. MOMENT is a number, or 'now'"
+        )?)),
+    }
+}
+
+/// Returns what a message is, by which of these flags is set.
+fn input_form_of(null: bool, whole: bool) -> InputForm
+    ensures { result ≡ input_form_of null whole }
+{
+    match (null, whole) {
+        (true, _) => InputForm::Null,
+        (false, true) => InputForm::Whole,
+        (false, false) => InputForm::Lines,
+    }
 }
 
 fn log_order(alloc: Global, values: &ArgMatches<'_>) -> Result<Order, OrderFault>
@@ -140,10 +221,18 @@ fn read_order(alloc: Global, values: &ArgMatches<'_>) -> Result<Order, OrderFaul
     ensures named { IfOk result (λ order. word_of order ≡ codes "read") }
     ensures values { IfOk result (λ order. TakesValues (rows_of (found_of values.now)) order) }
 {
-    Ok(Order::Read {
-        folder: word(alloc, values, "DIR")?,
-        settings: read_settings(alloc, values)?,
-    })
+    let folder = word(alloc, values, "DIR")?;
+    let settings = read_settings(alloc, values)?;
+    let seconds = number_option(values, "for")?;
+    match (flag(values, "follow"), settings.back, seconds) {
+        (false, _, None) => Ok(Order::Read { folder, settings }),
+        (true, false, seconds) => Ok(Order::Follow {
+            folder,
+            settings,
+            seconds,
+        }),
+        _ => Err(OrderFault::NoFollow),
+    }
 }
 
 /// Returns which messages are read.
@@ -196,6 +285,7 @@ fn take_order(alloc: Global, values: &ArgMatches<'_>) -> Result<Order, OrderFaul
         TakeSettings {
             limit: None,
             peek: false,
+            wait: None,
         } => Ok(Order::Take { folder, name }),
         settings => Ok(Order::TakeBy {
             folder,
@@ -212,6 +302,7 @@ fn take_settings(values: &ArgMatches<'_>) -> Result<TakeSettings, OrderFault>
     Ok(TakeSettings {
         limit: number_option(values, "limit")?,
         peek: flag(values, "peek"),
+        wait: number_option(values, "wait")?,
     })
 }
 
@@ -286,6 +377,17 @@ fn salvage_order(alloc: Global, values: &ArgMatches<'_>) -> Result<Order, OrderF
     })
 }
 
+fn repair_order(alloc: Global, values: &ArgMatches<'_>) -> Result<Order, OrderFault>
+    ensures named { IfOk result (λ order. word_of order ≡ codes "repair") }
+    ensures values { IfOk result (λ order. TakesValues (rows_of (found_of values.now)) order) }
+{
+    Ok(Order::Repair {
+        folder: word(alloc, values, "DIR")?,
+        file: word(alloc, values, "FILE")?,
+        dry_run: flag(values, "dry-run"),
+    })
+}
+
 fn migrate_order(alloc: Global, values: &ArgMatches<'_>) -> Result<Order, OrderFault>
     ensures named { IfOk result (λ order. word_of order ≡ codes "migrate") }
     ensures values { IfOk result (λ order. TakesValues (rows_of (found_of values.now)) order) }
@@ -303,6 +405,15 @@ fn race_order(values: &ArgMatches<'_>) -> Result<Order, OrderFault>
         Ok(messages) => Ok(Order::Race { messages }),
         Err(_) => Err(OrderFault::NoOrder),
     }
+}
+
+fn explain_order(alloc: Global, values: &ArgMatches<'_>) -> Result<Order, OrderFault>
+    ensures named { IfOk result (λ order. word_of order ≡ codes "explain") }
+    ensures values { IfOk result (λ order. TakesValues (rows_of (found_of values.now)) order) }
+{
+    Ok(Order::Explain {
+        words: words(alloc, values, "WORDS")?,
+    })
 }
 
 fn names_order(alloc: Global, values: &ArgMatches<'_>) -> Result<Order, OrderFault>

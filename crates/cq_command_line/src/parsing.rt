@@ -1,8 +1,9 @@
 //! Makes an order from the words of a command line.
 ghost use Rattle.std.specs.Prelude.{◌≡◌, List, ℕ, [], ◌∷◌, map, option_map, string_bytes, codes};
-ghost use Rattle.std.specs.Prelude.{IfOk, IfSome, MatchResult, Some};
+ghost use Rattle.std.specs.Prelude.{IfErr, IfOk, IfSome, MatchResult, Some};
 ghost use Rattle.clap.specs.Words.{subcommand_of};
 ghost use Rattle.cq_command_line.specs.CommandLine.{Makes, command_line, word_of};
+ghost use Rattle.cq_command_line.specs.Faults.{HasOwnKind};
 ghost use Rattle.cq_command_line.specs.OrderValues.{TakesValues};
 
 use crate::command_line::command_line;
@@ -16,6 +17,10 @@ use std::alloc::{AllocError, Global};
 const NO_ACTION: &str =
     "name: after DIR give one of 'list', 'add NAME [--at W]', 'remove NAME' and 'move NAME --to W'";
 
+/// What is said of `read` with `--for` where it is not followed.
+const NO_FOLLOW: &str =
+    "read: give '--for SECONDS' with '--follow', and '--follow' without '--back'";
+
 /// Why the words of a command line are no order.
 #[derive(Debug, Drop)]
 pub enum ParseFault {
@@ -23,20 +28,20 @@ pub enum ParseFault {
     OutOfMemory,
     /// The words are not understood, or ask for help. The error prints the whole text for the user.
     NotUnderstood(Error),
+    /// The words ask for the version. The error prints the whole line for the user.
+    Version(Error),
 }
 
 impl From<Error> for ParseFault {
-    ghost use Rattle.clap.specs.Words.{kind_of};
-    ghost use Rattle.clap.specs.declared.error.kind.ErrorKind.TheVariants.{OutOfMemory};
-    ghost use Rattle.cq_command_line.specs.declared.parsing.ParseFault.TheVariants.{OutOfMemory as NoMemory};
+    ghost use Rattle.cq_command_line.specs.Faults.{IsFaultFor};
 
-    ghost from_gives = { λ error fault. kind_of error ≡ OutOfMemory → fault ≡ NoMemory };
+    ghost from_gives = { λ error fault. IsFaultFor fault error };
 
     fn from(error: Error) -> ParseFault {
-        if error.kind() == ErrorKind::OutOfMemory {
-            ParseFault::OutOfMemory
-        } else {
-            ParseFault::NotUnderstood(error)
+        match error.kind() {
+            ErrorKind::OutOfMemory => ParseFault::OutOfMemory,
+            ErrorKind::DisplayVersion => ParseFault::Version(error),
+            _ => ParseFault::NotUnderstood(error),
         }
     }
 }
@@ -58,6 +63,7 @@ impl From<AllocError> for ParseFault {
 ///
 /// Errors:
 /// - `NotUnderstood`: the words are no order, or ask for help.
+/// - `Version`: the words ask for the version.
 /// - `OutOfMemory`: out of memory.
 pub fn parse(alloc: Global, words: &[String]) -> Result<Order, ParseFault>
     // An order is the command that the words name.
@@ -66,6 +72,8 @@ pub fn parse(alloc: Global, words: &[String]) -> Result<Order, ParseFault>
     // Its values are those that the words give to the command.
     ensures values { IfOk result (λ order.
         IfSome (subcommand_of command_line (map string_bytes words.now)) (λ met. TakesValues met.1 order)) }
+    // `Version` comes where `clap` met a word that asks for the version, and nowhere else.
+    ensures kind { IfErr result HasOwnKind }
     ensures echo { (program : List ℕ) → map string_bytes words.now ≡ program ∷ codes "echo" ∷ []
         → MatchResult result (λ order. order ≡ Order.Echo) (λ fault. fault ≡ ParseFault.OutOfMemory) }
 {
@@ -84,6 +92,7 @@ fn order_in<'a>(
         option_map (λ met. met.0) (subcommand_of command_line (map string_bytes words.now)) ≡ Some (word_of order)) }
     ensures values { IfOk result (λ order.
         IfSome (subcommand_of command_line (map string_bytes words.now)) (λ met. TakesValues met.1 order)) }
+    ensures kind { IfErr result HasOwnKind }
     ensures echo { (program : List ℕ) → map string_bytes words.now ≡ program ∷ codes "echo" ∷ []
         → MatchResult result (λ order. order ≡ Order.Echo) (λ fault. fault ≡ ParseFault.OutOfMemory) }
 {
@@ -99,6 +108,16 @@ fn order_in<'a>(
         Err(OrderFault::NoAction) => Err(
             command
                 .error(ErrorKind::InvalidSubcommand, NO_ACTION)?
+                .into(),
+        ),
+        Err(OrderFault::NoFollow) => Err(
+            command
+                .error(ErrorKind::MissingRequiredArgument, NO_FOLLOW)?
+                .into(),
+        ),
+        Err(OrderFault::NoMoment(text)) => Err(
+            command
+                .error(ErrorKind::ValueValidation, text.as_str())?
                 .into(),
         ),
     }

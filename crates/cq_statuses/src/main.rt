@@ -2,6 +2,7 @@
 //! start prints, its errors and its status go to standard output.
 #![tactic(auto)]
 
+use cq_tools::{DONE, Start, Terminals, status};
 use std::alloc::AllocError;
 use std::fmt::Display;
 use std::fs::File;
@@ -12,7 +13,7 @@ use std::sync::Wait;
 use std::thread::Threads;
 
 /// The words of each start, after the program's name.
-const STARTS: [&[&str]; 52] = [
+const STARTS: [&[&str]; 59] = [
     &["read", "."],
     &["stat", ".", "--json"],
     &["take", ".", "reader"],
@@ -62,6 +63,13 @@ const STARTS: [&[&str]; 52] = [
     &["log", "nowhere"],
     &["log", "broken"],
     &["log", "other"],
+    &["--version"],
+    &["explain", "gave", "up"],
+    &["explain", "no", "such", "fault"],
+    &["repair", "broken", "20241004.cqi"],
+    &["new", "fresh", "reader"],
+    &["new", "fresh"],
+    &["take", "fresh", "reader", "--wait", "1"],
     &["take", "."],
     &["race", "10"],
     &["race", "1001"],
@@ -88,20 +96,21 @@ fn main(rt: HostRuntime) -> ExitCode {
     let errors = OnOutput {
         output: rt.stdout(),
     };
-    let mut status = cq_tools::DONE;
+    let mut last = DONE;
     for words in STARTS {
-        status = start(&rt, &errors, words, process);
+        last = started(&rt, &errors, words, process);
     }
-    ExitCode::from(status)
+    ExitCode::from(last)
 }
 
 /// Starts the program with these words, and prints them and its status.
-fn start<R>(rt: &R, errors: &OnOutput, words: &[&str], process: u32) -> u8
+fn started<R>(rt: &R, errors: &OnOutput, words: &[&str], process: u32) -> u8
 where
     R: AllocGlobal
         + Files<File = File>
         + Input
         + Print
+        + Eprint
         + Clock
         + Threads
         + Wait
@@ -118,7 +127,15 @@ where
     }
     let _ = println!(rt; "");
     let words = command_line(rt, words).map_err(io::Error::from);
-    let status = cq_tools::status(rt, errors, words, process);
+    let start = Start {
+        words,
+        process,
+        terminals: Terminals {
+            input: false,
+            errors: false,
+        },
+    };
+    let status = status(rt, errors, start);
     let _ = println!(rt; "status {status}");
     status
 }

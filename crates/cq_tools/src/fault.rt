@@ -6,6 +6,7 @@ use cq_live::LiveFault;
 use cq_log_file::OpenFault as PlaceFault;
 use cq_logged::LogFault;
 use cq_names::NameFault;
+use cq_repair::RepairFault;
 use cq_text::ToolFault;
 use cq_trim::TrimFault;
 use std::alloc::{AllocError, AllocFailed};
@@ -22,6 +23,12 @@ pub(crate) enum StartFault {
     /// The names of the queue are not printed or changed.
     #[error("{0}")]
     Names(NameFault),
+    /// No image is repaired.
+    #[error("{0}")]
+    Repair(RepairFault),
+    /// No fault has the words that are to be explained.
+    #[error("no fault has these words: 'cq explain' alone prints them all")]
+    UnknownFault,
     /// The log of the folder keeps the command out.
     #[error("{0}")]
     Log(LogFault),
@@ -54,6 +61,12 @@ impl From<TrimFault> for StartFault {
 impl From<NameFault> for StartFault {
     fn from(cause: NameFault) -> StartFault {
         StartFault::Names(cause)
+    }
+}
+
+impl From<RepairFault> for StartFault {
+    fn from(cause: RepairFault) -> StartFault {
+        StartFault::Repair(cause)
     }
 }
 

@@ -2,7 +2,8 @@
 //!
 //! | item | what it is for |
 //! |---|---|
-//! | `status`, `DONE`, `FAULT`, `NOT_UNDERSTOOD`, `NOTHING` | run a whole start of the program, and its exit statuses |
+//! | `status`, `Start`, `Terminals` | run a whole start of the program, and what it is given |
+//! | `DONE`, `FAULT`, `NOT_UNDERSTOOD`, `NOTHING` | its exit statuses |
 //! | `parse`, `ParseFault` | make an `Order` from the words of a command line |
 //! | `Order`, `InitSettings` | a command with its values |
 //! | `run`, `take_by`, `echo`, `race` | run commands |
@@ -17,6 +18,9 @@
 mod checking;
 mod fault;
 mod logging;
+mod making;
+mod output;
+mod program;
 mod starting;
 
 pub use cq_command_line::{ParseFault, parse};
@@ -27,4 +31,5 @@ pub use cq_orders::{InitSettings, Order, TakeSettings};
 pub use cq_race::{Gate, OpenGate, race};
 pub use cq_real_folder::RealFolder;
 pub use cq_text::{ToolFault, dump_text, echo};
-pub use starting::{DONE, FAULT, NOT_UNDERSTOOD, NOTHING, status};
+pub use program::Terminals;
+pub use starting::{DONE, FAULT, NOT_UNDERSTOOD, NOTHING, Start, status};

@@ -1,22 +1,12 @@
 //! A start of the program: from its command line to its exit status.
 
-ghost use Rattle.std.specs.Prelude.{◌≡◌, ◌↔◌};
-ghost use Rattle.cq_orders.specs.OrderFolder.{IsLog, IsRace};
+ghost use Rattle.std.specs.Prelude.{◌≡◌};
 
-use crate::checking::print_news;
 use crate::fault::StartFault;
-use crate::logging::log;
+use crate::program::{Outcome, Program, Terminals};
 use cq_command_line::{ParseFault, parse};
-use cq_commands::{Took, take_by};
-use cq_folder::{Folder, LOG_FILE};
-use cq_logged::{LogFault, LogNews, LoggedFolder, SystemLock};
-use cq_names::names;
 use cq_orders::Order;
-use cq_race::{OpenGate, race};
-use cq_real_folder::RealFolder;
 use cq_text::ToolFault;
-use cq_trim::trim;
-use std::alloc::AllocError;
 use std::fs::File;
 use std::io::{self, ErrorKind};
 use std::rt::{Clock, Files};
@@ -35,26 +25,30 @@ pub const NOT_UNDERSTOOD: u8 = 2;
 /// A `take` with options found no message.
 pub const NOTHING: u8 = 4;
 
-/// What a command came to that did not fail.
-#[derive(Clone, Copy, Debug, PartialEq, Eq)]
-enum Outcome {
-    /// It was done.
-    Done,
-    /// There was no message to take.
-    Nothing,
+/// What a start of the program is given.
+#[derive(Drop)]
+pub struct Start {
+    /// The words of the command line. The first is the program's name.
+    pub words: io::Result<Vec<String>>,
+    /// The number of the process.
+    pub process: u32,
+    /// Which streams are terminals.
+    pub terminals: Terminals,
 }
 
-/// Runs the command in the words of a command line, as the process with this number, over the folder that they name and
-/// the standard streams. It prints errors to `errors`, and returns the exit status.
+/// Runs the command in the words of a command line, over the folder that they name and the standard streams. It prints errors to
+/// `errors`, and returns the exit status. On a terminal it also says, on standard error, for how long a command has worked that takes more
+/// than a second, and which cycle a `write` begins.
 ///
 /// It is proved, on a private function, that a command's error gives status 1. How words, folder, streams and statuses
 /// come together is only tested.
-pub fn status<R, E>(rt: &R, errors: &E, words: io::Result<Vec<String>>, process: u32) -> u8
+pub fn status<'a, R, E>(rt: &'a R, errors: &'a E, start: Start) -> u8
 where
     R: AllocGlobal
         + Files<File = File>
         + Input
         + Print
+        + Eprint
         + Clock
         + Threads
         + Wait
@@ -66,28 +60,66 @@ where
     R::Reader: Send + Drop + 'static,
     E: Eprint,
 {
-    let words = match words {
-        Ok(words) => words,
-        Err(error) if error.kind() == ErrorKind::InvalidData => {
-            let _ = eprintln!(errors; "error: an argument is not UTF-8 text");
-            return NOT_UNDERSTOOD;
-        }
-        Err(_) => return fault(errors, StartFault::Tool(ToolFault::OutOfMemory)),
-    };
-    let order = match parse(rt.alloc(), words.as_slice()) {
+    let Start {
+        words,
+        process,
+        terminals,
+    } = start;
+    let order = match order_in(rt, words) {
         Ok(order) => order,
-        Err(ParseFault::NotUnderstood(error)) => {
-            let _ = eprint!(errors; "{error}");
-            return NOT_UNDERSTOOD;
-        }
-        Err(ParseFault::OutOfMemory) => {
-            return fault(errors, StartFault::Tool(ToolFault::OutOfMemory));
-        }
+        Err(unread) => return said(rt, errors, unread),
     };
-    match run(rt, errors, process, &order) {
+    let program = Program {
+        rt,
+        errors,
+        process,
+        terminals,
+        progress: None,
+    };
+    match program.run(&order) {
         Ok(Outcome::Done) => DONE,
         Ok(Outcome::Nothing) => NOTHING,
         Err(error) => fault(errors, error),
+    }
+}
+
+/// Why there is no order in the words of a command line.
+#[derive(Drop)]
+enum Unread {
+    /// An argument is not UTF-8 text.
+    NoText,
+    /// The words are no order, or memory ran out.
+    NoOrder(ParseFault),
+}
+
+/// Returns the order in the words of a command line.
+fn order_in<R: AllocGlobal>(rt: &R, words: io::Result<Vec<String>>) -> Result<Order, Unread> {
+    let words = match words {
+        Ok(words) => words,
+        Err(error) if error.kind() == ErrorKind::InvalidData => return Err(Unread::NoText),
+        Err(_) => return Err(Unread::NoOrder(ParseFault::OutOfMemory)),
+    };
+    parse(rt.alloc(), words.as_slice()).map_err(Unread::NoOrder)
+}
+
+/// Prints why there is no order, or the version if that was asked for, and returns the exit status.
+fn said<R: Print, E: Eprint>(rt: &R, errors: &E, unread: Unread) -> u8 {
+    match unread {
+        Unread::NoText => {
+            let _ = eprintln!(errors; "error: an argument is not UTF-8 text");
+            NOT_UNDERSTOOD
+        }
+        Unread::NoOrder(ParseFault::NotUnderstood(error)) => {
+            let _ = eprint!(errors; "{error}");
+            NOT_UNDERSTOOD
+        }
+        Unread::NoOrder(ParseFault::Version(text)) => match print!(rt; "{text}") {
+            Ok(()) => DONE,
+            Err(_) => fault(errors, StartFault::Tool(ToolFault::WriteFault)),
+        },
+        Unread::NoOrder(ParseFault::OutOfMemory) => {
+            fault(errors, StartFault::Tool(ToolFault::OutOfMemory))
+        }
     }
 }
 
@@ -97,132 +129,4 @@ fn fault<E: Eprint>(errors: &E, fault: StartFault) -> u8
 {
     let _ = eprintln!(errors; "cq: {fault}");
     FAULT
-}
-
-/// Runs an order, over the folder that it names and the standard streams.
-fn run<R, E>(rt: &R, errors: &E, process: u32, order: &Order) -> Result<Outcome, StartFault>
-where
-    R: AllocGlobal
-        + Files<File = File>
-        + Input
-        + Print
-        + Clock
-        + Threads
-        + Wait
-        + Sync
-        + Clone
-        + Send
-        + Drop
-        + 'static,
-    R::Reader: Send + Drop + 'static,
-    E: Eprint,
-{
-    match order {
-        Order::Race { messages } => race(rt, *messages, &OpenGate, &mut io::writer(rt))?,
-        Order::Log { folder, settings } => log(rt, errors, process, folder.as_str(), settings)?,
-        _ => return run_alone(rt, errors, process, order),
-    }
-    Ok(Outcome::Done)
-}
-
-/// Runs an order for one caller, over a folder that is seen with what its log gives. If the log is not shown, `errors` says so.
-fn run_alone<R, E>(rt: &R, errors: &E, process: u32, order: &Order) -> Result<Outcome, StartFault>
-where
-    R: AllocGlobal + Files<File = File> + Input + Print + Clone + Drop,
-    E: Eprint,
-    requires alone { ¬ IsRace order.now }
-    requires ends { ¬ IsLog order.now }
-{
-    let mut folder = logged_folder(rt, process, order.folder().unwrap_or(""))?;
-    let mut done = run_in(rt, order, &mut folder);
-    if done.is_ok()
-        && let Err(fault) = say_news(rt, order, folder.news())
-    {
-        done = Err(fault);
-    }
-    let (_folder, cause) = folder.into_parts();
-    end(errors, done, cause)
-}
-
-/// Prints what `check` found of the log, if that is the order and there was something.
-fn say_news<R>(rt: &R, order: &Order, news: Option<LogNews>) -> Result<(), StartFault>
-where
-    R: AllocGlobal + Print,
-{
-    match (order, news) {
-        (Order::Check { folder: _ }, Some(news)) => {
-            Ok(print_news(rt.alloc(), &mut io::writer(rt), news)?)
-        }
-        _ => Ok(()),
-    }
-}
-
-/// Returns the folder of this path, which is seen with what its log gives.
-fn logged_folder<'a, R>(
-    rt: &'a R,
-    process: u32,
-    path: &str,
-) -> Result<LoggedFolder<RealFolder<'a, R>, SystemLock<'a, R>>, AllocError>
-where
-    R: AllocGlobal + Files<File = File> + Clone + Drop,
-{
-    let alloc = rt.alloc();
-    let path = String::from_str(alloc, path)?;
-    let lock = SystemLock::new(rt, format!(in alloc; "{path}/{LOG_FILE}")?);
-    Ok(LoggedFolder::new(alloc, RealFolder::new(rt, path, process), lock))
-}
-
-/// Runs an order for one caller over a folder and the standard streams.
-fn run_in<R, F>(rt: &R, order: &Order, folder: &mut F) -> Result<Outcome, StartFault>
-where
-    R: AllocGlobal + Input + Print,
-    F: Folder,
-    requires alone { ¬ IsRace order.now }
-    requires ends { ¬ IsLog order.now }
-{
-    let alloc = rt.alloc();
-    let mut output = io::writer(rt);
-    match order {
-        Order::Trim {
-            folder: _,
-            settings,
-        } => trim(alloc, folder, settings, &mut output)?,
-        Order::TakeBy {
-            folder: _,
-            name,
-            settings,
-        } => {
-            let took = take_by(alloc, folder, name.as_str(), settings, &mut output)?;
-            return Ok(outcome_of(took));
-        }
-        Order::Names { folder: _, change } => names(alloc, folder, change, &mut output)?,
-        _ => cq_commands::run(alloc, order, folder, &mut rt.reader(), &mut output)?,
-    }
-    Ok(Outcome::Done)
-}
-
-/// Returns what a `take` with options came to.
-fn outcome_of(took: Took) -> Outcome
-    ensures { result ≡ Outcome.Nothing ↔ took ≡ Took.Nothing }
-{
-    match took {
-        Took::Messages => Outcome::Done,
-        Took::Nothing => Outcome::Nothing,
-    }
-}
-
-/// Returns what an order came to, by why its log kept it out or was not shown. If the log is not shown, `errors` says so.
-fn end<E: Eprint>(
-    errors: &E,
-    done: Result<Outcome, StartFault>,
-    cause: Option<LogFault>,
-) -> Result<Outcome, StartFault> {
-    match cause {
-        None => done,
-        Some(LogFault::NotShown(fault)) => {
-            let _ = eprintln!(errors; "cq: {}", LogFault::NotShown(fault));
-            done
-        }
-        Some(cause) => done.map_err(|_| StartFault::Log(cause)),
-    }
 }

@@ -1,9 +1,14 @@
-use Rattle.std.proofs.Common.{◌≡◌, List, [], ◌∷◌, option_map, codes, true, Option, Some, Result, Ok, Err, IfSome, IsErrAnd, MatchResult, refl, sym, ap, ap₂, subst, ◌∙◌}
-use Rattle.clap.specs.Words.{App, HasMatchesOf, Row, Text, is_simple, subcommand_of, subcommand_rows_of, takes}
+use Rattle.std.proofs.Common.{◌≡◌, ◌≢◌, List, [], ◌∷◌, option_map, codes, true, Option, Some, Result, Ok, Err, IfErr, IfSome, IsErrAnd, MatchResult, refl, sym, ap, ap₂, subst, ◌∙◌}
+use Rattle.clap.specs.Words.{App, HasMatchesOf, Row, Text, is_simple, kind_of, subcommand_of, subcommand_rows_of, takes}
+use Rattle.clap.specs.declared.error.Error.{Error}
+use Rattle.clap.specs.declared.error.kind.ErrorKind.TheVariants as kind
 use Rattle.clap.specs.declared.parser.matches.ArgMatches.{ArgMatches}
 use Rattle.clap.proofs.OnLiterals.{clap_on_literals}
 use Rattle.cq_orders.specs.declared.order.Order.{Order}
 use Rattle.cq_command_line.specs.CommandLine.{command_line}
+use Rattle.cq_command_line.specs.Faults.{HasOwnKind, IsFaultFor}
+use Rattle.cq_command_line.specs.declared.parsing.ParseFault.{ParseFault}
+use Rattle.cq_command_line.specs.declared.parsing.ParseFault.TheVariants as variant
 use Rattle.cq_command_line.specs.OrderValues.{TakesValues}
 use Rattle.cq_command_line.proofs.parsing.order_in.Goals as goal
 
@@ -30,10 +35,29 @@ meets_echo : (words : List Text) (program : Text) (matches : ArgMatches) → sub
     → words ≡ program ∷ codes "echo" ∷ [] → option_map (λ met. met.0) (subcommand_rows_of matches) ≡ Some (codes "echo")
 meets_echo words program matches met given = ap (option_map (λ met. met.0)) (met ∙ ap (subcommand_of command_line) given ∙ is_echo program)
 
--- an error that is Q where K holds
-only_err : {T E K : Type 0} (r : Result T E) (P : T → Type 0) (Q : E → Type 0) → K → IsErrAnd r (λ e. K → Q e) → MatchResult r P Q
-only_err (Ok x) P Q k h = absurd h
-only_err (Err e) P Q k h = h k
+-- an error of this kind becomes this fault
+memory_fault : (fault : ParseFault) (error : Error) → kind_of error ≡ kind.OutOfMemory → IsFaultFor fault error → fault ≡ variant.OutOfMemory
+memory_fault variant.OutOfMemory error is it = refl
+memory_fault (variant.Version own) error is it = let other = it.1 in absurd (cc)
+memory_fault (variant.NotUnderstood own) error is it = absurd (it.1 is)
+
+only_memory : (r : Result Order ParseFault) (error : Error) (P : Order → Type 0) → kind_of error ≡ kind.OutOfMemory
+    → IsErrAnd r (λ fault. IsFaultFor fault error) → MatchResult r P (λ fault. fault ≡ variant.OutOfMemory)
+only_memory (Ok order) error P is it = absurd it
+only_memory (Err fault) error P is it = memory_fault fault error is it
+
+-- and holds an error of its kind
+own_kind : (fault : ParseFault) (error : Error) → IsFaultFor fault error → HasOwnKind fault
+own_kind variant.OutOfMemory error it = tt
+own_kind (variant.Version own) error it = ap kind_of it.0 ∙ it.1
+own_kind (variant.NotUnderstood own) error it = (
+  subst (λ other. kind_of other ≢ kind.OutOfMemory) (sym it.0) it.1,
+  subst (λ other. kind_of other ≢ kind.DisplayVersion) (sym it.0) it.2,
+)
+
+own_kinds : (r : Result Order ParseFault) (error : Error) → IsErrAnd r (λ fault. IsFaultFor fault error) → IfErr r HasOwnKind
+own_kinds (Ok order) error it = absurd it
+own_kinds (Err fault) error it = own_kind fault error it
 
 -- what was found is what was to be found
 same_order : {A E : Type 0} (r : Result A E) (x y : A) → r ≡ Ok x → r ≡ Ok y → y ≡ x
@@ -52,10 +76,13 @@ returns-in-Ok-clause-values c =
     let met = meets _ _ c.in_ok-matches.matches c.requires.is c.in_ok-matches.ensures.ok.2 in
     values_given _ _ c.in-Ok.order met c.in-Ok.ensures.values
 
+pub returns-in_err-matches-clause-kind : goal.returns-in_err-matches-clause-kind
+returns-in_err-matches-clause-kind c = own_kinds c.from_residual.result _ c.from_residual.ensures.1
+
 pub returns-in_err-matches-clause-echo : goal.returns-in_err-matches-clause-echo
 returns-in_err-matches-clause-echo c program words =
     let memory = c.in_err-matches.ensures.passes (ap₂ takes c.requires.is words ∙ is_taken program) in
-    only_err c.from_residual.result _ _ memory c.from_residual.ensures.1
+    only_memory c.from_residual.result _ _ memory c.from_residual.ensures.1
 
 pub returns-in-Ok-clause-echo : goal.returns-in-Ok-clause-echo
 returns-in-Ok-clause-echo c program words =
@@ -67,7 +94,17 @@ returns-in-Err-NoOrder-clause-echo c program words =
     let met = meets _ _ c.in_ok-matches.matches c.requires.is c.in_ok-matches.ensures.ok.2 in
     absurd (not_both c.order_met.result _ c.in-Err-NoOrder.field-0 (c.order_met.ensures.echo (meets_echo _ program _ met words)) c.in-Err-NoOrder.is)
 
+pub returns-in-Err-NoAction-clause-echo : goal.returns-in-Err-NoAction-clause-echo
+returns-in-Err-NoAction-clause-echo c program words =
+    let met = meets _ _ c.in_ok-matches.matches c.requires.is c.in_ok-matches.ensures.ok.2 in
+    absurd (not_both c.order_met.result _ c.in-Err-NoAction.field-0 (c.order_met.ensures.echo (meets_echo _ program _ met words)) c.in-Err-NoAction.is)
+
+pub returns-in-Err-NoFollow-clause-echo : goal.returns-in-Err-NoFollow-clause-echo
+returns-in-Err-NoFollow-clause-echo c program words =
+    let met = meets _ _ c.in_ok-matches.matches c.requires.is c.in_ok-matches.ensures.ok.2 in
+    absurd (not_both c.order_met.result _ _ (c.order_met.ensures.echo (meets_echo _ program _ met words)) c.in-Err-NoFollow.is)
+
 pub returns-clause-echo : goal.returns-clause-echo
 returns-clause-echo c program words =
     let met = meets _ _ c.in_ok-matches.matches c.requires.is c.in_ok-matches.ensures.ok.2 in
-    absurd (not_both c.order_met.result _ c.in-Err-NoAction.field-0 (c.order_met.ensures.echo (meets_echo _ program _ met words)) c.in-Err-NoAction.is)
+    absurd (not_both c.order_met.result _ _ (c.order_met.ensures.echo (meets_echo _ program _ met words)) c.in-Err-NoMoment.is)

@@ -1,0 +1,378 @@
+//! The program, as it is run for an order.
+
+ghost use Rattle.std.specs.Prelude.{◌≡◌, ◌↔◌};
+ghost use Rattle.cq_tools.specs.Starts.{IsForOne};
+
+use crate::checking::print_news;
+use crate::fault::StartFault;
+use crate::logging::log;
+use crate::making::{make_folder, remove_made};
+use crate::output::Output;
+use cq_advice::{Explained, explain};
+use cq_commands::Took;
+use cq_folder::{Folder, LOG_FILE};
+use cq_following::{FolderChanges, Pipe, Watch, follow, take_waiting};
+use cq_ingest::moment_of;
+use cq_logged::{LogFault, LogNews, LoggedFolder, SystemLock};
+use cq_names::names;
+use cq_new::{init_line, settings_of};
+use cq_orders::{InputForm, NewSettings, Order, ReadSettings, TakeSettings, WriteSettings};
+use cq_progress::{Progress, with_progress};
+use cq_race::{OpenGate, race};
+use cq_real_folder::RealFolder;
+use cq_repair::repair;
+use cq_text::print;
+use cq_trim::trim;
+use cq_writing::{Batch, Begun, write_by};
+use std::alloc::AllocError;
+use std::fs::File;
+use std::io;
+use std::rt::{Clock, Files};
+use std::sync::Wait;
+use std::thread::Threads;
+
+/// What a command came to that did not fail.
+#[derive(Clone, Copy, Debug, PartialEq, Eq)]
+pub(crate) enum Outcome {
+    /// It was done.
+    Done,
+    /// There was nothing to take.
+    Nothing,
+}
+
+/// Which streams of the program are terminals.
+#[derive(Clone, Copy, Debug)]
+pub struct Terminals {
+    /// Whether its input is one.
+    pub input: bool,
+    /// Whether its errors are printed to one.
+    pub errors: bool,
+}
+
+/// What a terminal shows of a command that works or waits.
+const AT_WORK: &str = "at work, or waiting for another command in the folder";
+
+/// The same of one that reads its input.
+const AT_INPUT: &str = "at work, or waiting for its input or another command";
+
+/// The program, with what its start was given.
+#[derive(Drop)]
+pub(crate) struct Program<'a, R, E> {
+    /// The system.
+    pub rt: &'a R,
+    /// Where errors are printed.
+    pub errors: &'a E,
+    /// The number of the process.
+    pub process: u32,
+    /// Which streams are terminals.
+    pub terminals: Terminals,
+    /// The line that says how long the work has taken. It is erased before anything is printed.
+    pub progress: Option<&'a Progress>,
+}
+
+impl<'a, R, E> Program<'a, R, E>
+where
+    R: AllocGlobal
+        + Files<File = File>
+        + Input
+        + Print
+        + Eprint
+        + Clock
+        + Threads
+        + Wait
+        + Sync
+        + Clone
+        + Send
+        + Drop
+        + 'static,
+    R::Reader: Send + Drop + 'static,
+    E: Eprint,
+{
+    /// Runs an order, over the folder that it names and the standard streams.
+    pub fn run(&self, order: &Order) -> Result<Outcome, StartFault> {
+        match order {
+            Order::Race { messages } => {
+                race(self.rt, *messages, &OpenGate, &mut io::writer(self.rt))?;
+            }
+            Order::Log { folder, settings } => {
+                log(
+                    self.rt,
+                    self.errors,
+                    self.process,
+                    folder.as_str(),
+                    settings,
+                )?;
+            }
+            Order::New { folder, settings } => self.make(folder.as_str(), settings)?,
+            Order::Explain { words } => return self.explain(words.as_slice()),
+            _ => return self.run_for_one(order),
+        }
+        Ok(Outcome::Done)
+    }
+
+    /// Prints what faults mean.
+    fn explain(&self, words: &[String]) -> Result<Outcome, StartFault> {
+        match explain(self.rt.alloc(), words, &mut io::writer(self.rt))? {
+            Explained::Known => Ok(Outcome::Done),
+            Explained::Unknown => Err(StartFault::UnknownFault),
+        }
+    }
+
+    /// Makes a folder with a queue, and prints the line of `init` that does the same. A folder that was made is removed again if the queue
+    /// is refused.
+    fn make(&self, path: &str, given: &NewSettings) -> Result<(), StartFault> {
+        let alloc = self.rt.alloc();
+        let settings = settings_of(alloc, given)?;
+        let mut line = init_line(alloc, path, &settings)?;
+        line.push('\n')?;
+        let order = Order::Init {
+            folder: String::from_str(alloc, path)?,
+            settings,
+        };
+        let is_made = make_folder(self.rt, path)?;
+        if let Err(fault) = self.run_for_one(&order) {
+            if is_made {
+                remove_made(self.rt, path);
+            }
+            return Err(fault);
+        }
+        Ok(print(&mut io::writer(self.rt), line.as_bytes())?)
+    }
+
+    /// Runs an order for one caller. On a terminal it says for how long, if it takes long and prints little.
+    fn run_for_one(&self, order: &Order) -> Result<Outcome, StartFault>
+        requires { IsForOne order.now }
+    {
+        let Some(words) = self.lasting(order) else {
+            return self.run_seen(order);
+        };
+        let progress = Progress::new();
+        let program = self.with(&progress);
+        let work = ||
+            requires { IsForOne order.now }
+        { program.run_seen(order) };
+        with_progress(self.rt, words, &progress, work)
+    }
+
+    /// Returns the same program, which erases this line before it prints.
+    fn with<'b>(&self, progress: &'b Progress) -> Program<'b, R, E>
+    where
+        'a: 'b,
+    {
+        Program {
+            rt: self.rt,
+            errors: self.errors,
+            process: self.process,
+            terminals: self.terminals,
+            progress: Some(progress),
+        }
+    }
+
+    /// Returns what is said of an order while it takes long; `None` if nothing is said. An order that prints messages may wait for whom
+    /// it prints them to.
+    fn lasting(&self, order: &Order) -> Option<&'static str> {
+        if !self.terminals.errors {
+            return None;
+        }
+        match order {
+            Order::Write { .. } | Order::WriteBy { .. } if !self.terminals.input => Some(AT_INPUT),
+            Order::Init { .. }
+            | Order::DropBefore { .. }
+            | Order::Trim { .. }
+            | Order::Check { .. }
+            | Order::Stat { .. }
+            | Order::Migrate { .. }
+            | Order::Names { .. }
+            | Order::Repair { .. } => Some(AT_WORK),
+            _ => None,
+        }
+    }
+
+    /// Erases the line that says how long the work has taken.
+    fn quiet(&self) {
+        if let Some(progress) = self.progress {
+            progress.end(self.rt);
+        }
+    }
+
+    /// Returns the standard output.
+    fn output(&self) -> Output<'a, R> {
+        Output {
+            rt: self.rt,
+            progress: self.progress,
+        }
+    }
+
+    /// Runs an order for one caller, over a folder that is seen with what its log gives. If the log is not shown, `errors` says so.
+    fn run_seen(&self, order: &Order) -> Result<Outcome, StartFault>
+        requires { IsForOne order.now }
+    {
+        let mut folder = self.logged_folder(order.folder().unwrap_or(""))?;
+        let mut done = self.run_in(order, &mut folder);
+        if done.is_ok()
+            && let Err(fault) = self.say_news(order, folder.news())
+        {
+            done = Err(fault);
+        }
+        let (_folder, cause) = folder.into_parts();
+        self.end(done, cause)
+    }
+
+    /// Prints what `check` found of the log, if that is the order and there was something.
+    fn say_news(&self, order: &Order, news: Option<LogNews>) -> Result<(), StartFault> {
+        match (order, news) {
+            (Order::Check { folder: _ }, Some(news)) => {
+                Ok(print_news(self.rt.alloc(), &mut self.output(), news)?)
+            }
+            _ => Ok(()),
+        }
+    }
+
+    /// Returns the folder of this path, which is seen with what its log gives.
+    fn logged_folder(
+        &self,
+        path: &str,
+    ) -> Result<LoggedFolder<RealFolder<'a, R>, SystemLock<'a, R>>, AllocError> {
+        let alloc = self.rt.alloc();
+        let path = String::from_str(alloc, path)?;
+        let lock = SystemLock::new(self.rt, format!(in alloc; "{path}/{LOG_FILE}")?);
+        Ok(LoggedFolder::new(alloc, RealFolder::new(self.rt, path, self.process), lock))
+    }
+
+    /// Runs an order for one caller over a folder and the standard streams.
+    fn run_in<F: Folder>(&self, order: &Order, folder: &mut F) -> Result<Outcome, StartFault>
+        requires { IsForOne order.now }
+    {
+        let alloc = self.rt.alloc();
+        let mut output = self.output();
+        match order {
+            Order::Write { folder: _, moment } => {
+                self.write(folder, *moment, InputForm::Lines)?;
+            }
+            Order::WriteBy {
+                folder: _,
+                settings,
+            } => self.write_by(folder, *settings)?,
+            Order::Follow {
+                folder: path,
+                settings,
+                seconds,
+            } => self.follow(folder, path.as_str(), settings, *seconds)?,
+            Order::TakeBy {
+                folder: path,
+                name,
+                settings,
+            } => return self.take_by(folder, path.as_str(), name.as_str(), settings),
+            Order::Trim {
+                folder: _,
+                settings,
+            } => trim(alloc, folder, settings, &mut output)?,
+            Order::Names { folder: _, change } => names(alloc, folder, change, &mut output)?,
+            Order::Repair {
+                folder: _,
+                file,
+                dry_run,
+            } => repair(alloc, folder, file.as_str(), *dry_run, &mut output)?,
+            Order::Race { .. } | Order::Log { .. } | Order::New { .. } | Order::Explain { .. } => {
+                unreachable!()
+            }
+            _ => cq_commands::run(alloc, order, folder, &mut self.rt.reader(), &mut output)?,
+        }
+        Ok(Outcome::Done)
+    }
+
+    /// Appends the messages of the input as options say. Without a moment it is the time of the clock.
+    fn write_by<F: Folder>(
+        &self,
+        folder: &mut F,
+        settings: WriteSettings,
+    ) -> Result<(), StartFault> {
+        let moment = match settings.moment {
+            Some(moment) => moment,
+            None => moment_of(self.rt)?,
+        };
+        self.write(folder, moment, settings.form)
+    }
+
+    /// Appends the messages of the input at a moment. On a terminal it says which cycle begins.
+    fn write<F: Folder>(
+        &self,
+        folder: &mut F,
+        moment: u64,
+        form: InputForm,
+    ) -> Result<(), StartFault> {
+        let batch = Batch { moment, form };
+        let begun = write_by(
+            self.rt.alloc(),
+            folder,
+            batch,
+            &mut self.rt.reader(),
+            &mut self.output(),
+        )?;
+        self.say_begun(begun);
+        Ok(())
+    }
+
+    /// Says which cycle began, if errors are printed to a terminal. Seconds that were given as milliseconds are seen so.
+    fn say_begun(&self, begun: Option<Begun>) {
+        if let Some(Begun { name, .. }) = begun
+            && self.terminals.errors
+        {
+            self.quiet();
+            let _ = eprintln!(self.errors; "cq: begins cycle {name}");
+        }
+    }
+
+    /// Prints messages, and goes on as more come.
+    fn follow<F: Folder>(
+        &self,
+        folder: &mut F,
+        path: &str,
+        settings: &ReadSettings,
+        seconds: Option<u64>,
+    ) -> Result<(), StartFault> {
+        let mut watch = Watch::new(self.rt, FolderChanges::new(self.rt, path)?);
+        let mut output = Pipe::new(io::writer(self.rt));
+        Ok(follow(&mut watch, folder, settings, seconds, &mut output)?)
+    }
+
+    /// Takes messages as options say.
+    fn take_by<F: Folder>(
+        &self,
+        folder: &mut F,
+        path: &str,
+        name: &str,
+        settings: &TakeSettings,
+    ) -> Result<Outcome, StartFault> {
+        let mut watch = Watch::new(self.rt, FolderChanges::new(self.rt, path)?);
+        let took = take_waiting(&mut watch, folder, name, settings, &mut io::writer(self.rt))?;
+        Ok(outcome_of(took))
+    }
+
+    /// Returns what an order came to, by why its log kept it out or was not shown. If the log is not shown, `errors` says so.
+    fn end(
+        &self,
+        done: Result<Outcome, StartFault>,
+        cause: Option<LogFault>,
+    ) -> Result<Outcome, StartFault> {
+        match cause {
+            None => done,
+            Some(LogFault::NotShown(fault)) => {
+                self.quiet();
+                let _ = eprintln!(self.errors; "cq: {}", LogFault::NotShown(fault));
+                done
+            }
+            Some(cause) => done.map_err(|_| StartFault::Log(cause)),
+        }
+    }
+}
+
+/// Returns what a `take` with options came to.
+fn outcome_of(took: Took) -> Outcome
+    ensures { result ≡ Outcome.Nothing ↔ took ≡ Took.Nothing }
+{
+    match took {
+        Took::Messages => Outcome::Done,
+        Took::Nothing => Outcome::Nothing,
+    }
+}
