@@ -1,7 +1,7 @@
 #!/usr/bin/env python3
 """Hurts folders of cq while commands work on them: docs/hurt_folder.py [MODE..] [--runs N] [--seed N] [--room DIR].
 
-The modes, all five if none is named:
+The modes, all six if none is named:
 
 kills   N times (100 if it is not given) a `write` that rolls or not, a `take` with or without `--limit`, a `drop`, a
         `trim` or a `name` that adds or removes is killed at a random moment.
@@ -15,6 +15,9 @@ migrate N times a `migrate` of a folder of version 1 with several images is kill
         system calls fails, or is killed, as in the mode calls. After that `read` has to print what the folder holds, or
         to name an image of version 2 in a folder of version 1; `migrate` once more leaves the files that one without a
         fault leaves.
+repair  N times a `repair` of an image with a wrong record is killed at a random moment, and each of its system calls fails, or is
+        killed, as in the mode calls. After that the image is the old one, or has the messages before the fault, and then the old one is
+        in FILE.bad. `repair` once more leaves the files that one without a fault leaves, and `check` finds no fault.
 
 The folder is checked after each of the first four:
 
@@ -185,6 +188,8 @@ class Tried:
             return [self.program, "name", folder, lines[0].decode(), f"n{number}"], b""
         if kind == "migrate":
             return [self.program, "migrate", folder], b""
+        if kind == "repair":
+            return [self.program, "repair", folder, name_of(number)], b""
         return [self.program, "take", folder, "reader", *(["--limit", str(number)] if number else [])], b""
 
     def run(self, folder, command, front=(), **how):
@@ -586,12 +591,98 @@ def try_migrations(tried, runs):
         judge_migration(tried, folder, queue, answer, what)
 
 
-MODES = {"kills": try_kills, "device": try_device, "calls": try_calls, "beside": try_beside, "migrate": try_migrations}
+class Broken:
+    """A folder with an image that has a wrong record after some messages, and what `repair` makes of it."""
+
+    def __init__(self, dice):
+        self.queue = Queue()
+        self.queue.lists = {0: [b"%0100d" % number for number in range(60)], 1: [b"second"], 2: [b"%0100d" % number for number in range(60)]}
+        self.cycle, self.kept = dice.choice([0, 2]), dice.randint(2, 59)
+        # The last of these is above what is kept, so the position moves down.
+        self.queue.position = dice.choice([0, 1 << 32, (self.cycle << 32) + 60])
+        self.command, self.name = ("repair", self.cycle, []), name_of(self.cycle)
+        self.files = self.queue.files()
+        image = bytearray(self.files[self.name])
+        # The header after the message before, which has no padding.
+        at = image.index(b"%0100d" % (self.kept - 1)) + 100
+        image[at:at + 4] = four(0x7FFFFFF)
+        self.files[self.name] = bytes(image)
+        self.mended = copy.deepcopy(self.queue)
+        self.mended.lists[self.cycle] = self.queue.lists[self.cycle][:self.kept]
+        if self.queue.position == (self.cycle << 32) + 60:
+            self.mended.position = (self.cycle << 32) + self.kept
+        self.after = {**self.mended.files(), f"{self.name}.bad": self.files[self.name]}
+
+    def put(self, folder):
+        os.makedirs(folder)
+        for name, data in self.files.items():
+            with open(os.path.join(folder, name), "wb") as file:
+                file.write(data)
+
+    def judge(self, tried, folder, answer, what):
+        """Checks a folder after a `repair` that was hurt, and what one more makes of it."""
+        status, _, said = answer
+        held = held_in(folder)
+        # Once its record is there a save is done, and the next command that writes finishes what it left.
+        is_mended = held.get(self.name) == self.after[self.name] or "queue.save" in held
+        is_kept = held.get(f"{self.name}.bad") == self.files[self.name]
+        if not is_mended and held.get(self.name) != self.files[self.name] or is_mended and not is_kept:
+            tried.wrong.append(f"{what}: neither all nor nothing: {sorted(held)}")
+        if status not in (0, 1, -9, 137) or status == 0 and not is_mended:
+            tried.wrong.append(f"{what}: {status} {said!r}")
+        if status == 1 and not re.fullmatch(rb"cq: [^\n]+\n", said):
+            tried.wrong.append(f"{what}: said {said!r}")
+        tried.counts[f"{what.split(',')[0]}: {'all' if is_mended else 'nothing'} of it"] += 1
+        again = tried.run(folder, self.command)
+        if again[0] != (1 if is_mended else 0) or held_in(folder) != self.after:
+            tried.wrong.append(f"{what}: once more: {again}, {sorted(held_in(folder))}")
+        elif tried.asked("check", folder) != (0, self.mended.check(), b""):
+            tried.wrong.append(f"{what}: check finds a fault after it")
+        else:
+            tried.goes_on(folder, self.mended, what)
+
+
+def try_repairs(tried, runs):
+    """Kills `repair` at random moments, and has each of its system calls fail."""
+    folder, times, killed = os.path.join(tried.room, "repaired"), [], 0
+    while killed < runs:
+        broken = Broken(tried.dice)
+        broken.put(folder)
+        is_alone = not times or tried.dice.random() < 0.05
+        moment = None if is_alone else tried.dice.uniform(0, 1.1 * statistics.median(times))
+        answer, took = killed_at(tried, folder, broken.command, moment)
+        if is_alone:
+            times = [*times[-8:], took]
+        killed += answer[0] == -9
+        what = "repair killed" if answer[0] == -9 else "repair not killed"
+        broken.judge(tried, folder, answer, f"{what}, kill {killed}")
+        shutil.rmtree(folder)
+    if shutil.which("strace") is None:
+        tried.untried.append("repair, calls: strace is not there (apt-get install strace)")
+        return
+    ready, log = os.path.join(tried.room, "broken"), os.path.join(tried.room, "repair-log")
+    broken = Broken(tried.dice)
+    # Two files are saved together.
+    while broken.mended.position == broken.queue.position:
+        broken = Broken(tried.dice)
+    broken.put(ready)
+    for answer, what in hurt_calls(tried, ready, folder, broken.command, log, "repair at a call"):
+        broken.judge(tried, folder, answer, what)
+
+
+MODES = {
+    "kills": try_kills,
+    "device": try_device,
+    "calls": try_calls,
+    "beside": try_beside,
+    "migrate": try_migrations,
+    "repair": try_repairs,
+}
 
 
 def main():
     words = argparse.ArgumentParser(description="Hurts folders of cq while commands work on them.")
-    words.add_argument("modes", nargs="*", metavar="MODE", help="kills, device, calls, beside or migrate")
+    words.add_argument("modes", nargs="*", metavar="MODE", help="kills, device, calls, beside, migrate or repair")
     words.add_argument("--runs", type=int, default=100)
     words.add_argument("--seed", type=int, default=1)
     words.add_argument("--room", default=None)

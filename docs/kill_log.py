@@ -12,8 +12,8 @@ torn    N times the process is killed at a random moment or call, or a sync fail
         such as blocks with open gates, and the file has the old length, the new one, or one between. Where lines are acknowledged
         after one sync, each byte is the old one or the new one. Each kill is tried with three such logs. It needs strace (apt-get install strace).
 faults  Each system call on its files and streams fails in turn with ENOSPC, EIO or EINTR, or fails with EIO from then on:
-        while it opens a new queue, one that was closed, or one that was killed, while it stores lines, while it saves the images,
-        and while it closes. N of these are tried, or all if N is as large. It needs strace.
+        while it opens a new queue, without a log or with an empty one, one that was closed, or one that was killed, while it stores
+        lines, while it saves the images, and while it closes. N of these are tried, or all if N is as large. It needs strace.
 folds   A command that saves the log of a killed queue into the images and then does its own work, `write`, `take`, `drop` or `trim`:
         each system call fails in turn with EIO or ENOSPC, or it fails from then on, or the command is killed there. N of these
         are tried, or all if N is as large. It needs strace.

@@ -2,6 +2,7 @@
 import collections
 import itertools
 import os
+import pathlib
 import re
 import resource
 import signal
@@ -128,12 +129,14 @@ def is_served(life, what):
 
 
 def ready_lives(tried):
-    """A queue that was closed, one with the log of a queue that was killed, and one in which no cycle has begun."""
-    closed, left, new = (Life(tried, name) for name in ("closed", "left", "new"))
+    """A queue that was closed, one with the log of a queue that was killed, and two in which no cycle has begun: one without a log, and
+    one with a log without a byte."""
+    closed, left, new, bare = (Life(tried, name) for name in ("closed", "left", "new", "bare"))
     is_served(closed, "before the faults")
     is_served(left, "before the faults")
     left_by_a_kill(left, "before the faults")
-    return {"after a closing": closed, "after a kill": left, "new": new}
+    pathlib.Path(bare.folder, "queue.log").touch()
+    return {"after a closing": closed, "after a kill": left, "new": new, "new with a log": bare}
 
 
 def try_faults(tried, runs):

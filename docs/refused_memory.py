@@ -99,6 +99,7 @@ OLD = {
     ),
 }
 
+REPAIRED = b"20241004.cqi: 1 messages would be kept, the old file would be 20241004.cqi.bad\n"
 RACED = b"writer 0: 3 in order\nwriter 1: 3 in order\nreader 0: 6 read\nreader 1: 6 read\n"
 
 # What was done to the folder before, or put into it, the bytes that are kept of the image, the command and its input,
@@ -118,10 +119,15 @@ ROWS = [
     ([INIT, HELLO], None, (["take", "D", "reader", "--limit", "3"], b""), b"00004e2000000000 hello\n00004e2000000001 world\n"),
     ([INIT, HELLO], None, (["take", "D", "reader", "--peek"], b""), b"00004e2000000000 hello\n"),
     ([INIT], None, (["take", "D", "reader", "--limit", "3"], b""), (4, b"", b"")),
+    ([INIT, HELLO], None, (["take", "D", "reader", "--wait", "5"], b""), b"00004e2000000000 hello\n"),
+    ([INIT, HELLO], None, (["read", "D", "--follow", "--limit", "2"], b""), b"00004e2000000000 hello\n00004e2000000001 world\n"),
+    ([INIT, HELLO], None, (["write", "D", "1728000000000", "--null"], b"a\nb\0c"), b"00004e2000000002\n00004e2000000003\n"),
+    ([INIT, HELLO], None, (["write", "D", "1728000000000", "--whole"], b"a\nb\n"), b"00004e2000000002\n"),
     ([INIT, HELLO, NEXT], None, (["drop", "D", "20001"], b""), b"20001\n"),
     ([INIT, HELLO], None, (["salvage", "D", FILE], b""), b"0 hello\n1 world\nwhole\n"),
     ([INIT, HELLO], 127, (["salvage", "D", FILE], b""), b"0 hello\nCut at 124\n"),
     ([INIT, HELLO], 40, (["salvage", "D", FILE], b""), b"Cut at 40\n"),
+    ([INIT, HELLO], 127, (["repair", "D", FILE, "--dry-run"], b""), REPAIRED),
     (
         FIRST,
         None,
