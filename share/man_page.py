@@ -17,10 +17,14 @@ cq \\- an append journal in folders of files
 .B cq
 .I COMMAND
 .RI [ ARGUMENTS ]
+.br
+.B cq
+.B \\-\\-version
 .SH DESCRIPTION
 A command on a queue reads the files of its folder, does its work, saves what changed, and prints.
 Commands that change a folder run one at a time; the others share it.
-A message is a line of the input without its LF. A last line without LF counts. All other bytes are kept.
+A message is a line of the input without its LF, unless an option of write says otherwise.
+A last line without LF counts. All other bytes are kept.
 .SH COMMANDS
 """
 
@@ -31,6 +35,9 @@ The settings of the queue, the position of each name, and the floor.
 .TP
 .I DIR/*.cqi
 The image of a cycle, named by its time.
+.TP
+.I DIR/*.cqi.bad
+What repair kept of an image with a fault.
 .TP
 .I DIR/queue.save
 The record of a save that was cut short. The next command that changes the folder finishes it.
