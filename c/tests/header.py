@@ -105,6 +105,7 @@ def texts_of_version():
         found("python/pyproject.toml", r'^version = "(.*)"'),
         found("python/linnetshelf/__init__.py", r'^__version__ = "(.*)"'),
         found("rust/linnetshelf/Cargo.toml", r'^version = "(.*)"'),
+        found("crates/cq_command_line/src/command_line.rt", r'^const VERSION: &str = "(.*)";'),
     ]
 
 
