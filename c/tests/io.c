@@ -919,6 +919,9 @@ static pid_t hold(int how, int milliseconds) {
     return child;
 }
 
+/* The seconds within which a call answers that waits for nothing, also under valgrind on a machine that does much else. */
+enum { SOON = 10 };
+
 static double seconds(void) {
     struct timespec at;
     CHECK(clock_gettime(CLOCK_MONOTONIC, &at) == 0);
@@ -1123,7 +1126,7 @@ static void waits(void) {
     CHECK(linnetshelf_io_append(&queue, 0, "", 0, -1).status == STATUS(BAD_ROOM));
     CHECK(linnetshelf_begin(&helper.queue, 0, 8) == STATUS(DONE) && linnetshelf_put(&helper.queue, "begun", 5) == STATUS(DONE));
     double began = seconds();
-    CHECK(linnetshelf_io_append(&queue, 0, "x", 1, 0).status == STATUS(BUSY) && seconds() - began < 0.1);
+    CHECK(linnetshelf_io_append(&queue, 0, "x", 1, 0).status == STATUS(BUSY) && seconds() - began < SOON);
     began = seconds();
     CHECK(linnetshelf_io_append(&queue, 0, "x", 1, 50).status == STATUS(BUSY) && seconds() - began >= 0.05);
     CHECK(pthread_create(&helper.thread, NULL, complete_later, &helper) == 0);
@@ -1133,7 +1136,7 @@ static void waits(void) {
     CHECK(linnetshelf_io_next(&queue, text, 0, -1).status == STATUS(NO_ROOM));
     CHECK(linnetshelf_io_next(&queue, text, sizeof text, 0).length == 5 && linnetshelf_io_next(&queue, text, sizeof text, 0).length == 1);
     began = seconds();
-    CHECK(linnetshelf_io_next(&queue, text, sizeof text, 0).status == STATUS(NOT_YET) && seconds() - began < 0.1);
+    CHECK(linnetshelf_io_next(&queue, text, sizeof text, 0).status == STATUS(NOT_YET) && seconds() - began < SOON);
     began = seconds();
     CHECK(linnetshelf_io_next(&queue, text, sizeof text, 50).status == STATUS(NOT_YET) && seconds() - began >= 0.05);
     CHECK(pthread_create(&helper.thread, NULL, append_later, &helper) == 0);
