@@ -1,5 +1,5 @@
 -- Rounds one after another print each message once, in order.
-use Rattle.std.proofs.Common.{◌≡◌, ◌⊎◌, ℕ, zero, suc, ◌+◌, ◌-◌, ◌*◌, ◌^◌, ◌<◌, ◌≤◌, List, [], ◌∷◌, ◌++◌, drop, length, cond, true, false, Bool, inl, inr, arith, refl, ap, sym, subst, ◌∙◌, take, Option, None, Some}
+use Rattle.std.proofs.Common.{◌≡◌, ◌⊎◌, ℕ, zero, suc, ◌+◌, ◌-◌, ◌^◌, ◌<◌, ◌≤◌, List, [], ◌∷◌, ◌++◌, drop, length, cond, true, false, Bool, inl, inr, arith, refl, ap, sym, ◌∙◌, take, Option, None, Some}
 use Rattle.std.specs.Prelude.{nat_le, nat_lt, option_map}
 use Rattle.std.specs.List.{AllByRecursion}
 use Rattle.std.proofs.Math.Seq.{take-append-add}
@@ -18,7 +18,8 @@ use Rattle.cq_commands.specs.Rounds.{IndexesRise, coming}
 use Rattle.cq_commands.specs.Spans.{place_after, place_at}
 use Rattle.cq_commands.specs.TakenBy.{position_after}
 use Rattle.cq_commands.specs.declared.printing.ReadPlace.{ReadPlace}
-use Rattle.cq_commands.proofs.FindingLemmas.{AllAfter, AllBelow, AreFew, above_cycle, after, after-append, below, indexes_after, indexes_below}
+use Rattle.cq_contents.proofs.FewLemmas.{AreFew}
+use Rattle.cq_commands.proofs.FindingLemmas.{AllAfter, AllBelow, above_cycle, after, after-append, below, indexes_after, indexes_below}
 
 -- what holds of each message holds of those between two indexes
 each_between : (P : Placed → Type 0) (p u : ℕ) (xs : List Placed) → AllByRecursion P xs → AllByRecursion P (between p u xs)

@@ -1,5 +1,5 @@
 -- Which messages are on a way, and what comes next on it.
-use Rattle.std.proofs.Common.{◌≡◌, ℕ, zero, suc, ◌+◌, ◌-◌, ◌^◌, ◌<◌, ◌≤◌, max, min, List, [], ◌∷◌, ◌++◌, drop, length, filter, reverse, cond, true, false, Bool, arith, refl, ap, sym, subst, ◌∙◌, take, Option, None, Some}
+use Rattle.std.proofs.Common.{◌≡◌, ℕ, zero, suc, ◌+◌, ◌-◌, ◌^◌, ◌<◌, ◌≤◌, min, List, [], ◌∷◌, ◌++◌, drop, length, filter, reverse, cond, true, false, Bool, arith, refl, ap, sym, subst, ◌∙◌, take, Option, None, Some}
 use Rattle.std.specs.Prelude.{nat_le, nat_lt, option_map}
 use Rattle.std.specs.List.{AllByRecursion}
 use Rattle.std.proofs.Math.Seq.{take-append_seam}
@@ -7,15 +7,14 @@ use Rattle.std.proofs.lemmas.Bool.Decides.{nat_tests}
 use Rattle.std.proofs.lemmas.List.{length-drop, length-reverse, reverse-append, reverse-reverse, take-append-drop, take_all}
 use Rattle.cq_layout.proofs.Each.{each-append}
 use Rattle.cq_model.specs.Finds.{Placed}
-use Rattle.cq_model.specs.States.{Rises, end_of}
+use Rattle.cq_model.specs.States.{Rises}
 use Rattle.cq_model.specs.declared.contents.Contents.{Contents}
-use Rattle.cq_model.specs.declared.contents.CycleList.{CycleList}
-use Rattle.cq_cycle.specs.Index.{index_of}
+use Rattle.cq_contents.proofs.FewLemmas.{AreFew}
 use Rattle.cq_journal.specs.Journals.{ReaderFacts, cursor_behind, next_in}
-use Rattle.cq_commands.specs.Messages.{asked, begun_with, between, chosen, last_messages, limited, readable, way_of}
+use Rattle.cq_commands.specs.Messages.{asked, between, chosen, last_messages, limited, readable, way_of}
 use Rattle.cq_commands.specs.Spans.{is_within, read_span, span_messages, spanned}
 use Rattle.cq_commands.specs.declared.printing.Span.{Span}
-use Rattle.cq_commands.proofs.FindingLemmas.{AllAfter, AllBelow, AreFew, after, after-append, after_both, asked_cut_at_end, below, below_after, below_all, next_asked, none_after, none_asked, none_below}
+use Rattle.cq_commands.proofs.FindingLemmas.{AllAfter, AllBelow, after, after-append, after_both, below, below_after, below_all, next_asked, none_after, none_asked, none_below}
 
 -- a list of one more, turned round
 turned_more : (x : Placed) (xs : List Placed) → reverse (x ∷ xs) ≡ reverse xs ++ x ∷ []
@@ -217,13 +216,6 @@ span_is None true limit start since until xs =
     ∙ ap (λ (ys : List Placed). reverse ys) (sym (below_both start until (after since xs))))
 span_is None false limit start since until xs =
     ap (limited limit) (ap (below until) (sym (after_both start since xs)) ∙ below_after until start (after since xs))
-
--- a way that begins behind the end begins there
-pub cut_at_end : (s : Span) (contents : Contents) → Rises contents.lists → AreFew contents.lists
-    → spanned s s.start (readable contents) ≡ spanned s (min s.start (end_of contents.lists)) (readable contents)
-cut_at_end s contents rises few =
-    ap (λ (xs : List Placed). filter (λ (x : Placed). is_within s.back s.stop x.0) xs)
-    (asked_cut_at_end s.back (index_of contents.floor 0) contents.lists s.start rises few)
 
 none_asked_of : (back : Bool) (start stop : ℕ) → filter (λ (x : Placed). is_within back stop x.0) (asked back start []) ≡ []
 none_asked_of true start stop = refl

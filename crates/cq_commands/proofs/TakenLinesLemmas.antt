@@ -27,7 +27,7 @@ use Rattle.cq_commands.specs.Opened.{HoldsContents, IsOpenedFrom, journal_with}
 use Rattle.cq_commands.specs.QueueFaults.{IsNameFault, IsTakeFault}
 use Rattle.cq_writing.specs.Saving.{SavesAndPrints, TellsConfig}
 use Rattle.cq_commands.specs.TakenBy.{HasTakenAll, AreTakenLines, IsTakeByFault, IsTakenBy, MovesName, TakesAll, TakesVersionBy, TellsTook, next_messages, position_after, took_of}
-use Rattle.cq_commands.specs.declared.journal.OpenedQueue.{OpenedQueue}
+use Rattle.cq_commands.specs.declared.opened.OpenedQueue.{OpenedQueue}
 use Rattle.cq_commands.specs.declared.taking_by.TakenLines.{TakenLines}
 use Rattle.cq_commands.specs.declared.taking_by.Took.{Took}
 use Rattle.cq_commands.specs.declared.taking_by.Took.TheVariants.{Messages}
@@ -121,12 +121,12 @@ nothing_begun settings contents name most paired none declared =
 module _ {before : Option Files} {opened : OpenedQueue} (middle : Option Files) (name : List ℕ) (most : ℕ) (from : IsOpenedFrom before opened)
     (kept : KeepsFiles before middle) where
   pub takes_held : (taken : Option TakenLines) → ((contents : Contents) → length contents.positions ≡ length opened.config.names
-      → CanBeOpened opened.config contents → HoldsContents opened.config contents opened.journal
+      → CanBeOpened opened.config contents → HoldsContents opened.config contents opened.held
       → TakesAll (journal_with opened.config contents) name most taken)
       → TakesAll (journal_with opened.config (contents_in from.queue)) name most taken
   takes_held taken all = all (contents_in from.queue) (from.lawful.paired ∙ sym (ap (λ (s : Settings). length s.names) from.settings))
       (subst (λ (s : Settings). CanBeOpened s (contents_in from.queue)) (sym from.settings) from.openable)
-      (subst (λ (s : Settings). HoldsContents s (contents_in from.queue) opened.journal) (sym from.settings) from.journal)
+      (subst (λ (s : Settings). HoldsContents s (contents_in from.queue) opened.held) (sym from.settings) from.held_is)
 
   taken_by : (peek : Bool) (after : Option Files) (text : List ℕ) (taken : Option TakenLines)
       (takes : TakesAll (journal_with opened.config (contents_in from.queue)) name most taken)

@@ -12,7 +12,8 @@ use Rattle.cq_model.specs.declared.contents.Contents.{Contents}
 use Rattle.cq_tail.specs.declared.answers.Direction.TheVariants.{Forwards}
 use Rattle.cq_commands.specs.Messages.{asked, begun_with, limited, message_line, readable}
 use Rattle.cq_commands.specs.TakenBy.{HasTakenAll, TakeInTurn, next_messages, position_after, with_position}
-use Rattle.cq_commands.proofs.FindingLemmas.{AreFew, next_asked, none_asked}
+use Rattle.cq_commands.proofs.FindingLemmas.{next_asked, none_asked}
+use Rattle.cq_contents.proofs.FewLemmas.{AreFew}
 use Rattle.cq_commands.proofs.PrintingLemmas.{no_line_left, one_line_more}
 use Rattle.cq_commands.proofs.SpanLemmas.{none_limited, one_limited}
 

@@ -18,13 +18,13 @@ ghost use Rattle.cq_commands.specs.QueueFaults.{IsNameFault};
 ghost use Rattle.cq_writing.specs.Saving.{SavesAndPrints, TellsConfig};
 ghost use Rattle.cq_commands.specs.TakenBy.{HasTakenAll, IsTakeByFault, IsTakenBy, TakesAll, TakesVersionBy, TellsTook, most_of};
 
-use crate::journal::{OpenedQueue, config_behind, open_journal};
+use crate::opened::{OpenedQueue, config_after, open_held};
 use crate::printing::push_message;
 use crate::taking::declares;
+use cq_contents::{ContentsReader, QueueContents};
 use cq_cycle::Index;
 use cq_files::{print_outside, write_file};
 use cq_folder::{Access, CONFIG_FILE, Folder};
-use cq_journal::{Journal, JournalReader};
 use cq_layout::Message;
 use cq_model::Config;
 use cq_orders::TakeSettings;
@@ -106,8 +106,8 @@ fn take_all<F: Folder, W: Write>(
     ensures version { TakesVersionBy false (F.files folder.old) result }
     ensures counted { CountsFaults (F.failed folder.old) (F.failed folder.new) result }
 {
-    let OpenedQueue { config, journal } = open_journal(alloc, folder, Access::Alone)?;
-    match taken_for(alloc, &config, journal, name, most)? {
+    let OpenedQueue { config, held } = open_held(alloc, folder, Access::Alone)?;
+    match taken_for(alloc, &config, held, name, most)? {
         None => {
             folder.end();
             Ok(Took::Nothing)
@@ -137,9 +137,9 @@ fn look<F: Folder, W: Write>(
     ensures version { TakesVersionBy true (F.files folder.old) result }
     ensures counted { CountsFaults (F.failed folder.old) (F.failed folder.new) result }
 {
-    let OpenedQueue { config, journal } = open_journal(alloc, folder, Access::Shared)?;
+    let OpenedQueue { config, held } = open_held(alloc, folder, Access::Shared)?;
     folder.end();
-    match taken_for(alloc, &config, journal, name, most)? {
+    match taken_for(alloc, &config, held, name, most)? {
         None => Ok(Took::Nothing),
         Some(taken) => print_lines(folder, output, taken.lines.as_slice()),
     }
@@ -154,26 +154,26 @@ struct TakenLines {
     lines: Vec<u8>,
 }
 
-/// Takes the next messages for a name, `most` at most; `None` if none has come. There is no journal if no cycle has begun.
+/// Takes the next messages for a name, `most` at most; `None` if none has come. Nothing is held if no cycle has begun.
 fn taken_for(
     alloc: Global,
     config: &Config,
-    journal: Option<Journal>,
+    held: Option<QueueContents>,
     name: &str,
     most: u64,
 ) -> Result<Option<TakenLines>, ToolFault>
-    requires names { IfSome journal (λ j. j.settings.names ≡ config.now.names) }
-    requires lawful { IfSome journal (λ j. AreLawfulContents j.settings j.contents × IsLawfulLayout j.settings.layout) }
+    requires names { IfSome held (λ j. j.settings.names ≡ config.now.names) }
+    requires lawful { IfSome held (λ j. AreLawfulContents j.settings j.contents × IsLawfulLayout j.settings.layout) }
     ensures taken { IfOk result (λ taken. (contents : Contents) → length contents.positions ≡ length config.now.names
-        → CanBeOpened config.now contents → HoldsContents config.now contents journal
+        → CanBeOpened config.now contents → HoldsContents config.now contents held
         → TakesAll (journal_with config.now contents) name.now most taken) }
     ensures fault { IfErr result (IsNameFault config.now name.now) }
 {
     if !declares(config, name) {
         return Err(ToolFault::NoSuchName);
     }
-    match journal {
-        Some(journal) => Ok(taken_from(alloc, config, journal, name, most)?),
+    match held {
+        Some(held) => Ok(taken_from(alloc, config, held, name, most)?),
         None => Ok(None),
     }
 }
@@ -182,30 +182,30 @@ fn taken_for(
 fn taken_from(
     alloc: Global,
     config: &Config,
-    journal: Journal,
+    held: QueueContents,
     name: &str,
     most: u64,
 ) -> Result<Option<TakenLines>, AllocError>
-    requires names { journal.settings.names ≡ config.now.names }
-    requires lawful { AreLawfulContents journal.settings journal.contents }
-    requires layout { IsLawfulLayout journal.settings.layout }
+    requires names { held.settings.names ≡ config.now.names }
+    requires lawful { AreLawfulContents held.settings held.contents }
+    requires layout { IsLawfulLayout held.settings.layout }
     requires declared { Declares config.now name.now }
     requires distinct { AllPairs (λ one other. one ≢ other) config.now.names }
-    ensures { IfOk result (TakesAll (journal_with config.now journal.contents) name.now most) }
+    ensures { IfOk result (TakesAll (journal_with config.now held.contents) name.now most) }
 {
-    let mut reader = journal.into_reader(Direction::Forwards, 0);
+    let mut reader = held.into_reader(Direction::Forwards, 0);
     let lines = lines_taken(alloc, &mut reader, name, most)?;
     if lines.is_empty() {
         return Ok(None);
     }
-    let config = config_behind(alloc, config, reader)?;
+    let config = config_after(alloc, config, reader)?;
     Ok(Some(TakenLines { config, lines }))
 }
 
 /// Takes messages by a name that is declared, `most` at most, and returns their lines.
 fn lines_taken(
     alloc: Global,
-    reader: &mut JournalReader,
+    reader: &mut ContentsReader,
     name: &str,
     most: u64,
 ) -> Result<Vec<u8>, AllocError>
@@ -227,7 +227,7 @@ fn lines_taken(
 /// Takes the next message by a name that is declared, unless none is left to be taken. A message that is taken is one less.
 fn next_taken(
     alloc: Global,
-    reader: &mut JournalReader,
+    reader: &mut ContentsReader,
     name: &str,
     left: &mut u64,
 ) -> Result<Option<(Index, Message)>, AllocError>

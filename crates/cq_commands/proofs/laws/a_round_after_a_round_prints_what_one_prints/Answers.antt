@@ -1,5 +1,5 @@
 use Rattle.cq_commands.proofs.ComingLemmas.{places_in_turn, readable_rises, rounds_in_turn}
-use Rattle.cq_commands.proofs.PrintingLemmas.{few_in}
+use Rattle.cq_contents.proofs.FewLemmas.{few_in}
 use Rattle.cq_commands.proofs.laws.a_round_after_a_round_prints_what_one_prints.Goals as goal
 
 pub returns-clause-printed : goal.returns-clause-printed

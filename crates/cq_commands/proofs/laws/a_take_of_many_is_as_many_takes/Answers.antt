@@ -1,4 +1,4 @@
-use Rattle.cq_commands.proofs.PrintingLemmas.{few_in}
+use Rattle.cq_contents.proofs.FewLemmas.{few_in}
 use Rattle.cq_commands.proofs.TakingByLemmas.{as_many_takes}
 use Rattle.cq_commands.proofs.laws.a_take_of_many_is_as_many_takes.Goals as goal
 

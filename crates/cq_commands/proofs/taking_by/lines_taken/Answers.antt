@@ -4,7 +4,7 @@ use Rattle.cq_journal.specs.Journals.{Declares, HasTaken}
 use Rattle.cq_model.specs.Finds.{Placed}
 use Rattle.cq_model.specs.Settings.{Settings}
 use Rattle.cq_commands.specs.Messages.{message_line}
-use Rattle.cq_commands.proofs.PrintingLemmas.{few_in}
+use Rattle.cq_contents.proofs.FewLemmas.{few_in}
 use Rattle.cq_commands.proofs.TakingByLemmas.{all_done, none_came, one_came}
 use Rattle.cq_commands.proofs.taking_by.lines_taken.Goals as goal
 

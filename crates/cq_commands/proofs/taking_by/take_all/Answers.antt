@@ -57,7 +57,7 @@ returns-in_err-write_file-in-Some g c =
     (take_not_saved c.args.name.now fault opened.opened (some.place, some.named) told.save tells) _
     (λ printed. subst (IsFileFault CONFIG_FILE.now) printed told.fault) opened.kept told.save told.scarce
     (lines_or_kept _ c.args.name.now c.args.most opened.opened opened.kept _ some after
-    (subst (λ (bytes : List ℕ). KeepsOrWrites (g.F.Folder.files c.open_journal.new.folder) after ((CONFIG_FILE.now, bytes) ∷ []))
+    (subst (λ (bytes : List ℕ). KeepsOrWrites (g.F.Folder.files c.open_held.new.folder) after ((CONFIG_FILE.now, bytes) ∷ []))
     c.as_slice.ensures.value told.whole))
     (inr tells) (opened.version refl) opened.counted.later told.counted)
     (no_value _ _ _ c.from_residual-in_err-write_file-in-Some.ensures.1)
@@ -77,7 +77,7 @@ returns-in-None g c =
 
 pub returns : goal.returns
 returns g c =
-    let middle = g.F.Folder.files c.open_journal.new.folder in
+    let middle = g.F.Folder.files c.open_held.new.folder in
     let after = g.F.Folder.files c.end-in-Some.new.self in
     let opened = c.in_ok-config.ensures in
     let told = c.print_lines.ensures in
