@@ -91,6 +91,31 @@ static ROWS: &[Row] = &[
         &["it's", "'"],
         "cq init 'my queue' 'a$b' 0 65536 64 16 64 'it'\\''s' ''\\'''",
     ),
+    // Words that `init` would read as options.
+    (
+        "-q",
+        None,
+        None,
+        None,
+        &["reader"],
+        "cq init -- -q daily 0 65536 64 16 64 reader",
+    ),
+    (
+        "a-b",
+        None,
+        None,
+        None,
+        &["x", "-v"],
+        "cq init -- a-b daily 0 65536 64 16 64 x -v",
+    ),
+    (
+        "a",
+        Some("--help"),
+        None,
+        None,
+        &[],
+        "cq init -- a --help 0 65536 64 16 64",
+    ),
 ];
 
 /// The line of `init` for what is given.

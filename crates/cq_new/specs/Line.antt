@@ -1,7 +1,8 @@
 -- The line of `init`, in words of a POSIX shell.
-use Rattle.std.specs.Prelude.{◌≡◌, ℕ, ◌≤◌, List, [], ◌∷◌, ◌++◌, ◌==◌, ◌&&◌, ◌||◌, Bool, if◌then◌else◌, codes, length, nat_le, nat_lt, string_bytes}
+use Rattle.std.specs.Prelude.{◌≡◌, ℕ, ◌≤◌, List, [], ◌∷◌, ◌++◌, ◌==◌, ◌&&◌, ◌||◌, Bool, false, String, if◌then◌else◌, codes, length, nat_le, nat_lt, string_bytes}
 use Rattle.std.specs.Fmt.{decimal}
-use Rattle.std.specs.List.{flat_map, list_all}
+use Rattle.std.specs.Global.{Global}
+use Rattle.std.specs.List.{flat_map, list_all, list_any}
 use Rattle.cq_model.specs.Settings.{texts}
 use Rattle.cq_settings.specs.declared.settings.InitSettings.{InitSettings}
 
@@ -38,7 +39,24 @@ numbers_of made = codes " " ++ (decimal made.epoch ++ (codes " " ++ (decimal mad
 abbrev pub names_of : InitSettings → List ℕ
 names_of made = flat_map (λ name. 32 ∷ word_of name) (texts made.names.items)
 
+-- a command would read the text as an option
+abbrev pub is_option : List ℕ → Bool
+is_option [] = false
+is_option (byte ∷ bytes) = byte == 45
+
+-- it would read one of them so
+abbrev pub have_option : List (String Global) → Bool
+have_option words = list_any (λ word. is_option (string_bytes word)) words
+
+-- it would read the folder, the roll or a name so
+abbrev pub has_option : List ℕ → InitSettings → Bool
+has_option folder made = is_option folder || (is_option (string_bytes made.roll) || have_option made.names.items)
+
+-- no word after two dashes is an option
+abbrev pub dashes_for : List ℕ → InitSettings → List ℕ
+dashes_for folder made = if has_option folder made then codes "-- " else []
+
 -- the command that makes a queue with these settings in a folder that is there
 abbrev pub init_line : List ℕ → InitSettings → List ℕ
-init_line folder made =
-    codes "cq init " ++ (word_of folder ++ (codes " " ++ (word_of (string_bytes made.roll) ++ (numbers_of made ++ names_of made))))
+init_line folder made = codes "cq init " ++ (dashes_for folder made ++ (word_of folder ++ (codes " "
+    ++ (word_of (string_bytes made.roll) ++ (numbers_of made ++ names_of made)))))

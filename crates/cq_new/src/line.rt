@@ -2,7 +2,7 @@
 
 ghost use Rattle.std.specs.Prelude.{◌≡◌, ◌++◌, IfOk, OnOk, string_bytes};
 ghost use Rattle.std.specs.List.{list_all};
-ghost use Rattle.cq_new.specs.Line.{init_line, is_plain, is_word, numbers_of, quoted, word_of};
+ghost use Rattle.cq_new.specs.Line.{dashes_for, has_option, have_option, init_line, is_option, is_plain, is_word, numbers_of, quoted, word_of};
 
 use cq_orders::InitSettings;
 use std::alloc::{AllocError, Global};
@@ -12,13 +12,15 @@ use std::fmt::Write;
 /// reader`. It has no line feed at its end.
 ///
 /// The folder, the roll and the names are words as a POSIX shell reads them: in single quotes, unless each byte is one of
-/// `A-Z`, `a-z`, `0-9`, `_`, `-`, `.` and `/`.
+/// `A-Z`, `a-z`, `0-9`, `_`, `-`, `.` and `/`. If one of them begins with `-`, `--` is before the folder, so that `init` reads
+/// none as an option.
 ///
 /// - `AllocError`: out of memory.
 pub fn init_line(alloc: Global, folder: &str, settings: &InitSettings) -> Result<String, AllocError>
     ensures { IfOk result (λ line. string_bytes line ≡ init_line folder.now settings.now) }
 {
     let mut line = String::from_str(alloc, "cq init ")?;
+    line.push_str(dashes_for(folder, settings))?;
     push_word(&mut line, folder)?;
     line.push(' ')?;
     push_word(&mut line, settings.roll.as_str())?;
@@ -28,6 +30,44 @@ pub fn init_line(alloc: Global, folder: &str, settings: &InitSettings) -> Result
         push_word(&mut line, name.as_str())?;
     }
     Ok(line)
+}
+
+/// Returns `--` and a space if `init` would read one of the words as an option, and nothing if not.
+fn dashes_for(folder: &str, settings: &InitSettings) -> &'static str
+    ensures { result.now ≡ dashes_for folder.now settings.now }
+{
+    if has_option(folder, settings) {
+        "-- "
+    } else {
+        ""
+    }
+}
+
+/// Returns whether a command would read the folder, the roll or a name as an option.
+fn has_option(folder: &str, settings: &InitSettings) -> bool
+    ensures { result ≡ has_option folder.now settings.now }
+{
+    if is_option(folder) || is_option(settings.roll.as_str()) {
+        return true;
+    }
+    have_option(settings.names.as_slice())
+}
+
+/// Returns whether a command would read one of these words as an option.
+fn have_option(words: &[String]) -> bool
+    ensures { result ≡ have_option words.now }
+{
+    words.iter().any(|word| is_option(word.as_str()))
+}
+
+/// Returns whether a command would read a text as an option: it begins with `-`.
+fn is_option(text: &str) -> bool
+    ensures { result ≡ is_option text.now }
+{
+    match text.as_bytes().first() {
+        Some(byte) => *byte == b'-',
+        None => false,
+    }
 }
 
 /// Adds the numbers of the settings, each after a space.
