@@ -1,10 +1,8 @@
 -- How a command ends that repairs an image.
 use Rattle.std.proofs.Common.{◌≡◌, ◌≢◌, ◌⊎◌, ◌∙◌, ℕ, Bool, true, false, List, [], ◌∷◌, ap, inl, inr, map, refl, subst, sym}
-use Rattle.std.proofs.KnownBytes.{Keeps-refl}
 use Rattle.std.specs.Io.KnownBytes.{Keeps}
-use Rattle.std.specs.Prelude.{Contains, Option, None, Some, IfErr, IfOk, IfSome, IsErrAnd, IsSome, IsSomeAnd, IsTrue, Result, Ok, Err, string_bytes}
-use Rattle.cq_folder.specs.Folder.{Files, KeepsFiles, ListsFiles, NamedFile, WritesFiles, named_file}
-use Rattle.cq_files.specs.FolderFaults.{IsFileFault, IsSaveFault, TellsFile}
+use Rattle.std.specs.Prelude.{Contains, Option, None, Some, IfErr, IfOk, IfSome, IsErrAnd, IsSome, IsSomeAnd, IsTrue, OnErr, Result, Ok, Err}
+use Rattle.cq_folder.specs.Folder.{Files, KeepsFiles, KeepsOrWrites, ListsFiles, NamedFile, WritesFiles, named_file}
 use Rattle.cq_files.proofs.QueueLemmas.{keeps-trans, of_before}
 use Rattle.cq_files.proofs.WritingLemmas.{kept_then_written}
 use Rattle.cq_model.specs.Settings.{texts}
@@ -13,9 +11,9 @@ use Rattle.cq_text.specs.declared.fault.ToolFault.{ToolFault}
 use Rattle.cq_text.specs.declared.fault.ToolFault.TheVariants.{FileFault, OutOfMemory, WriteFault}
 use Rattle.cq_files.specs.Saved.{first_file}
 use Rattle.cq_repair.specs.Found.{IsFound}
-use Rattle.cq_repair.specs.Kept.{AreChanges, bad_name, both, image, old_file}
-use Rattle.cq_repair.specs.Plans.{Decides, HasOther, IsMendable, IsPlanned, IsTouched, IsUndecided, IsUnlessTaken, KeepsOrWritesOld, Leaves, Refuses, writes_of}
-use Rattle.cq_repair.specs.Repairs.{HasKeptOld, IsLeft, IsOutcome, IsRepairFault, IsRepaired, KeepsOrKeepsOld, Repairs}
+use Rattle.cq_repair.specs.Kept.{AreChanges, both, image, old_file}
+use Rattle.cq_repair.specs.Plans.{Decides, HasOther, IsCutShort, IsPlanCutShort, IsPlanned, IsUndecided, IsUnlessTaken, IsUnread, Leaves, writes_of}
+use Rattle.cq_repair.specs.Repairs.{IsRepairFault, IsRepaired, Repairs}
 use Rattle.cq_repair.specs.declared.deciding.Decision.{Decision}
 use Rattle.cq_repair.specs.declared.deciding.Decision.TheVariants.{Refuse, Repair}
 use Rattle.cq_repair.specs.declared.fault.RepairRefusal.{RepairRefusal}
@@ -64,23 +62,27 @@ decides_unless_taken dry file a b found plan (Ok (Refuse (ThereAlready name))) k
 )
 decides_unless_taken dry file a b found plan (Ok (Refuse (NoFault name))) kept is planned decided = absurd decided
 
--- why it is not decided
+-- why it is not decided: memory that runs out is among the first causes
 pub unjudged : (dry : Bool) (file : List ℕ) (a : Option Files) (found : Found) (plan : Plan) (fault : ToolFault) → IsFound file a found
-    → IsPlanned dry file found plan → IsSaveFault fault → IsFileFault (named_file plan.old).0 fault
+    → IsPlanned dry file found plan → IsTrue plan.is_taken → (fault ≡ OutOfMemory) ⊎ IsUnread (named_file plan.old).0 fault
     → IfSome a (λ files. IsUndecided file files fault)
-unjudged dry file None found plan fault is planned save told = tt
-unjudged dry file (Some a) found plan fault is planned save told = inr (record {
+unjudged dry file None found plan fault is planned taken why = tt
+unjudged dry file (Some a) found plan fault is planned taken (inl scarce) = subst (IsUndecided file a) (sym scarce) (inl (inl (tt, tt)))
+unjudged dry file (Some a) found plan fault is planned taken (inr unread) = inr (record {
   found = found;
   is_found = is;
-  cause = (subst (λ (old : NamedFile). IsFileFault old.0 fault) planned.old told, save);
+  faulty = planned.faulty;
+  taken = planned.taken.0 taken;
+  unread = subst (λ (old : NamedFile). IsUnread old.0 fault) planned.old unread;
 })
 
 -- so it is, whatever the end of the call
 pub undecided : {T : Type 0} (dry : Bool) (file : List ℕ) (a : Option Files) (found : Found) (plan : Plan) (result : Result T ToolFault) → IsFound file a found
-    → IsPlanned dry file found plan → IfErr result IsSaveFault → IfErr result (IsFileFault (named_file plan.old).0)
+    → IsPlanned dry file found plan → OnErr result (IsTrue plan.is_taken)
+    → IfErr result (λ fault. (fault ≡ OutOfMemory) ⊎ IsUnread (named_file plan.old).0 fault)
     → IfErr result (λ fault. IfSome a (λ files. IsUndecided file files fault))
-undecided dry file a found plan (Ok value) is planned save told = tt
-undecided dry file a found plan (Err fault) is planned save told = unjudged dry file a found plan fault is planned save told
+undecided dry file a found plan (Ok value) is planned taken why = tt
+undecided dry file a found plan (Err fault) is planned taken why = unjudged dry file a found plan fault is planned taken why
 
 -- all that is written, as the plan says it
 all_written : (dry : Bool) (file : List ℕ) (a c : Option Files) (found : Found) (plan : Plan) → IsPlanned dry file found plan
@@ -102,26 +104,10 @@ repaired_by dry file a b c plan text (found, mendable, planned) kept left text_i
   ended_is = planned.ended_is;
   changes = map named_file plan.changes.items;
   changes_are = planned.changes;
+  fit = planned.fit;
   left = kept_then_left dry a b c _ kept (all_written dry file b c found plan planned left);
   text_is = text_is ∙ planned.text;
 }
-
--- no file changed, or the old one was written
-pub kept_old : (dry : Bool) (file : List ℕ) (a b c : Option Files) (plan : Plan) → Decides dry file a (Repair plan) → KeepsFiles a b
-    → KeepsOrWritesOld plan b c → KeepsOrKeepsOld file a c
-kept_old dry file a b c plan decided kept (inl same) = inl (keeps-trans a b c kept same)
-kept_old dry file a b c plan (found, mendable, planned) kept (inr wrote) = inr (record {
-  found = found;
-  mendable = mendable;
-  left = subst (λ (old : NamedFile). WritesFiles a c (old ∷ [])) planned.old (kept_then_written a b c (named_file plan.old ∷ []) kept wrote);
-})
-
--- or all was done
-pub kept_or_repaired : (file : List ℕ) (a b c : Option Files) (plan : Plan) → Decides false file a (Repair plan) → KeepsFiles a b
-    → KeepsOrWritesOld plan b c ⊎ WritesFiles b c (writes_of plan)
-    → KeepsOrKeepsOld file a c ⊎ ((text : List ℕ) × IsRepaired false file a c text)
-kept_or_repaired file a b c plan decided kept (inl some) = inl (kept_old false file a b c plan decided kept some)
-kept_or_repaired file a b c plan decided kept (inr all) = inr (plan.text.items, repaired_by false file a b c plan _ decided kept all refl)
 
 -- the first change is the image
 first_change : (file : List ℕ) (ended : Bool) (found : Found) (changes : List NamedFile) → AreChanges file ended found changes
@@ -129,85 +115,69 @@ first_change : (file : List ℕ) (ended : Bool) (found : Found) (changes : List 
 first_change file ended found changes (image same is) = ap (first_file []) is
 first_change file ended found changes (both text moved spelled is) = ap (first_file []) is
 
--- a fault has the name of a file that is written
-told_touched : (fault : ToolFault) (P Q : List ℕ → Type 0) → ((name : List ℕ) → P name → Q name) → TellsFile P fault → TellsFile Q fault
-told_touched (FileFault name) P Q so told = so (string_bytes name) told
-told_touched _ P Q so told = tt
+-- the same after calls that keep all files
+kept_or_wrote : (a b c : Option Files) (writes : List NamedFile) → KeepsFiles a b → KeepsOrWrites b c writes → KeepsOrWrites a c writes
+kept_or_wrote a b c writes kept (inl same) = inl (keeps-trans a b c kept same)
+kept_or_wrote a b c writes kept (inr wrote) = inr (kept_then_written a b c writes kept wrote)
 
--- why what was decided is not saved or not printed
-pub unsaved : (dry : Bool) (file : List ℕ) (a : Option Files) (plan : Plan) (fault : ToolFault) → Decides dry file a (Repair plan) → IsSaveFault fault
-    → (fault ≢ WriteFault → dry ≡ false) → TellsFile (IsTouched plan) fault → IfSome a (λ files. IsRepairFault dry file files fault)
-unsaved dry file None plan fault decided save saves told = tt
-unsaved dry file (Some a) plan fault (found, mendable, planned) save saves told = inr (record {
+cut_after : (fault : ToolFault) (a b c : Option Files) (old : NamedFile) (first : List ℕ) (All Done : Type 0) → KeepsFiles a b → (All → Done)
+    → IsCutShort old first All b c fault → IsCutShort old first Done a c fault
+cut_after OutOfMemory a b c old first All Done kept done cut = kept_or_wrote a b c (old ∷ []) kept cut
+cut_after (FileFault name) a b c old first All Done kept done (inl (named, left)) = inl (named, kept_or_wrote a b c (old ∷ []) kept left)
+cut_after (FileFault name) a b c old first All Done kept done (inr (named, inl wrote)) =
+    inr (named, inl (kept_then_written a b c (old ∷ []) kept wrote))
+cut_after (FileFault name) a b c old first All Done kept done (inr (named, inr all)) = inr (named, inr (done all))
+cut_after _ a b c old first All Done kept done cut = absurd cut
+
+-- what was decided is not saved
+pub unsaved : (dry : Bool) (file : List ℕ) (a b c : Option Files) (plan : Plan) (fault : ToolFault) → Decides dry file a (Repair plan)
+    → KeepsFiles a b → dry ≡ false → IsPlanCutShort plan b c fault → IfSome a (λ files. IsRepairFault dry file files c fault)
+unsaved dry file None b c plan fault decided kept wet cut = tt
+unsaved dry file (Some a) b c plan fault (found, mendable, planned) kept wet cut = inr (record {
   found = found;
   mendable = mendable;
-  saving = save;
-  saves = saves;
-  told = told_touched fault (IsTouched plan) (λ name. (name ≡ bad_name file) ⊎ (name ≡ file)) by told;
+  left = inr (
+    wet,
+    subst (λ (named : List ℕ). IsCutShort (old_file file found) named Done (Some a) c fault) (first_change file planned.ended found _ planned.changes)
+        (subst (λ (old : NamedFile). IsCutShort old first Done (Some a) c fault) planned.old
+        (cut_after fault (Some a) b c (named_file plan.old) first (WritesFiles b c (writes_of plan)) Done kept by cut)),
+  );
 })
   where
-    by : (name : List ℕ) → IsTouched plan name → (name ≡ bad_name file) ⊎ (name ≡ file)
-    by name (inl old) = inl (old ∙ ap (λ (old : NamedFile). old.0) planned.old)
-    by name (inr first) = inr (first ∙ first_change file planned.ended found _ planned.changes)
+    first : List ℕ
+    first = first_file [] (map named_file plan.changes.items)
 
--- a fault of an order that is not carried out
-pub undone : (dry : Bool) (file : List ℕ) (a : Option Files) (fault : ToolFault) → IfSome a (λ files. IsUndecided file files fault)
-    → IfSome a (λ files. IsRepairFault dry file files fault)
-undone dry file None fault cause = tt
-undone dry file (Some a) fault cause = inl cause
+    Done : Type 0
+    Done = (text : List ℕ) × IsRepaired false file (Some a) c text
+
+    by : WritesFiles b c (writes_of plan) → Done
+    by all = (
+      plan.text.items,
+      repaired_by false file (Some a) b c plan plan.text.items (subst (λ (d : Bool). Decides d file (Some a) (Repair plan)) wet (found, mendable, planned)) kept all refl,
+    )
+
+-- what was decided is saved and not printed
+pub not_printed : (dry : Bool) (file : List ℕ) (a c : Option Files) (plan : Plan) (fault : ToolFault) → Decides dry file a (Repair plan)
+    → fault ≡ WriteFault → IfSome a (λ files. IsRepairFault dry file files c fault)
+not_printed dry file None c plan fault decided written = tt
+not_printed dry file (Some a) c plan fault (found, mendable, planned) written =
+    inr (record { found = found; mendable = mendable; left = inl written })
+
+-- nothing is decided
+pub undone : (dry : Bool) (file : List ℕ) (a b : Option Files) (fault : ToolFault) → KeepsFiles a b
+    → IfSome a (λ files. IsUndecided file files fault) → IfSome a (λ files. IsRepairFault dry file files b fault)
+undone dry file None b fault kept cause = tt
+undone dry file (Some a) b fault kept cause = inl (cause, kept)
 
 -- how a command ends that was refused by a fault
 pub repairs_not : (dry : Bool) (file : List ℕ) (before after : Option Files) (old new : Option (List ℕ))
     (result : Result (Option RepairRefusal) ToolFault) (fault : ToolFault) → IsErrAnd result (λ passed. passed ≡ fault)
-    → IsLeft dry file before after fault → (fault ≢ WriteFault → Keeps old new)
+    → (fault ≢ WriteFault → Keeps old new)
     → (fault ≡ WriteFault → (text : List ℕ) × IsRepaired dry file before after text × AppendsBeginning old new text)
     → Repairs dry file before after old new result
-repairs_not dry file before after old new (Ok outcome) fault is left silent broken = absurd is
-repairs_not dry file before after old new (Err passed) fault is left silent broken = record {
+repairs_not dry file before after old new (Ok outcome) fault is silent broken = absurd is
+repairs_not dry file before after old new (Err passed) fault is silent broken = record {
   done = tt;
-  left = subst (IsLeft dry file before after) (sym is) left;
   silent = subst (λ (f : ToolFault). f ≢ WriteFault → Keeps old new) (sym is) silent;
   broken = subst (λ (f : ToolFault). f ≡ WriteFault → (text : List ℕ) × IsRepaired dry file before after text × AppendsBeginning old new text) (sym is) broken;
 }
-
--- no file changed, whatever the fault
-pub left_unchanged : (dry : Bool) (file : List ℕ) (before after : Option Files) (fault : ToolFault) → KeepsFiles before after
-    → IsLeft dry file before after fault
-left_unchanged dry file before after fault kept =
-    record { unsaved = λ other. kept; dry_run = λ other. kept; scarce = λ memory. inl kept; whole = inl (inl kept) }
-
--- what is left where a save failed, which no dry run makes
-pub left_saved : (dry : Bool) (file : List ℕ) (a b c : Option Files) (plan : Plan) (fault : ToolFault) → Decides dry file a (Repair plan) → KeepsFiles a b
-    → IsSaveFault fault → dry ≡ false → (fault ≡ OutOfMemory → KeepsOrWritesOld plan b c)
-    → KeepsOrWritesOld plan b c ⊎ WritesFiles b c (writes_of plan) → IsLeft dry file a c fault
-left_saved dry file a b c plan fault decided kept save wet scarce whole = record {
-  unsaved = λ other. absurd (other save);
-  dry_run = λ other. absurd (other wet);
-  scarce = λ memory. kept_old dry file a b c plan decided kept (scarce memory);
-  whole = by dry wet decided whole;
-}
-  where
-    unequal : true ≡ false → ⊥
-    unequal same = cc
-
-    by : (d : Bool) → d ≡ false → Decides d file a (Repair plan) → KeepsOrWritesOld plan b c ⊎ WritesFiles b c (writes_of plan)
-        → KeepsOrKeepsOld file a c ⊎ ((text : List ℕ) × IsRepaired d file a c text)
-    by true is from left = absurd (unequal is)
-    by false is from left = kept_or_repaired file a b c plan from kept left
-
--- what is left where all was done and the text was not written
-pub left_printed : (dry : Bool) (file : List ℕ) (a c : Option Files) (text : List ℕ) (fault : ToolFault) → fault ≡ WriteFault
-    → IsRepaired dry file a c text → IsLeft dry file a c fault
-left_printed dry file a c text fault is done = record {
-  unsaved = λ other. absurd (other (subst IsSaveFault (sym is) tt));
-  dry_run = λ other. by dry other done.left;
-  scarce = λ memory. absurd (unwritten (sym is ∙ memory));
-  whole = inr (text, done);
-}
-  where
-    unwritten : WriteFault ≡ OutOfMemory → ⊥
-    unwritten same = cc
-
-    by : (d : Bool) → d ≢ false → Leaves d (old_file file done.found ∷ done.changes) a c → KeepsFiles a c
-    by true other kept = kept
-    by false other wrote = absurd (other refl)

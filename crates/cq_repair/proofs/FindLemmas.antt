@@ -1,6 +1,6 @@
 -- How an image is found among the files of a folder.
-use Rattle.std.proofs.Common.{◌≡◌, ◌≢◌, ◌⊎◌, ◌∙◌, ℕ, zero, suc, ◌<◌, ◌≤◌, List, [], ◌∷◌, true, false, length, map, get_or, refl, ap, sym, subst, arith, inl, inr, rules, string_bytes}
-use Rattle.std.specs.Prelude.{Contains, String, Option, None, Some, IfSome, IsSome, IsSomeAnd, IsTrue}
+use Rattle.std.proofs.Common.{◌≡◌, ◌≢◌, ℕ, zero, suc, ◌<◌, ◌≤◌, List, [], ◌∷◌, length, get_or, refl, ap, sym, subst, arith, inl, inr, rules, string_bytes}
+use Rattle.std.specs.Prelude.{Contains, String, Option, None, Some, IfSome, IsSomeAnd}
 use Rattle.std.specs.List.{AllByRecursion}
 use Rattle.cq_config_text.specs.ConfigText.{IsTextOf}
 use Rattle.cq_config_text.specs.Version.{version_of}
@@ -10,8 +10,8 @@ use Rattle.cq_config_text.specs.declared.version.FolderVersion.TheVariants as ve
 use Rattle.cq_cycle.specs.declared.roll.TheConstants.{LAST_CYCLE}
 use Rattle.cq_folder.specs.Folder.{Files, KeepsFiles, ListsFiles}
 use Rattle.cq_folder.specs.declared.names.TheConstants.{CONFIG_FILE}
-use Rattle.cq_files.specs.FolderFaults.{HasCause, HasSettings, HasVersion, HoldsConfig, IsFileFault, IsFolderFault, IsShowFault, IsUnreadFault}
-use Rattle.cq_files.specs.Queue.{IsImageFile, IsImageName, ends_as_image}
+use Rattle.cq_files.specs.FolderFaults.{HasCause, HasSettings, HasVersion, HoldsConfig, IsFileFault, IsFolderFault, IsShowFault}
+use Rattle.cq_files.specs.Queue.{IsImageName}
 use Rattle.cq_files.proofs.QueueLemmas.{of_before}
 use Rattle.cq_files.proofs.CauseLemmas.{config_there}
 use Rattle.cq_model.specs.Settings.{IsLawfulSettings, Settings, texts}

@@ -3,3 +3,4 @@ mod FindLemmas
 mod LineLemmas
 mod SaveLemmas
 mod PlanLemmas
+pub mod OpenLemmas

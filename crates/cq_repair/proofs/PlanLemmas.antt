@@ -1,12 +1,11 @@
 -- What is planned for an image.
 use Rattle.std.proofs.Common.{◌≡◌, ◌≢◌, ◌∙◌, ℕ, List, [], ◌∷◌, ◌++◌, Bool, true, false, not, Global, ap, map, refl, subst, sym}
 use Rattle.std.proofs.lemmas.Slice.Eq.{bytes_eq-Decides}
-use Rattle.std.specs.Prelude.{Contains, Option, None, Some, IsTrue, String, string_bytes}
+use Rattle.std.specs.Prelude.{Contains, Option, None, Some, IsTrue, String}
 use Rattle.std.specs.Option.{is_none}
 use Rattle.std.specs.Str.{bytes_eq}
 use Rattle.cq_config_text.specs.ConfigText.{IsTextOf}
 use Rattle.cq_folder.specs.Folder.{NamedFile, named_file}
-use Rattle.cq_folder.specs.declared.names.TheConstants.{CONFIG_FILE}
 use Rattle.cq_folder.specs.declared.storage.NewFile.{NewFile}
 use Rattle.cq_files.proofs.QueueLemmas.{contained, is_named, named}
 use Rattle.cq_image.specs.Image.{AreNext}

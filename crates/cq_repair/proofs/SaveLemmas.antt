@@ -1,13 +1,11 @@
 -- What is left after the old file was written, and then what changes.
-use Rattle.std.proofs.Common.{◌≡◌, ◌⊎◌, ◌∙◌, ℕ, List, [], ◌∷◌, ap, inl, inr, map}
-use Rattle.std.specs.Prelude.{Option, None, Some, OnErr, Result, Ok, Err, IfErr, IsErrAnd}
-use Rattle.cq_folder.specs.Folder.{Files, KeepsFiles, KeepsOrWrites, NamedFile, WritesFile, WritesFiles, after_writes, named_file}
-use Rattle.cq_files.proofs.QueueLemmas.{keeps-trans}
-use Rattle.cq_files.proofs.WritingLemmas.{kept_then_written}
+use Rattle.std.proofs.Common.{◌≡◌, ◌≢◌, ◌∙◌, ℕ, List, [], ◌∷◌, ap, inl, inr, refl}
+use Rattle.std.specs.Prelude.{Option, None, Some, OnErr, Result, Ok, Err, IfErr}
+use Rattle.cq_folder.specs.Folder.{Files, KeepsFiles, KeepsOrWrites, NamedFile, WritesFile, WritesFiles, after_writes}
+use Rattle.cq_files.specs.FolderFaults.{IsFileFault, IsSaveFault, TellsFile}
 use Rattle.cq_text.specs.declared.fault.ToolFault.{ToolFault}
-use Rattle.cq_text.specs.declared.fault.ToolFault.TheVariants.{OutOfMemory}
-use Rattle.cq_repair.specs.Plans.{KeepsOrWritesOld, writes_of}
-use Rattle.cq_repair.specs.declared.planning.Plan.{Plan}
+use Rattle.cq_text.specs.declared.fault.ToolFault.TheVariants.{FileFault, FileTooLarge, OutOfMemory, WriteFault}
+use Rattle.cq_repair.specs.Plans.{IsCutShort}
 
 -- one file was written, and then some
 pub wrote_then_wrote : (a b c : Option Files) (name bytes : List ℕ) (more : List NamedFile) → WritesFile a b name bytes → WritesFiles b c more
@@ -26,10 +24,27 @@ wrote_then_kept (Some a) None c name bytes one kept = absurd one
 wrote_then_kept (Some a) (Some b) None name bytes one kept = absurd kept
 wrote_then_kept (Some a) (Some b) (Some c) name bytes one kept = λ file. kept file ∙ one file
 
--- so it is after a save, whatever its end
-pub whole_after : {T : Type 0} (result : Result T ToolFault) (a b c : Option Files) (plan : Plan)
-    → WritesFile a b (named_file plan.old).0 (named_file plan.old).1 → OnErr result (KeepsOrWrites b c (map named_file plan.changes.items))
-    → OnErr result (KeepsOrWritesOld plan a c ⊎ WritesFiles a c (writes_of plan))
-whole_after (Ok done) a b c plan one left = tt
-whole_after (Err fault) a b c plan one (inl kept) = inl (inr (wrote_then_kept a b c _ _ one kept))
-whole_after (Err fault) a b c plan one (inr wrote) = inr (wrote_then_wrote a b c _ _ (map named_file plan.changes.items) one wrote)
+-- the old file is not written
+pub cut_first : {T : Type 0} (result : Result T ToolFault) (a b : Option Files) (old : NamedFile) (image : List ℕ) (All : Type 0)
+    → IfErr result (IsFileFault old.0) → IfErr result IsSaveFault → OnErr result (KeepsOrWrites a b (old ∷ []))
+    → IfErr result (IsCutShort old image All a b)
+cut_first (Ok done) a b old image All told save whole = tt
+cut_first (Err OutOfMemory) a b old image All told save whole = whole
+cut_first (Err (FileFault name)) a b old image All told save whole = inl (told, whole)
+cut_first (Err (FileTooLarge name)) a b old image All told save whole = absurd save
+cut_first (Err _) a b old image All told save whole = absurd told
+
+-- the old file is, and the rest is not saved
+pub cut_then : {T : Type 0} (result : Result T ToolFault) (a b c : Option Files) (old : NamedFile) (image : List ℕ) (more : List NamedFile)
+    → WritesFile a b old.0 old.1 → IfErr result IsSaveFault → IfErr result (TellsFile (λ name. name ≡ image))
+    → IfErr result (λ fault. fault ≢ WriteFault) → IfErr result (λ fault. fault ≡ OutOfMemory → KeepsFiles b c)
+    → OnErr result (KeepsOrWrites b c more) → IfErr result (IsCutShort old image (WritesFiles a c (old ∷ more)) a c)
+cut_then (Ok done) a b c old image more one save told unprinted scarce whole = tt
+cut_then (Err OutOfMemory) a b c old image more one save told unprinted scarce whole =
+    inr (wrote_then_kept a b c old.0 old.1 one (scarce refl))
+cut_then (Err (FileFault name)) a b c old image more one save told unprinted scarce (inl kept) =
+    inr (told, inl (wrote_then_kept a b c old.0 old.1 one kept))
+cut_then (Err (FileFault name)) a b c old image more one save told unprinted scarce (inr wrote) =
+    inr (told, inr (wrote_then_wrote a b c old.0 old.1 more one wrote))
+cut_then (Err WriteFault) a b c old image more one save told unprinted scarce whole = absurd (unprinted refl)
+cut_then (Err _) a b c old image more one save told unprinted scarce whole = absurd save

@@ -1,18 +1,18 @@
 -- What is decided of an image.
 use Rattle.std.specs.Prelude.{◌≡◌, ◌≢◌, ◌⊎◌, ◌↔◌, ℕ, List, [], ◌∷◌, Bool, true, false, Contains, IfSome, IsSomeAnd, IsTrue, Option, None, Some, map, string_bytes}
 use Rattle.cq_config_text.specs.ConfigText.{IsTextOf}
-use Rattle.cq_folder.specs.Folder.{Files, KeepsFiles, NamedFile, WritesFiles, named_file}
+use Rattle.cq_folder.specs.Folder.{Files, KeepsFiles, KeepsOrWrites, NamedFile, WritesFiles, named_file}
 use Rattle.cq_folder.specs.declared.names.TheConstants.{CONFIG_FILE}
 use Rattle.cq_folder.specs.declared.storage.Access.{Access}
 use Rattle.cq_folder.specs.declared.storage.Access.TheVariants.{Alone, Shared}
-use Rattle.cq_files.specs.FolderFaults.{IsFileFault, IsSaveFault, IsShowFault}
+use Rattle.cq_files.specs.FolderFaults.{IsShowFault}
 use Rattle.cq_files.specs.Saved.{first_file}
 use Rattle.cq_image.specs.Image.{AreNext}
 use Rattle.cq_image.specs.declared.found.Salvaged.{Salvaged}
 use Rattle.cq_layout.specs.Layout.{CycleLayout}
 use Rattle.cq_model.specs.Settings.{texts}
 use Rattle.cq_text.specs.declared.fault.ToolFault.{ToolFault}
-use Rattle.cq_text.specs.declared.fault.ToolFault.TheVariants.{OutOfMemory}
+use Rattle.cq_text.specs.declared.fault.ToolFault.TheVariants.{FileFault, OutOfMemory}
 use Rattle.cq_repair.specs.Found.{HasLater, IsFound, IsOldOrUnread}
 use Rattle.cq_repair.specs.Kept.{AreChanges, bad_name, end_of_kept, old_file, repair_text, salvaged}
 use Rattle.cq_repair.specs.declared.deciding.Decision.{Decision}
@@ -49,6 +49,7 @@ pub record IsConfigFile (found : Found) (positions : List ℕ) (file : NamedFile
 -- this is done to the queue of an image that has a fault
 pub record IsPlanned (dry : Bool) (file : List ℕ) (found : Found) (plan : Plan) : Type 0 where
   pub faulty : (salvaged found).fault ≢ None
+  pub fit : AreNext found.saved.config.layout [] (salvaged found).messages
   pub ended : Bool
   pub ended_is : IsEnded found ended
   pub old : named_file plan.old ≡ old_file file found
@@ -79,6 +80,11 @@ pub record IsMendable (file : List ℕ) (files : Option Files) (found : Found) :
   pub faulty : (salvaged found).fault ≢ None
   pub free : IfSome files (λ held. ¬ HasOther (old_file file found) held)
 
+-- the folder does not give the file with this name
+abbrev pub IsUnread : List ℕ → ToolFault → Type 0
+IsUnread name (FileFault file) = string_bytes file ≡ name
+IsUnread name _ = ⊥
+
 -- why the image of a queue is not repaired: it has no fault; else a file with other bytes has that name
 abbrev pub Refuses : List ℕ → Option Files → RepairRefusal → Type 0
 Refuses file files (NoFault name) =
@@ -86,12 +92,15 @@ Refuses file files (NoFault name) =
 Refuses file files (ThereAlready name) = (found : Found) × IsFound file files found × ((salvaged found).fault ≢ None)
     × IfSome files (HasOther (old_file file found)) × (string_bytes name ≡ bad_name file)
 
--- why nothing is decided: the image is not found; else it is, and memory ran out, or the file with that name is not read
+-- why nothing is decided of an image that has a fault: a file has the name that the old file would get, and it is not read
 pub record IsUnjudged (file : List ℕ) (files : Files) (fault : ToolFault) : Type 0 where
   pub found : Found
   pub is_found : IsFound file (Some files) found
-  pub cause : IsFileFault (bad_name file) fault × IsSaveFault fault
+  pub faulty : (salvaged found).fault ≢ None
+  pub taken : Contains (texts found.names.items) (bad_name file)
+  pub unread : IsUnread (bad_name file) fault
 
+-- why nothing is decided: the image is not found; else that file is not read. Memory that runs out is among the first
 abbrev pub IsUndecided : List ℕ → Files → ToolFault → Type 0
 IsUndecided file files fault = IsShowFault (IsOldOrUnread file) file files fault ⊎ IsUnjudged file files fault
 
@@ -104,15 +113,20 @@ Decides dry file files (Refuse refusal) = Refuses file files refusal
 abbrev pub writes_of : Plan → List NamedFile
 writes_of plan = named_file plan.old ∷ map named_file plan.changes.items
 
--- no file changed, or the old file was written under its new name
-abbrev pub KeepsOrWritesOld : Plan → Option Files → Option Files → Type 0
-KeepsOrWritesOld plan before after = KeepsFiles before after ⊎ WritesFiles before after (named_file plan.old ∷ [])
-
 -- in a dry run no file changed; else these were written
 abbrev pub Leaves : Bool → List NamedFile → Option Files → Option Files → Type 0
 Leaves true writes before after = KeepsFiles before after
 Leaves false writes before after = WritesFiles before after writes
 
--- the name of a file that a plan writes and that a fault may have: the old file's new name, or that of the first change
-abbrev pub IsTouched : Plan → List ℕ → Type 0
-IsTouched plan name = (name ≡ (named_file plan.old).0) ⊎ (name ≡ first_file [] (map named_file plan.changes.items))
+-- what is left after a fault of a write: if out of memory, or if the fault has the name of the old file, no file changed or that
+-- one was written; if it has the name of the image, the old file was written, or all was
+abbrev pub IsCutShort : NamedFile → List ℕ → Type 0 → Option Files → Option Files → ToolFault → Type 0
+IsCutShort old image All before after OutOfMemory = KeepsOrWrites before after (old ∷ [])
+IsCutShort old image All before after (FileFault name) = ((string_bytes name ≡ old.0) × KeepsOrWrites before after (old ∷ []))
+    ⊎ ((string_bytes name ≡ image) × (WritesFiles before after (old ∷ []) ⊎ All))
+IsCutShort old image All before after _ = ⊥
+
+-- the same of the writes of a plan
+abbrev pub IsPlanCutShort : Plan → Option Files → Option Files → ToolFault → Type 0
+IsPlanCutShort plan before after = IsCutShort (named_file plan.old) (first_file [] (map named_file plan.changes.items))
+    (WritesFiles before after (writes_of plan)) before after

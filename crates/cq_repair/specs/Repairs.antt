@@ -1,20 +1,19 @@
 -- How `repair` ends.
 use Rattle.std.specs.Prelude.{◌≡◌, ◌≢◌, ◌⊎◌, ℕ, List, [], ◌∷◌, Bool, false, Option, None, Some, Result, Ok, Err, IfErr, IfOk}
 use Rattle.std.specs.Io.KnownBytes.{Appends, Keeps}
-use Rattle.cq_folder.specs.Folder.{Files, KeepsFiles, NamedFile, WritesFiles}
-use Rattle.cq_files.specs.FolderFaults.{IsSaveFault, TellsFile}
+use Rattle.cq_folder.specs.Folder.{Files, KeepsFiles, NamedFile}
+use Rattle.cq_image.specs.Image.{AreNext}
 use Rattle.cq_text.specs.Output.{AppendsBeginning}
 use Rattle.cq_text.specs.declared.fault.ToolFault.{ToolFault}
-use Rattle.cq_text.specs.declared.fault.ToolFault.TheVariants.{OutOfMemory, WriteFault}
-use Rattle.cq_repair.specs.Found.{IsFound}
-use Rattle.cq_repair.specs.Kept.{AreChanges, bad_name, old_file, repair_text, salvaged}
-use Rattle.cq_repair.specs.Plans.{IsEnded, IsMendable, IsUndecided, Leaves, Refuses}
+use Rattle.cq_text.specs.declared.fault.ToolFault.TheVariants.{WriteFault}
+use Rattle.cq_repair.specs.Kept.{AreChanges, old_file, repair_text, salvaged}
+use Rattle.cq_repair.specs.Plans.{IsCutShort, IsEnded, IsMendable, IsUndecided, Leaves, Refuses}
 use Rattle.cq_repair.specs.declared.fault.RepairFault.{RepairFault}
 use Rattle.cq_repair.specs.declared.fault.RepairFault.TheVariants.{Refused, Tool}
 use Rattle.cq_repair.specs.declared.fault.RepairRefusal.{RepairRefusal}
 use Rattle.cq_repair.specs.declared.finding.Found.{Found}
 
--- the image in the file had a fault: the old file was written under its new name, and then the new image and, where a name
+-- the image in the file had a fault, and what is kept of it fits a cycle: the old file was written under its new name, and then the new image and, where a name
 -- moves, the configuration; no other file changed, and in a dry run none. The text has what was done
 pub record IsRepaired (dry : Bool) (file : List ℕ) (before after : Option Files) (text : List ℕ) : Type 0 where
   pub found : Found
@@ -23,26 +22,9 @@ pub record IsRepaired (dry : Bool) (file : List ℕ) (before after : Option File
   pub ended_is : IsEnded found ended
   pub changes : List NamedFile
   pub changes_are : AreChanges file ended found changes
+  pub fit : AreNext found.saved.config.layout [] (salvaged found).messages
   pub left : Leaves dry (old_file file found ∷ changes) before after
   pub text_is : text ≡ repair_text dry file ended found
-
--- the old file of an image with a fault was written under its new name, and no other file changed
-pub record HasKeptOld (file : List ℕ) (before after : Option Files) : Type 0 where
-  pub found : Found
-  pub mendable : IsMendable file before found
-  pub left : WritesFiles before after (old_file file found ∷ [])
-
--- no file changed, or the old file was written under its new name
-abbrev pub KeepsOrKeepsOld : List ℕ → Option Files → Option Files → Type 0
-KeepsOrKeepsOld file before after = KeepsFiles before after ⊎ HasKeptOld file before after
-
--- what is left after a fault: before anything is saved no file changed; if out of memory the old file at most was written; else
--- that is so or all was done
-pub record IsLeft (dry : Bool) (file : List ℕ) (before after : Option Files) (fault : ToolFault) : Type 0 where
-  pub unsaved : ¬ IsSaveFault fault → KeepsFiles before after
-  pub dry_run : dry ≢ false → KeepsFiles before after
-  pub scarce : fault ≡ OutOfMemory → KeepsOrKeepsOld file before after
-  pub whole : KeepsOrKeepsOld file before after ⊎ ((text : List ℕ) × IsRepaired dry file before after text)
 
 -- the command was done and its text written; or the image is not repaired, and nothing was changed or written
 abbrev pub IsOutcome : Bool → List ℕ → Option Files → Option Files → Option (List ℕ) → Option (List ℕ) → Option RepairRefusal → Type 0
@@ -53,21 +35,20 @@ IsOutcome dry file before after old new (Some refusal) = Refuses file before ref
 pub record Repairs (dry : Bool) (file : List ℕ) (before after : Option Files) (old new : Option (List ℕ))
     (result : Result (Option RepairRefusal) ToolFault) : Type 0 where
   pub done : IfOk result (IsOutcome dry file before after old new)
-  pub left : IfErr result (IsLeft dry file before after)
   pub silent : IfErr result (λ fault. fault ≢ WriteFault → Keeps old new)
   pub broken : IfErr result (λ fault. fault ≡ WriteFault → (text : List ℕ) × IsRepaired dry file before after text × AppendsBeginning old new text)
 
--- why what was decided is not saved or not printed: a file fault has the new name of the old file, or that of the image
-pub record IsUnsaved (dry : Bool) (file : List ℕ) (files : Files) (fault : ToolFault) : Type 0 where
+-- what was decided is not saved or not printed, and this is left. What a fault of the writer leaves is said by `Repairs`
+pub record IsUnsaved (dry : Bool) (file : List ℕ) (files : Files) (after : Option Files) (fault : ToolFault) : Type 0 where
   pub found : Found
   pub mendable : IsMendable file (Some files) found
-  pub saving : IsSaveFault fault
-  pub saves : fault ≢ WriteFault → dry ≡ false
-  pub told : TellsFile (λ name. (name ≡ bad_name file) ⊎ (name ≡ file)) fault
+  pub left : (fault ≡ WriteFault) ⊎ ((dry ≡ false) × IsCutShort (old_file file found) file
+      ((text : List ℕ) × IsRepaired false file (Some files) after text) (Some files) after fault)
 
--- why nothing is repaired: nothing is decided, or what was decided is not saved or not printed
-abbrev pub IsRepairFault : Bool → List ℕ → Files → ToolFault → Type 0
-IsRepairFault dry file files fault = IsUndecided file files fault ⊎ IsUnsaved dry file files fault
+-- why nothing is repaired, and what is left: nothing is decided, and no file changed; or what was decided is not saved or not printed
+abbrev pub IsRepairFault : Bool → List ℕ → Files → Option Files → ToolFault → Type 0
+IsRepairFault dry file files after fault =
+    (IsUndecided file files fault × KeepsFiles (Some files) after) ⊎ IsUnsaved dry file files after fault
 
 -- what the command came to, where a refusal is no fault of its tools
 abbrev pub outcome_of : {T : Type 0} → Result T RepairFault → Result (Option RepairRefusal) ToolFault

@@ -1,10 +1,9 @@
 //! Decides whether an image is repaired.
 
-ghost use Rattle.std.specs.Prelude.{◌≡◌, ◌≢◌, ◌↔◌, IfErr, IfOk, IfSome, IsSome, IsSomeAnd, IsTrue, OnOk, Some};
+ghost use Rattle.std.specs.Prelude.{◌≡◌, ◌≢◌, ◌↔◌, ◌⊎◌, IfErr, IfOk, IfSome, IsSome, IsSomeAnd, IsTrue, OnErr, OnOk, Some};
 ghost use Rattle.cq_folder.specs.Folder.{KeepsFiles, named_file};
 ghost use Rattle.cq_files.specs.Counted.{CountsFaults};
-ghost use Rattle.cq_files.specs.FolderFaults.{IsFileFault, IsSaveFault};
-ghost use Rattle.cq_repair.specs.Plans.{Decides, IsUndecided, IsUnlessTaken, access_for};
+ghost use Rattle.cq_repair.specs.Plans.{Decides, IsUndecided, IsUnlessTaken, IsUnread, access_for};
 
 use crate::RepairRefusal;
 use crate::finding::find;
@@ -60,9 +59,8 @@ fn access_for(dry_run: bool) -> Access
 fn unless_taken<F: Folder>(alloc: Global, folder: &mut F, plan: Plan) -> Result<Decision, ToolFault>
     requires { IsSome (F.entered folder.old) }
     ensures decides { IfOk result (IsUnlessTaken plan (F.files folder.old)) }
-    ensures save { IfErr result IsSaveFault }
-    ensures fault { IfErr result (IsFileFault (named_file plan.old).0) }
-    ensures unprinted { IfErr result (λ fault. fault ≢ ToolFault.WriteFault) }
+    ensures fault { IfErr result (λ fault. (fault ≡ ToolFault.OutOfMemory) ⊎ IsUnread (named_file plan.old).0 fault) }
+    ensures taken { OnErr result (IsTrue plan.is_taken) }
     ensures kept { KeepsFiles (F.files folder.old) (F.files folder.new) }
     ensures counted { CountsFaults (F.failed folder.old) (F.failed folder.new) result }
     ensures inside { F.entered folder.new ≡ F.entered folder.old }
@@ -90,9 +88,7 @@ fn holds<F: Folder>(
     requires { IsSome (F.entered folder.old) }
     ensures held { IfOk result (λ same. IfSome (F.files folder.old) (λ files.
         IsSomeAnd (files name.now) (λ held. IsTrue same ↔ (held ≡ bytes.now)))) }
-    ensures save { IfErr result IsSaveFault }
-    ensures fault { IfErr result (IsFileFault name.now) }
-    ensures unprinted { IfErr result (λ fault. fault ≢ ToolFault.WriteFault) }
+    ensures fault { IfErr result (λ fault. (fault ≡ ToolFault.OutOfMemory) ⊎ IsUnread name.now fault) }
     ensures kept { KeepsFiles (F.files folder.old) (F.files folder.new) }
     ensures counted { CountsFaults (F.failed folder.old) (F.failed folder.new) result }
     ensures inside { F.entered folder.new ≡ F.entered folder.old }

@@ -1,10 +1,8 @@
 //! Carries out what was decided.
 
-ghost use Rattle.std.specs.Prelude.{◌≡◌, ◌≢◌, ◌⊎◌, ◌∷◌, [], IfErr, OnErr, OnOk, Some, false, map};
-ghost use Rattle.cq_folder.specs.Folder.{KeepsFiles, WritesFiles, named_file};
+ghost use Rattle.std.specs.Prelude.{◌≡◌, IfErr, OnErr, OnOk, Some, false};
 ghost use Rattle.cq_files.specs.Counted.{CountsFaults};
-ghost use Rattle.cq_files.specs.FolderFaults.{IsSaveFault, TellsFile};
-ghost use Rattle.cq_repair.specs.Plans.{IsTouched, KeepsOrWritesOld, Leaves, writes_of};
+ghost use Rattle.cq_repair.specs.Plans.{IsPlanCutShort, Leaves, writes_of};
 
 use crate::planning::Plan;
 use cq_files::{save_files, write_file};
@@ -16,7 +14,7 @@ use std::alloc::Global;
 ///
 /// Errors:
 /// - `FileFault` with the new name of the old file: that file is written, or none is;
-/// - `FileFault` with the name of the image: all is written, or the old file alone;
+/// - `FileFault` with the name of the image: the old file is written, and the rest is too, or not;
 /// - `OutOfMemory`: out of memory. The old file is written, or none is.
 pub(crate) fn carry_out<F: Folder>(
     alloc: Global,
@@ -26,14 +24,8 @@ pub(crate) fn carry_out<F: Folder>(
 ) -> Result<(), ToolFault>
     requires { dry_run ≡ false → F.entered folder.old ≡ Some Access.Alone }
     ensures left { OnOk result (Leaves dry_run (writes_of plan.now) (F.files folder.old) (F.files folder.new)) }
-    ensures whole { OnErr result (KeepsOrWritesOld plan.now (F.files folder.old) (F.files folder.new)
-        ⊎ WritesFiles (F.files folder.old) (F.files folder.new) (writes_of plan.now)) }
-    ensures scarce { IfErr result (λ fault. fault ≡ ToolFault.OutOfMemory
-        → KeepsOrWritesOld plan.now (F.files folder.old) (F.files folder.new)) }
-    ensures save { IfErr result IsSaveFault }
+    ensures cut_short { IfErr result (IsPlanCutShort plan.now (F.files folder.old) (F.files folder.new)) }
     ensures saves { OnErr result (dry_run ≡ false) }
-    ensures told { IfErr result (TellsFile (IsTouched plan.now)) }
-    ensures unprinted { IfErr result (λ fault. fault ≢ ToolFault.WriteFault) }
     ensures counted { CountsFaults (F.failed folder.old) (F.failed folder.new) result }
     ensures inside { F.entered folder.new ≡ F.entered folder.old }
 {

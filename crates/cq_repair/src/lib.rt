@@ -5,7 +5,7 @@
 //! |---|---|
 //! | `repair` | the command |
 //! | `RepairFault`, `RepairRefusal` | why nothing is repaired |
-//! | `laws` | the new image has no fault |
+//! | `laws` | the new image has no fault, and the folder can be opened |
 #![tactic(auto)]
 
 mod deciding;

@@ -34,8 +34,8 @@ use std::io::Write;
 /// - `Tool` with `FileFault` and `FileTooLarge` of the image;
 /// - `Refused` with `NoFault`: the image has no fault;
 /// - `Refused` with `ThereAlready`: the old file's new name is taken by a file with other bytes;
-/// - `Tool` with `FileFault`: it has that new name, and at most the old file is saved; or it has the name of the image, and the
-///   rest is saved too, or not;
+/// - `Tool` with `FileFault`: it has that new name, and at most the old file is saved; or it has the name of the image, the old
+///   file is saved, and the rest is too, or not;
 /// - `Tool` with `WriteFault`: all is saved, and a beginning of the lines was written.
 ///
 /// `OutOfMemory` can come at any growth. At most the old file is saved then. Nothing is written to the writer before an error
@@ -50,7 +50,7 @@ pub fn repair<F: Folder, W: Write>(
     ensures repairs { Repairs dry_run file.now (F.files folder.old) (F.files folder.new) (W.contents output.old)
         (W.contents output.new) (outcome_of result) }
     ensures cause { IfErr (outcome_of result) (λ fault. IfSome (F.files folder.old) (λ files.
-        IsRepairFault dry_run file.now files fault)) }
+        IsRepairFault dry_run file.now files (F.files folder.new) fault)) }
     ensures counted { CountsFaults (F.failed folder.old) (F.failed folder.new) (outcome_of result) }
 {
     match repair_or_refuse(alloc, folder, file, dry_run, output)? {
@@ -69,7 +69,8 @@ fn repair_or_refuse<F: Folder, W: Write>(
 ) -> Result<Option<RepairRefusal>, ToolFault>
     ensures repairs { Repairs dry_run file.now (F.files folder.old) (F.files folder.new) (W.contents output.old)
         (W.contents output.new) result }
-    ensures cause { IfErr result (λ fault. IfSome (F.files folder.old) (λ files. IsRepairFault dry_run file.now files fault)) }
+    ensures cause { IfErr result (λ fault. IfSome (F.files folder.old) (λ files.
+        IsRepairFault dry_run file.now files (F.files folder.new) fault)) }
     ensures counted { CountsFaults (F.failed folder.old) (F.failed folder.new) result }
 {
     match decide(alloc, folder, file, dry_run)? {

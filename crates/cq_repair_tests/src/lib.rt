@@ -8,6 +8,8 @@ mod cut_tests;
 #[cfg(test)]
 mod failing_tests;
 #[cfg(test)]
+mod memory_tests;
+#[cfg(test)]
 mod repair_tests;
 #[cfg(test)]
 mod steps;

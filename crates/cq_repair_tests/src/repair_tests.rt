@@ -1,5 +1,5 @@
 //! What `repair` keeps, leaves and says.
-use crate::steps::Step::{Config, Names, Put, Repair, Same, Try, Unprinted};
+use crate::steps::Step::{Config, Fill, Names, Put, Repair, Same, Try, Unprinted};
 use crate::steps::{ENDED, ONE, ONE_ENDED, Steps, TORN, TWO, expect_steps};
 use std::test::Fail;
 
@@ -116,6 +116,16 @@ static REFUSED: Steps = &[
         ),
         "",
     ),
+    // Too large, by one byte, and as large as may be.
+    (Fill("19700101.cqi", 8_388_609), ""),
+    (Repair("19700101.cqi"), "cq: file too large: 19700101.cqi"),
+    (Names, "19700101.cqi queue.cqc today.cqi "),
+    (Fill("19700101.cqi", 8_388_608), ""),
+    (
+        Try("19700101.cqi"),
+        "19700101.cqi: 0 messages would be kept, the old file would be 19700101.cqi.bad\n",
+    ),
+    (Put("19700101.cqi", TORN), ""),
     // A writer that fails: all is saved.
     (Unprinted("19700101.cqi", 3), "cq: write fault"),
     (Same("19700101.cqi", ONE), "same"),

@@ -62,6 +62,8 @@ pub enum Step {
     Unprinted(&'static str, usize),
     /// Puts a file with these bytes.
     Put(&'static str, &'static [u8]),
+    /// Puts a file of this many bytes, each 0.
+    Fill(&'static str, usize),
     /// Puts the first bytes of "a" and "b" into the file of cycle 0.
     Cut(usize),
     /// Says whether a file has these bytes.
@@ -105,6 +107,10 @@ pub fn said_at<F: Folder>(
             said(alloc, done, output.as_slice())
         }
         Step::Put(name, bytes) => put(alloc, folder, name, bytes),
+        Step::Fill(name, length) => {
+            let bytes = vec![in alloc; 0; length]?;
+            put(alloc, folder, name, bytes.as_slice())
+        }
         Step::Cut(length) => put(
             alloc,
             folder,

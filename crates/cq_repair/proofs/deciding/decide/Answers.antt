@@ -32,7 +32,7 @@ returns-in-Some-clause-decides g c =
 pub returns-in-Some-clause-cause : goal.returns-in-Some-clause-cause
 returns-in-Some-clause-cause g c =
     undecided c.args.dry_run c.args.file.now (g.F.Folder.files c.args.folder.now) c.in_ok-found.found c.in-Some.plan c.unless_taken.result
-    c.in_ok-found.ensures.found (planned g (goal.at.returns-in-Some-clause-cause g c).After-unless_taken) c.unless_taken.ensures.save c.unless_taken.ensures.fault
+    c.in_ok-found.ensures.found (planned g (goal.at.returns-in-Some-clause-cause g c).After-unless_taken) c.unless_taken.ensures.taken c.unless_taken.ensures.fault
 
 pub returns-in-Some-clause-kept : goal.returns-in-Some-clause-kept
 returns-in-Some-clause-kept g c =

@@ -1,8 +1,8 @@
-use Rattle.std.proofs.Common.{◌≡◌, ◌∙◌, ℕ, Global, List, ap, arith, refl, sym, subst}
+use Rattle.std.proofs.Common.{◌≡◌, ◌∙◌, ℕ, Global, List, ap, arith, sym, subst}
 use Rattle.std.specs.Prelude.{Err, IsSomeAnd, Some, String}
 use Rattle.cq_config_text.specs.ConfigText.{IsTextOf}
 use Rattle.cq_folder.specs.declared.names.TheConstants.{CONFIG_FILE}
-use Rattle.cq_files.specs.FolderFaults.{IsFolderFault, IsFileFault}
+use Rattle.cq_files.specs.FolderFaults.{IsFileFault}
 use Rattle.cq_files.proofs.CauseLemmas.{cause_there}
 use Rattle.cq_files.proofs.CountLemmas.{counts_from, uncounted}
 use Rattle.cq_files.proofs.LookingLemmas.{looks_done, looks_passed}

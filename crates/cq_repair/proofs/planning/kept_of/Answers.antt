@@ -1,4 +1,4 @@
-use Rattle.std.proofs.Common.{◌≡◌, ◌∙◌, ◌↔◌, ◌≤◌, ◌^◌, ℕ, List, Global, length, ap, arith, subst, sym}
+use Rattle.std.proofs.Common.{◌≡◌, ◌∙◌, ◌↔◌, ℕ, List, Global, length, ap, arith, subst}
 use Rattle.std.specs.Prelude.{IsTrue, MatchOption, None, Option, String}
 use Rattle.cq_cycle.specs.Index.{index_of}
 use Rattle.cq_image.specs.Salvage.{salvage_of}

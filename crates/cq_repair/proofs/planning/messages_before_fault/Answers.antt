@@ -1,4 +1,4 @@
-use Rattle.std.proofs.Common.{◌≡◌, ◌∙◌, suc, length, refl, rules, sym}
+use Rattle.std.proofs.Common.{suc, length, refl, rules}
 use Rattle.cq_image.specs.Reading.{opening, walk_of}
 use Rattle.cq_image.specs.Salvage.{salvage_of}
 use Rattle.cq_image.proofs.ReadLemmas.{AreBytes-from, accepted}

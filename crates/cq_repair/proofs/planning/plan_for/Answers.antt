@@ -1,5 +1,6 @@
-use Rattle.std.proofs.Common.{◌≡◌, ◌∙◌, ℕ, List, Global, ap, refl, subst, sym}
-use Rattle.std.specs.Prelude.{MatchOption, None, Option, String, string_bytes}
+use Rattle.std.proofs.Common.{◌≡◌, ◌∙◌, ℕ, List, [], Global, ap, subst}
+use Rattle.std.specs.Prelude.{MatchOption, None, Option, String}
+use Rattle.cq_image.specs.Image.{AreNext}
 use Rattle.cq_repair.specs.Kept.{bad_name, salvaged}
 use Rattle.cq_repair.specs.Plans.{IsKept}
 use Rattle.cq_repair.specs.declared.planning.Kept.{Kept}
@@ -13,6 +14,7 @@ returns c =
     let kept = subst (λ (kept : Option Kept). MatchOption kept ((salvaged found).fault ≡ None) (IsKept found)) c.in-Some.is c.in_ok-kept.ensures in
     record {
       faulty = kept.faulty;
+      fit = subst (AreNext found.saved.config.layout []) kept.messages kept.fit;
       ended = c.in-Some.kept.ended;
       ended_is = kept.ended;
       old = ap (λ (name : List ℕ). (name, found.bytes.items)) c.in_ok-name.ensures;

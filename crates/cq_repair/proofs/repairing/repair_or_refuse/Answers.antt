@@ -1,12 +1,10 @@
-use Rattle.std.proofs.Common.{◌≡◌, ◌≢◌, inl, inr, refl, subst, sym, ◌∙◌, false}
+use Rattle.std.proofs.Common.{subst, sym}
 use Rattle.std.proofs.KnownBytes.{Keeps-refl}
 use Rattle.std.specs.Prelude.{Option}
 use Rattle.cq_folder.specs.Folder.{Files}
-use Rattle.cq_files.specs.FolderFaults.{IsSaveFault, TellsFile}
 use Rattle.cq_text.proofs.FaultLemmas.{passed_on}
-use Rattle.cq_text.specs.declared.fault.ToolFault.TheVariants.{OutOfMemory, WriteFault}
-use Rattle.cq_repair.specs.Plans.{Decides, IsTouched, Leaves, writes_of}
-use Rattle.cq_repair.proofs.EndLemmas.{kept_old, kept_or_repaired, left_printed, left_saved, repaired_by, repairs_not, unsaved}
+use Rattle.cq_repair.specs.Plans.{Decides, IsPlanCutShort, Leaves, writes_of}
+use Rattle.cq_repair.proofs.EndLemmas.{not_printed, repaired_by, repairs_not, unsaved}
 use Rattle.cq_repair.proofs.repairing.repair_or_refuse.Goals as goal
 
 pub returns-in_err-carry_out-in-Repair-clause-repairs : goal.returns-in_err-carry_out-in-Repair-clause-repairs
@@ -18,10 +16,8 @@ returns-in_err-carry_out-in-Repair-clause-repairs g c =
     let from = subst (Decides dry file (files c.args.folder.now)) c.in-Repair.is c.in_ok-refusal.ensures.decides in
     let failed = c.in_err-carry_out-in-Repair.ensures in
     repairs_not dry file (files c.args.folder.now) (files c.carry_out.new.folder) old old _ _ c.from_residual-in_err-carry_out-in-Repair.ensures.1
-    (left_saved dry file (files c.args.folder.now) (files c.decide.new.folder) (files c.carry_out.new.folder) c.in-Repair.plan _ from
-    c.in_ok-refusal.ensures.kept failed.save failed.saves failed.scarce failed.whole)
     (λ unwritten. Keeps-refl old)
-    (λ written. absurd (failed.unprinted written))
+    (λ written. absurd (subst (IsPlanCutShort c.in-Repair.plan (files c.decide.new.folder) (files c.carry_out.new.folder)) written failed.cut_short))
 
 pub returns-in_err-carry_out-in-Repair-clause-cause : goal.returns-in_err-carry_out-in-Repair-clause-cause
 returns-in_err-carry_out-in-Repair-clause-cause g c =
@@ -31,7 +27,8 @@ returns-in_err-carry_out-in-Repair-clause-cause g c =
     let from = subst (Decides dry file (files c.args.folder.now)) c.in-Repair.is c.in_ok-refusal.ensures.decides in
     let failed = c.in_err-carry_out-in-Repair.ensures in
     passed_on _ _ _ c.from_residual-in_err-carry_out-in-Repair.ensures.1
-    (unsaved dry file (files c.args.folder.now) c.in-Repair.plan _ from failed.save (λ other. failed.saves) failed.told)
+    (unsaved dry file (files c.args.folder.now) (files c.decide.new.folder) (files c.carry_out.new.folder) c.in-Repair.plan _ from
+    c.in_ok-refusal.ensures.kept failed.saves failed.cut_short)
 
 pub returns-in_err-print_outside-in-Repair-clause-repairs : goal.returns-in_err-print_outside-in-Repair-clause-repairs
 returns-in_err-print_outside-in-Repair-clause-repairs g c =
@@ -46,7 +43,6 @@ returns-in_err-print_outside-in-Repair-clause-repairs g c =
     c.as_slice.ensures.value in
     let failed = c.in_err-print_outside-in-Repair.ensures in
     repairs_not dry file (files c.args.folder.now) (files c.end.new.self) _ _ _ _ c.from_residual-in_err-print_outside-in-Repair.ensures.1
-    (left_printed dry file (files c.args.folder.now) (files c.end.new.self) _ _ failed.fault done)
     (λ other. absurd (other failed.fault))
     (λ written. (_, done, failed.begun))
 
@@ -59,8 +55,7 @@ returns-in_err-print_outside-in-Repair-clause-cause g c =
     let from = subst (Decides dry file (files c.args.folder.now)) c.in-Repair.is c.in_ok-refusal.ensures.decides in
     let failed = c.in_err-print_outside-in-Repair.ensures in
     passed_on _ _ _ c.from_residual-in_err-print_outside-in-Repair.ensures.1
-    (unsaved dry file (files c.args.folder.now) plan _ from (subst IsSaveFault (sym failed.fault) tt) (λ other. absurd (other failed.fault))
-    (subst (TellsFile (IsTouched plan)) (sym failed.fault) tt))
+    (not_printed dry file (files c.args.folder.now) (files c.end.new.self) plan _ from failed.fault)
 
 pub returns-in_ok-print_outside-in-Repair-clause-repairs : goal.returns-in_ok-print_outside-in-Repair-clause-repairs
 returns-in_ok-print_outside-in-Repair-clause-repairs g c =
@@ -77,7 +72,6 @@ returns-in_ok-print_outside-in-Repair-clause-repairs g c =
         repaired_by dry file (files c.args.folder.now) (files c.decide.new.folder) (files c.end.new.self) plan _ from c.in_ok-refusal.ensures.kept left c.as_slice.ensures.value,
         c.in_ok-print_outside-in-Repair.ensures.written,
       );
-      left = tt;
       silent = tt;
       broken = tt;
     }

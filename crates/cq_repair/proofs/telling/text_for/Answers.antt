@@ -1,8 +1,8 @@
-use Rattle.std.proofs.Common.{◌≡◌, ◌∙◌, ◌++◌, ℕ, List, Vec, Global, length, ap, string_bytes, sym, rules}
+use Rattle.std.proofs.Common.{◌≡◌, ◌∙◌, ◌++◌, ℕ, List, Vec, Global, length, ap, string_bytes}
 use Rattle.std.proofs.lemmas.Slice.Zip.{either_empty_from_Zip}
 use Rattle.std.specs.Iterator.Adapters.{zip_first, zip_second}
 use Rattle.std.specs.Slice.Iter.{iter_rest}
-use Rattle.cq_repair.specs.Kept.{end_of_kept, file_line, name_lines, repair_text, salvaged}
+use Rattle.cq_repair.specs.Kept.{file_line, name_lines, salvaged}
 use Rattle.cq_repair.proofs.LineLemmas.{all_written}
 use Rattle.cq_repair.proofs.telling.text_for.Goals as goal
 
