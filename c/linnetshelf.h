@@ -28,8 +28,8 @@
  * HANDLES. A handle is the address of an endpoint, of a keeper, or of what was saved of a queue. For a shelf it is that of a
  * writer, a reader or a taker. The library writes it through the argument `out`, which points to a handle that is zero or was destroyed. It does
  * not look at what was there. A call on a handle that holds something else returns WRONG_KIND and does nothing. Copies of a
- * handle are the same endpoint: after linnetshelf_destroy none of them may be used. A zero handle holds nothing, and no call
- * takes one except as `out`.
+ * handle are the same endpoint: after linnetshelf_destroy none of them may be used. A zero handle holds nothing: linnetshelf_destroy
+ * takes one and does nothing, as free(NULL). Other calls take one only as `out`.
  *
  * THREADS. What a handle holds is in one call at a time. Two calls at once on one handle are an error that is not detected. For
  * another thread, split off an endpoint of its own, or a writer, a reader or a taker. A handle goes to another thread by what
@@ -269,7 +269,8 @@ linnetshelf_answer linnetshelf_settings_of(linnetshelf_handle *handle, linnetshe
  * most 32 bytes. No zero byte is put after it. The handle may also hold what is saved of a queue. NO_SUCH_PLACE, NO_ROOM. */
 linnetshelf_answer linnetshelf_names_of(linnetshelf_handle *handle, uint32_t k, void *room, size_t size);
 
-/* Ends what a handle holds. The last endpoint of a queue frees it. A message that the endpoint has begun is given up. */
+/* Ends what a handle holds. The last endpoint of a queue frees it. A message that the endpoint has begun is given up. A zero handle
+ * holds nothing, and nothing is done. */
 void linnetshelf_destroy(linnetshelf_handle handle);
 
 /* Appending. */

@@ -100,6 +100,19 @@ static void messages_are_appended_and_read(void) {
     linnetshelf_destroy(queue);
 }
 
+/* A zero handle is ended by doing nothing, and what others hold stays. */
+static void zero_handles_are_destroyed(void) {
+    linnetshelf_handle queue = queue_of("", 0), zero = {0};
+    char room[8];
+    linnetshelf_destroy(zero);
+    linnetshelf_destroy((linnetshelf_handle){0});
+    CHECK(linnetshelf_append(&queue, 0, "there", 5).status == STATUS(DONE));
+    linnetshelf_destroy(zero);
+    CHECK(zero.at == NULL);
+    CHECK(is_message(linnetshelf_next(&queue, room, sizeof room), 0, room, "there"));
+    linnetshelf_destroy(queue);
+}
+
 static int is_many(linnetshelf_many many, uint64_t count, uint64_t index, uint32_t length, uint32_t status) {
     return many.count == count && many.index == index && many.length == length && many.status == status;
 }
@@ -918,6 +931,7 @@ int main(void) {
     the_text_of_settings_is_read_and_written();
     CHECK(linnetshelf_version() == LINNETSHELF_VERSION);
     messages_are_appended_and_read();
+    zero_handles_are_destroyed();
     many_messages_are_appended();
     many_messages_fill_a_cycle();
     many_messages_are_read();

@@ -122,4 +122,6 @@ fn main() {
     reader.join().unwrap();
     settings.cells = 1;
     assert!(Endpoint::create(&settings, "reader", 0).is_err());
+    // A zero handle holds nothing.
+    unsafe { linnetshelf_destroy(Handle { at: null_mut() }) }
 }

@@ -127,6 +127,11 @@ class Calls(unittest.TestCase):
         with self.assertRaises(ValueError):
             self.queue.next_into(memoryview(b"read-only"))
 
+    def test_a_zero_handle_is_destroyed(self):
+        _library.library.destroy(_library.Handle())
+        self.assertEqual(self.queue.append(b"there", 0), 0)
+        self.assertEqual(self.queue.next(), (0, b"there"))
+
     def test_many_messages(self):
         data = [b"%d" % k * (k % 7 + 1) for k in range(3000)]
         with linnetshelf.create(moment=0) as queue:
@@ -467,7 +472,7 @@ class Calls(unittest.TestCase):
             next(messages)
 
     def test_threads(self):
-        count, writers = 3000, 4
+        count, writers = 3000, 6
         total = count * writers
         with linnetshelf.create(linnetshelf.Settings(cells=262_144, cycles=1), ["worker"], 0) as queue:
 
@@ -508,8 +513,11 @@ class Calls(unittest.TestCase):
         def write(endpoint, who):
             with contextlib.suppress(linnetshelf.Closed):
                 while True:
-                    endpoint.append(b"%d %d" % (who, counts[who]), 0)
-                    counts[who] += 1
+                    try:
+                        endpoint.append(b"%d %d" % (who, counts[who]), 0)
+                        counts[who] += 1
+                    except linnetshelf.Full:
+                        time.sleep(0.001)  # the thread that closes the queue is late
 
         def read(endpoint, which):
             seen[which].extend(data_of(endpoint.follow()))

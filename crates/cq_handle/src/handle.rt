@@ -1,6 +1,6 @@
-ghost use Rattle.std.specs.Prelude.{◌≡◌, IfOk};
+ghost use Rattle.std.specs.Prelude.{◌≡◌, IfOk, MatchOption, None, Option, Some};
 ghost use Rattle.cq_handle.specs.declared.held.Held.{Held};
-ghost use Rattle.cq_handle.specs.Handles.{handle_owns, held_coded};
+ghost use Rattle.cq_handle.specs.Handles.{handle_owns, held_coded, optional_coded, optional_owns};
 
 use crate::held::Held;
 use crate::parts::Parts;
@@ -60,6 +60,33 @@ impl Handle {
         Parts {
             ptr: at as *mut Held,
             alloc,
+        }
+    }
+}
+
+/// A handle, or a zero one, which holds nothing. C passes it where a call takes either.
+#[repr(C)]
+#[derive(Drop)]
+pub struct OptionalHandle {
+    at: *mut u8,
+    alloc: Global,
+    pub ghost held: { Option Held } by { optional_coded },
+}
+
+impl Model for OptionalHandle {
+    ghost also_owns = { λ h. optional_owns h.alloc h.at h.held };
+}
+
+impl OptionalHandle {
+    /// Returns the handle, if it is not zero.
+    pub fn handle(self) -> Option<Handle>
+        ensures { MatchOption result (self.held ≡ None) (λ handle. self.held ≡ Some handle.held) }
+    {
+        let OptionalHandle { at, alloc } = self;
+        if at.is_null() {
+            None
+        } else {
+            Some(Handle { at, alloc })
         }
     }
 }

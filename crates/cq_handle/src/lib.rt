@@ -5,6 +5,7 @@
 //! |---|---|
 //! | `Handle::new`, `of` | make a handle of a value or of a box |
 //! | `Handle::held_mut`, `into_box` | give access to the value, or the box back |
+//! | `OptionalHandle::handle` | takes a handle that may be zero |
 //! | `Held` | what a handle holds |
 //! | `ShelfUser` | what it holds of a shelf: a writer, a reader or a taker |
 //!
@@ -16,5 +17,5 @@ mod handle;
 mod held;
 mod parts;
 
-pub use handle::Handle;
+pub use handle::{Handle, OptionalHandle};
 pub use held::{Held, ShelfUser};

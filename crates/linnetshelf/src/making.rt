@@ -10,7 +10,7 @@ use crate::appending::linnetshelf_roll_back;
 use crate::settings::{Settings, config_of};
 use crate::status::Status;
 use cq_endpoint::Endpoint;
-use cq_handle::{Handle, Held};
+use cq_handle::{Handle, Held, OptionalHandle};
 use cq_shown::CreateError;
 use std::alloc::Global;
 
@@ -79,9 +79,12 @@ pub extern "C" fn linnetshelf_split(alloc: Global, handle: &mut Handle, out: &mu
 }
 
 /// Ends what a handle holds. The last endpoint frees its queue. A message that an endpoint has begun is given up first, since
-/// nobody could write to the queue otherwise. A writer of a shelf does that at its end.
+/// nobody could write to the queue otherwise. A writer of a shelf does that at its end. A zero handle holds nothing, and
+/// nothing is done.
 #[unsafe(no_mangle)]
-pub extern "C" fn linnetshelf_destroy(mut handle: Handle) {
-    let _given_up = linnetshelf_roll_back(&mut handle);
-    drop(handle.into_box());
+pub extern "C" fn linnetshelf_destroy(handle: OptionalHandle) {
+    if let Some(mut handle) = handle.handle() {
+        let _given_up = linnetshelf_roll_back(&mut handle);
+        drop(handle.into_box());
+    }
 }

@@ -363,6 +363,12 @@ mod tests {
         assert_eq!([size(0), size(1), size(2)], sizes);
     }
 
+    #[test]
+    fn a_zero_handle_is_destroyed() {
+        // SAFETY: HANDLES. A zero handle holds nothing, and nothing is done.
+        unsafe { linnetshelf_destroy(Handle { at: null_mut() }) }
+    }
+
     /// The calls that this crate does not make: those on logs, those of many messages, since one call costs little from Rust, those
     /// of settings, which its values have, and that of the version.
     const LEFT_OUT: [&str; 14] = [
