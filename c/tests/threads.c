@@ -1,13 +1,13 @@
-/* Four threads append and read, each by an endpoint of its own. Each reads the messages of all, every one once and
+/* Eight threads append and read, each by an endpoint of its own. Each reads the messages of all, every one once and
  * in the order in which its thread appended it. The argument says how many messages a thread appends. */
 #include "check.h"
 #include <pthread.h>
 #include <sched.h>
 #include <stdlib.h>
 
-enum { THREADS = 4, CYCLES = 4 };
+enum { THREADS = 8, CYCLES = 4 };
 
-static uint32_t each = 100000;
+static uint32_t each = 40000; /* one cycle has room for all */
 
 struct worker {
     uint32_t number;

@@ -8,7 +8,7 @@ use std::time::Duration;
 use linnetshelf::{Endpoint, Error, Index, Message, Settings};
 
 const COUNT: usize = 5_000;
-const WRITERS: usize = 4;
+const WRITERS: usize = 6;
 /// As long as no wait takes unless a thread failed.
 const LONG: Option<Duration> = Some(Duration::from_secs(60));
 
@@ -100,13 +100,18 @@ fn threads_end_when_the_queue_is_closed() {
             .map(|writer| (writer, queue.split().unwrap()))
             .map(|(writer, mut endpoint)| {
                 scope.spawn(move || {
-                    for k in 0.. {
-                        match endpoint.append_waiting(0, format!("{writer} {k}").as_bytes(), LONG) {
-                            Ok(_) => appended.fetch_add(1, Ordering::Relaxed),
-                            Err(error) => return (k, error),
-                        };
+                    let mut count = 0;
+                    loop {
+                        match endpoint.append_waiting(0, format!("{writer} {count}").as_bytes(), LONG) {
+                            Ok(_) => {
+                                count += 1;
+                                appended.fetch_add(1, Ordering::Relaxed);
+                            }
+                            // The thread that closes the queue is late.
+                            Err(Error::CycleFull) => thread::yield_now(),
+                            Err(error) => return (count, error),
+                        }
                     }
-                    unreachable!()
                 })
             })
             .collect();
