@@ -135,9 +135,15 @@ class Batch:
 
     def __init__(self, answers: memoryview, data: memoryview) -> None:
         """Makes the messages of a call's answers, whose bytes follow one another from the start of `data`."""
-        indexes, ends = answers.cast("Q")[::2].tolist(), list(accumulate(answers.cast("I")[2::4].tolist()))
-        read = bytes(data[: ends[-1]]) if ends else b""
-        parts = map(getitem, repeat(read), map(slice, chain((0,), ends), ends))
+        indexes, lengths = answers.cast("Q")[::2].tolist(), answers.cast("I")[2::4].tolist()
+        parts: Iterable[bytes]
+        if lengths and lengths.count(lengths[0]) == len(lengths):
+            # Messages of one length are copied by one call.
+            parts = struct.unpack_from(f"{lengths[0]}s" * len(lengths), data)
+        else:
+            ends = list(accumulate(lengths))
+            read = bytes(data[: ends[-1]]) if ends else b""
+            parts = map(getitem, repeat(read), map(slice, chain((0,), ends), ends))
         self.messages: list[Message] = list(map(partial(tuple.__new__, Message), zip(map(Index, indexes), parts)))
         # Those that are not returned yet. All iterations of an endpoint share it.
         self.rest = iter(self.messages)
