@@ -1,2 +1,3 @@
 pub mod FollowingLemmas
+pub mod LookLemmas
 pub mod WaitingLemmas

@@ -1,5 +1,5 @@
 -- When a folder counts as changed, and how long one waits between looks at it. All times are in milliseconds.
-use Rattle.std.specs.Prelude.{◌⊎◌, ◌-◌, ◌*◌, ◌+◌, ◌^◌, ◌<◌, ℕ, Option, None, Some, IsSomeAnd, min}
+use Rattle.std.specs.Prelude.{◌≡◌, ◌≢◌, ◌⊎◌, ◌-◌, ◌*◌, ◌+◌, ◌^◌, ◌<◌, ℕ, Bool, true, false, Option, None, Some, IsSomeAnd, min}
 use Rattle.cq_following.specs.declared.changes.TheConstants.{LONGEST_REST, SETTLING}
 
 -- this was less than that time ago
@@ -15,6 +15,21 @@ IsDue now changed said = IsYounger now changed SETTLING ⊎ ¬ IsYounger now sai
 abbrev pub end_after : Option ℕ → ℕ → ℕ
 end_after None seconds = 0
 end_after (Some now) seconds = min (now + min (seconds * 1000) (2 ^ 64 - 1)) (2 ^ 64 - 1)
+
+-- the end of a time of this number of seconds from some moment on; none if it is for ever
+abbrev pub IsEndOf : Option ℕ → Option ℕ → Type 0
+IsEndOf None end = end ≡ None
+IsEndOf (Some seconds) end = (now : Option ℕ) × (end ≡ Some (end_after now seconds))
+
+-- a time is over: it had an end, which has come, or one has waited as often as can be counted
+pub record IsTimeOver (seconds end : Option ℕ) (looks : ℕ) : Type 0 where
+  pub given : IsEndOf seconds end
+  pub cause : (end ≢ None) ⊎ (looks ≡ 0)
+
+-- how often one still looks: once more than one waits, unless the end has come
+abbrev pub looks_left : Bool → ℕ → ℕ
+looks_left true looks = looks
+looks_left false looks = looks + 1
 
 -- how much time is left until an end
 abbrev pub left_until : Option ℕ → Option ℕ → ℕ

@@ -2,6 +2,7 @@
 ghost use Rattle.std.specs.Prelude.{◌≡◌, ◌⊎◌, ◌↔◌, IfErr, IfOk, IfSome, IsTrue, None, Ok};
 ghost use Rattle.cq_folder.specs.Folder.{KeepsFiles};
 ghost use Rattle.cq_files.specs.Counted.{CountsFaults};
+ghost use Rattle.cq_following.specs.Times.{IsTimeOver};
 ghost use Rattle.cq_following.specs.Waiting.{TakesAtLast};
 
 use crate::changes::Changes;
@@ -18,7 +19,8 @@ use std::rt::Clock;
 /// Errors, each of which ends it: those of `take_by`.
 ///
 /// The last call of `take_by` does all that is promised of it. Those before it found nothing, and no file changed. It is not
-/// proved that time passes, that it tries again soon, or that the folder of the system is seen as it is. After 2^64 tries the time counts as over.
+/// proved that time passes, that it tries again soon, or that the folder of the system is seen as it is. After 2^64 tries the time
+/// counts as over.
 pub fn take_waiting<R, C, F, W>(
     watch: &mut Watch<R, C>,
     folder: &mut F,
@@ -32,7 +34,8 @@ where
     F: Folder,
     W: Write,
     ensures last { TakesAtLast settings.now name.now (F.files folder.old) (F.files folder.new) (W.contents output.old) (W.contents output.new) result }
-    ensures nothing { result ≡ Ok Took.Nothing → (settings.now.wait ≡ None) ⊎ IsTrue watch.new.is_over }
+    ensures nothing { result ≡ Ok Took.Nothing → (settings.now.wait ≡ None)
+        ⊎ (IsTrue watch.new.is_over × IsTimeOver settings.now.wait watch.new.end watch.new.looks) }
     ensures kept { IsTrue settings.now.peek → KeepsFiles (F.files folder.old) (F.files folder.new) }
     ensures counted { CountsFaults (F.failed folder.old) (F.failed folder.new) result }
 {
@@ -41,7 +44,7 @@ where
         return take_by(alloc, folder, name, settings, output);
     };
     watch.begin(Some(seconds));
-    'takes: for _ in 0..u64::MAX {
+    'takes: loop {
         let done = take_by(alloc, folder, name, settings, output);
         if !is_nothing(&done) {
             return done;
@@ -51,8 +54,6 @@ where
         }
         watch.wait();
     }
-    watch.end();
-    take_by(alloc, folder, name, settings, output)
 }
 
 /// Returns whether a take found nothing.

@@ -1,6 +1,6 @@
 //! How a command waits between looks at a folder.
-ghost use Rattle.std.specs.Prelude.{◌≡◌, ◌<◌, ◌≤◌, ◌*◌, false, min, true};
-ghost use Rattle.cq_following.specs.Times.{end_after, left_until};
+ghost use Rattle.std.specs.Prelude.{◌≡◌, ◌≢◌, ◌⊎◌, ◌≤◌, ◌-◌, ◌*◌, ◌^◌, IsTrue, None, false, min};
+ghost use Rattle.cq_following.specs.Times.{IsEndOf, end_after, left_until, looks_left};
 
 use crate::changes::Changes;
 use std::alloc::Global;
@@ -23,6 +23,8 @@ pub struct Watch<'a, R, C> {
     end: Option<u64>,
     /// The next pause, in milliseconds.
     pause: u64,
+    /// How often it still waits. It is 2^64 - 1 at first.
+    looks: u64,
     /// Whether the end has come.
     is_over: bool,
 }
@@ -35,6 +37,7 @@ impl<'a, R: AllocGlobal + Clock, C: Changes> Watch<'a, R, C> {
             changes,
             end: None,
             pause: FIRST_PAUSE,
+            looks: u64::MAX,
             is_over: false,
         }
     }
@@ -46,19 +49,21 @@ impl<'a, R: AllocGlobal + Clock, C: Changes> Watch<'a, R, C> {
 
     /// Begins to wait, for this many seconds; `None` is for ever. If the clock cannot be read, the end of a given time has come.
     pub(crate) fn begin(&mut self, seconds: Option<u64>)
-        ensures { self.new.is_over ≡ false }
+        ensures end { IsEndOf seconds self.new.end }
+        ensures begun { self.new.is_over ≡ false }
+        ensures looks { self.new.looks ≡ 2 ^ 64 - 1 }
     {
-        self.end = match seconds {
-            None => None,
-            Some(seconds) => Some(end_after(milliseconds(self.rt), seconds)),
-        };
+        self.end = end_from(milliseconds(self.rt), seconds);
         self.pause = FIRST_PAUSE;
+        self.looks = u64::MAX;
         self.is_over = false;
     }
 
     /// Makes the next pause a first one, if something has come.
     pub(crate) fn hurry_if(&mut self, has_come: bool)
-        ensures { self.new.is_over ≡ self.old.is_over }
+        ensures over { self.new.is_over ≡ self.old.is_over }
+        ensures end { self.new.end ≡ self.old.end }
+        ensures looks { self.new.looks ≡ self.old.looks }
     {
         if has_come {
             self.pause = FIRST_PAUSE;
@@ -72,19 +77,24 @@ impl<'a, R: AllocGlobal + Clock, C: Changes> Watch<'a, R, C> {
         self.is_over
     }
 
-    /// Ends it.
-    pub(crate) fn end(&mut self)
-        ensures { self.new.is_over ≡ true }
+    /// Waits until the folder may have changed, or until the end. A watch without an end is over only once it has waited 2^64 - 1 times.
+    pub(crate) fn wait(&mut self)
+        requires { self.old.is_over ≡ false }
+        ensures end { self.new.end ≡ self.old.end }
+        ensures over { IsTrue self.new.is_over → (self.new.end ≢ None) ⊎ (self.new.looks ≡ 0) }
+        ensures once { self.new.looks ≡ self.old.looks - 1 }
+        ensures fewer { looks_left self.new.is_over self.new.looks ≤ self.old.looks }
     {
-        self.is_over = true;
-    }
-
-    /// Waits until the folder may have changed, or until the end.
-    pub(crate) fn wait(&mut self) {
-        for _ in 0..u64::MAX {
+        if self.looks == 0 {
+            self.is_over = true;
+            return;
+        }
+        self.looks -= 1;
+        'pauses: for _ in 0..u64::MAX {
             let left = left_until(milliseconds(self.rt), self.end);
             if left == 0 {
-                break;
+                self.is_over = true;
+                return;
             }
             self.rt.sleep(Duration::from_millis(self.pause.min(left)));
             self.pause = longer(self.pause);
@@ -92,7 +102,6 @@ impl<'a, R: AllocGlobal + Clock, C: Changes> Watch<'a, R, C> {
                 return;
             }
         }
-        self.end();
     }
 }
 
@@ -101,6 +110,16 @@ pub(crate) fn milliseconds<R: Clock>(rt: &R) -> Option<u64> {
     match rt.monotonic() {
         Ok(time) => Some(u64::try_from(time.as_millis()).unwrap_or(u64::MAX)),
         Err(_) => None,
+    }
+}
+
+/// Returns the end of a time of this many seconds from now on; `None` if it is for ever.
+fn end_from(now: Option<u64>, seconds: Option<u64>) -> Option<u64>
+    ensures { IsEndOf seconds result }
+{
+    match seconds {
+        None => None,
+        Some(seconds) => Some(end_after(now, seconds)),
     }
 }
 

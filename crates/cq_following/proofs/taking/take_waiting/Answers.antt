@@ -1,6 +1,7 @@
-use Rattle.std.proofs.Common.{arith}
+use Rattle.std.proofs.Common.{arith, subst, sym}
 use Rattle.std.proofs.KnownBytes.{Keeps-trans}
 use Rattle.cq_files.proofs.QueueLemmas.{keeps-trans}
+use Rattle.cq_following.specs.Times.{IsEndOf}
 use Rattle.cq_following.proofs.WaitingLemmas.{nothing_taken}
 use Rattle.cq_following.proofs.taking.take_waiting.Goals as goal
 
@@ -20,4 +21,16 @@ takes-preserved g c =
       kept = keeps-trans before files after c.takes.invariant.kept none.0;
       unwritten = Keeps-trans old middle new c.takes.invariant.unwritten none.1;
       later = omega (arith, low, high);
+      given = subst (IsEndOf c.args.settings.now.wait) (sym c.wait.ensures.end) c.takes.invariant.given;
+      over = c.wait.ensures.over;
     }
+
+pub returns-then-not-is_nothing-clause-kept : goal.returns-then-not-is_nothing-clause-kept
+returns-then-not-is_nothing-clause-kept g c =
+    λ peeks. keeps-trans (g.F.Folder.files c.args.folder.now) (g.F.Folder.files c.takes.folder) (g.F.Folder.files c.take_by-done.new.folder)
+    c.takes.invariant.kept (c.take_by-done.ensures.kept peeks)
+
+pub returns-then-is_over-clause-kept : goal.returns-then-is_over-clause-kept
+returns-then-is_over-clause-kept g c =
+    λ peeks. keeps-trans (g.F.Folder.files c.args.folder.now) (g.F.Folder.files c.takes.folder) (g.F.Folder.files c.take_by-done.new.folder)
+    c.takes.invariant.kept (c.take_by-done.ensures.kept peeks)
