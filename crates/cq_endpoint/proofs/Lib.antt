@@ -1,4 +1,5 @@
 mod Closings
 mod Endings
 mod Hearings
+mod Peekings
 mod Readings

@@ -13,6 +13,7 @@ use Rattle.cq_endpoint.specs.declared.answers.Taken.{Taken}
 use Rattle.cq_endpoint.specs.declared.answers.Taken.TheVariants as taken
 use Rattle.cq_endpoint.specs.declared.answers.TakenInto.{TakenInto}
 use Rattle.cq_endpoint.specs.declared.answers.TakenInto.TheVariants as taken_into
+use Rattle.cq_layout.specs.Messages.{IsMessage}
 use Rattle.cq_tail.specs.Names.{IsDeclared, NameFails, Takes}
 use Rattle.cq_tail.specs.Rooms.{ReadsAtInto, ReadsInto, TakesInto}
 use Rattle.cq_tail.specs.Tailers.{MadeNoCall, ReadsAt, ReadsNext, TailerFacts}
@@ -179,6 +180,19 @@ OfTakeInto queue name t u f = TakesInto queue t.tailer u.tailer name t.room u.ro
 -- what each read says, and each take
 abbrev pub NextSays : QueueFacts → TailerFacts → TailerFacts → Next → Type 0
 NextSays queue old new n = Reads queue (OfNext queue) found.NotYet (reader old []) (reader new []) (next_outcome n)
+
+-- a message that was found is one
+abbrev pub FindsMessage : Next → Type 0
+FindsMessage (next.Message i m) = IsMessage m
+FindsMessage next.NotYet = ⊤
+FindsMessage next.Finished = ⊤
+FindsMessage next.BeforeStart = ⊤
+
+-- a read of the next message, after which the tailer went back to where it was
+pub record Peeks (queue : QueueFacts) (old new : TailerFacts) (n : Next) : Type 0 where
+  pub read : TailerFacts
+  pub says : NextSays queue old read n
+  pub back : new ≡ record read { cursor = old.cursor }
 
 abbrev pub ReadAtSays : QueueFacts → TailerFacts → TailerFacts → ℕ → ReadAt → Type 0
 ReadAtSays queue old new i r = Reads queue (OfAt queue i) at.NotYet (reader old []) (reader new []) (read_at_outcome r)
