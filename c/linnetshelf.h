@@ -64,7 +64,7 @@
  *
  * WHAT AN ENDPOINT HAS SEEN. linnetshelf_drop_before and linnetshelf_seek go up to the end that their endpoint has seen, and
  * return NOT_SEEN above it:
- * - Reads, takes, moves and positions show the end as far as their answers go. linnetshelf_to_end and linnetshelf_end show all of it.
+ * - Reads, peeks, takes, moves and positions show the end as far as their answers go. linnetshelf_to_end and linnetshelf_end show all of it.
  * - A call that returns NO_ROOM shows nothing.
  * - What an endpoint appended counts once it has read that, or has met another endpoint.
  * - A new endpoint of linnetshelf_split has seen the end at which the queue was created or opened. What its parent appended,
@@ -330,6 +330,12 @@ linnetshelf_answer linnetshelf_next(linnetshelf_handle *endpoint, void *room, si
  * it is not read, and the next call finds it). */
 linnetshelf_many linnetshelf_next_many(linnetshelf_handle *endpoint, void *room, size_t size, linnetshelf_answer *answers,
                                        size_t count);
+
+/* Returns the index and the length of the next message in the endpoint's direction. The endpoint stays where it is: the next read
+ * finds this message, unless its cycle is dropped. The call takes memory for a copy of the message, and frees it. If the length
+ * alone is wanted, linnetshelf_next with a size of 0 takes none: NO_ROOM has it.
+ * NOT_YET and FINISHED (forwards), BEFORE_START (backwards), OUT_OF_MEMORY. */
+linnetshelf_answer linnetshelf_peek(linnetshelf_handle *endpoint);
 
 /* Reads the message with this index into the buffer `room`, and returns its length. The endpoint stays where it is. NOT_YET,
  * FINISHED, NEVER, GONE, NO_ROOM (see above). */

@@ -100,6 +100,47 @@ static void messages_are_appended_and_read(void) {
     linnetshelf_destroy(queue);
 }
 
+static int is_answer(linnetshelf_answer answer, uint64_t index, uint32_t length) {
+    return answer.index == index && answer.length == length && answer.status == STATUS(DONE);
+}
+
+/* A peek returns where the next message is and how long, either way, and the endpoint stays there. */
+static void next_message_is_peeked(void) {
+    linnetshelf_handle queue = queue_of("", 5 * DAY), saved = {0};
+    uint64_t first = 5ull << 32, later = 7ull << 32;
+    char room[16];
+    CHECK(linnetshelf_peek(&queue).status == STATUS(NOT_YET));
+    CHECK(linnetshelf_append(&queue, 5 * DAY, "one", 3).status == STATUS(DONE));
+    CHECK(linnetshelf_append(&queue, 5 * DAY, "three", 5).status == STATUS(DONE));
+    CHECK(linnetshelf_append(&queue, 7 * DAY, "seven!!", 7).status == STATUS(DONE));
+    CHECK(is_answer(linnetshelf_peek(&queue), first, 3) && is_answer(linnetshelf_peek(&queue), first, 3));
+    CHECK(linnetshelf_cursor(&queue).index == 0);
+    CHECK(is_message(linnetshelf_next(&queue, room, sizeof room), first, room, "one"));
+    CHECK(is_answer(linnetshelf_peek(&queue), first + 1, 5) && linnetshelf_cursor(&queue).index == first + 1);
+    CHECK(is_message(linnetshelf_next(&queue, room, sizeof room), first + 1, room, "three"));
+
+    /* The next message is in a later cycle, and the endpoint stays at the end of the one before. */
+    CHECK(is_answer(linnetshelf_peek(&queue), later, 7) && linnetshelf_cursor(&queue).index == first + 2);
+    CHECK(linnetshelf_direction(&queue, LINNETSHELF_BACKWARDS) == STATUS(DONE));
+    CHECK(is_answer(linnetshelf_peek(&queue), first + 1, 5) && linnetshelf_cursor(&queue).index == first + 2);
+    CHECK(linnetshelf_to_start(&queue) == STATUS(DONE));
+    CHECK(linnetshelf_peek(&queue).status == STATUS(BEFORE_START));
+    CHECK(linnetshelf_direction(&queue, LINNETSHELF_FORWARDS) == STATUS(DONE));
+
+    /* What was dropped is passed over. */
+    CHECK(linnetshelf_to_end(&queue).index == later + 1 && linnetshelf_drop_before(&queue, 7).index == 7);
+    CHECK(linnetshelf_peek(&queue).status == STATUS(NOT_YET) && linnetshelf_cursor(&queue).index == later + 1);
+    CHECK(linnetshelf_to_start(&queue) == STATUS(DONE));
+    CHECK(is_answer(linnetshelf_peek(&queue), later, 7) && linnetshelf_cursor(&queue).index == 0);
+
+    CHECK(linnetshelf_to_end(&queue).index == later + 1 && linnetshelf_close(&queue) == STATUS(DONE));
+    CHECK(linnetshelf_peek(&queue).status == STATUS(FINISHED));
+    CHECK(linnetshelf_saved_new(&SMALL, "", 0, &saved) == STATUS(DONE));
+    CHECK(linnetshelf_peek(&saved).status == STATUS(WRONG_KIND));
+    linnetshelf_destroy(saved);
+    linnetshelf_destroy(queue);
+}
+
 /* A zero handle is ended by doing nothing, and what others hold stays. */
 static void zero_handles_are_destroyed(void) {
     linnetshelf_handle queue = queue_of("", 0), zero = {0};
@@ -115,10 +156,6 @@ static void zero_handles_are_destroyed(void) {
 
 static int is_many(linnetshelf_many many, uint64_t count, uint64_t index, uint32_t length, uint32_t status) {
     return many.count == count && many.index == index && many.length == length && many.status == status;
-}
-
-static int is_answer(linnetshelf_answer answer, uint64_t index, uint32_t length) {
-    return answer.index == index && answer.length == length && answer.status == STATUS(DONE);
 }
 
 static void many_messages_are_appended(void) {
@@ -931,6 +968,7 @@ int main(void) {
     the_text_of_settings_is_read_and_written();
     CHECK(linnetshelf_version() == LINNETSHELF_VERSION);
     messages_are_appended_and_read();
+    next_message_is_peeked();
     zero_handles_are_destroyed();
     many_messages_are_appended();
     many_messages_fill_a_cycle();

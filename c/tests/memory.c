@@ -57,6 +57,9 @@ static int use_queue(void) {
     if (linnetshelf_split(&queue, &other) == STATUS(DONE)) {
         CHECK(linnetshelf_append(&other, 0, "hello", 5).status == STATUS(DONE));
         allocate_nothing(&other);
+        linnetshelf_answer peeked = linnetshelf_peek(&queue);
+        CHECK(peeked.status == STATUS(OUT_OF_MEMORY) || (peeked.status == STATUS(DONE) && peeked.length == 5));
+        CHECK(linnetshelf_cursor(&queue).index == 0);
         CHECK(linnetshelf_next(&queue, room, sizeof room).status == STATUS(DONE));
         CHECK(linnetshelf_take(&queue, "reader", 6, room, sizeof room).status == STATUS(DONE));
         linnetshelf_destroy(other);

@@ -9,7 +9,7 @@
 
 Each thread has an endpoint of its own: `split` makes one. See docs/PYTHON.md.
 """
-from ._endpoint import Begun, Endpoint, Index, Message, Roll, Settings, create, now
+from ._endpoint import Begun, Endpoint, Index, Message, Peeked, Roll, Settings, create, now
 from ._library import text_of
 from ._saved import Image, Journal, Saved, init
 from .errors import (
@@ -56,6 +56,7 @@ __all__ = [
     "NoSuchName",
     "NotSeen",
     "OutOfMemory",
+    "Peeked",
     "Roll",
     "Saved",
     "Settings",

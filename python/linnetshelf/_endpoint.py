@@ -130,6 +130,13 @@ class Message(NamedTuple):
     data: bytes
 
 
+class Peeked(NamedTuple):
+    """Where a message is, and how long."""
+
+    index: Index
+    length: int
+
+
 class Batch:
     """The messages that one call has read. Each is made and returned without a step of the interpreter of its own."""
 
@@ -565,22 +572,35 @@ class Endpoint(Owner):
         check(answer.status)
         return Index(answer.index), answer.length
 
-    def peek(self) -> int | None:
-        """Returns the length of the next message, or None if there is none yet. It is not read. Finished: none will come."""
+    def peek(self) -> Peeked | None:
+        """Returns the index and the length of the next message, or None if there is none yet. It is not read.
+
+        Finished: there is none, and none will come.
+        """
         left = self._ahead.left()
         if left:
             self._live()
-            return len(left[0].data)
-        _, address, _ = self._buffer
-        answer = library.next(self._live(), address, 0)
+            return Peeked(left[0].index, len(left[0].data))
+        answer = library.peek(self._live())
+        if answer.status in (Status.NOT_YET, Status.BEFORE_START):
+            return None
+        check(answer.status)
+        return Peeked(Index(answer.index), answer.length)
+
+    def _has_next(self) -> bool | None:
+        """Returns True if there is a next message, and else None. Finished: there is none, and none will come."""
+        if self._ahead.has_left():
+            self._live()
+            return True
+        answer = library.next(self._live(), self._buffer[1], 0)
         if answer.status == Status.FINISHED:
             raise error_of(answer.status)
-        return answer.length if answer.status == Status.NO_ROOM else None
+        return True if answer.status == Status.NO_ROOM else None
 
     def wait(self, timeout: float | None = None) -> bool:
         """Waits until there is a next message; returns False if none came within `timeout` seconds, or none will come."""
         try:
-            return until(self.peek, timeout) is not None
+            return until(self._has_next, timeout) is not None
         except Finished:
             return False
 

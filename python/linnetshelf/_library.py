@@ -58,6 +58,7 @@ CALLS = {
     "close": (_WORD, _HANDLE),
     "next": (Answer, _HANDLE, _BYTES, _SIZE),
     "next_many": (Many, _HANDLE, _BYTES, _SIZE, _BYTES, _SIZE),
+    "peek": (Answer, _HANDLE),
     "read_at": (Answer, _HANDLE, _LONG, _BYTES, _SIZE),
     "direction": (_WORD, _HANDLE, _WORD),
     "move_to": (_WORD, _HANDLE, _LONG),

@@ -120,12 +120,30 @@ class Calls(unittest.TestCase):
         buffer = bytearray(10)
         with self.assertRaises(linnetshelf.BufferTooSmall) as fault:
             self.queue.next_into(buffer)
-        self.assertEqual((fault.exception.length, self.queue.peek()), (9000, 9000))
+        self.assertEqual((fault.exception.length, self.queue.peek()), (9000, (0, 9000)))
         self.assertEqual(self.queue.next().data, b"x" * 9000)
         self.assertEqual((self.queue.next_into(buffer), bytes(buffer[:1])), ((1, 1), b"y"))
         self.assertEqual((self.queue.next_into(buffer), self.queue.peek()), (None, None))
         with self.assertRaises(ValueError):
             self.queue.next_into(memoryview(b"read-only"))
+
+    def test_the_next_message_is_peeked_either_way(self):
+        self.assertIsNone(self.queue.peek())
+        indices = [self.queue.append(b"x" * (k + 1), k // 2 * DAY) for k in range(4)]
+        places = [(index, k + 1) for k, index in enumerate(indices)]
+        for place in places:
+            self.assertEqual([self.queue.peek(), self.queue.peek()], [place, place])
+            self.assertEqual(self.queue.next().index, place[0])
+        self.assertIsNone(self.queue.peek())
+        backwards = self.queue.backwards()
+        self.assertEqual(next(backwards).index, indices[3])
+        self.assertEqual((self.queue.peek(), next(backwards).index), (places[2], indices[2]))
+        self.assertEqual(self.queue.peek(), places[1])
+        backwards.close()
+        self.assertEqual((self.queue.peek().index, self.queue.cursor), (indices[2], indices[2]))
+        self.queue.close()
+        with self.assertRaises(ValueError):
+            self.queue.peek()
 
     def test_a_zero_handle_is_destroyed(self):
         _library.library.destroy(_library.Handle())
@@ -204,7 +222,7 @@ class Calls(unittest.TestCase):
     def test_an_iteration_ends_early(self):
         indices = [self.queue.append(b"%d" % k, k // 2 * DAY) for k in range(6)]
         self.assertEqual(data_of(itertools.islice(self.queue, 2)), [b"0", b"1"])
-        self.assertEqual((self.queue.peek(), self.queue.next().data), (1, b"2"))
+        self.assertEqual((self.queue.peek(), self.queue.next().data), ((indices[2], 1), b"2"))
         self.assertEqual(next(iter(self.queue)).data, b"3")
         self.assertEqual(self.queue.cursor, indices[4])
         self.assertEqual(data_of(itertools.islice(self.queue.backwards(), 2)), [b"3", b"2"])

@@ -13,6 +13,7 @@
 //! | `linnetshelf_advance` | begins a cycle |
 //! | `linnetshelf_close` | closes a queue |
 //! | `linnetshelf_next`, `_next_many`, `_read_at`, `_take` | read and take messages, into a buffer of the caller |
+//! | `linnetshelf_peek` | looks up the index and the length of the next message |
 //! | `linnetshelf_cursor`, `_direction`, `_to_start`, `_to_end`, `_move_to` | move an endpoint |
 //! | `linnetshelf_end` | looks up the end of the queue |
 //! | `linnetshelf_position`, `_seek`, `_drop_before` | read and set the position of a name, and drop old cycles |
@@ -46,6 +47,7 @@ mod making;
 mod many;
 mod meeting;
 mod naming;
+mod peeking;
 mod playing;
 mod reading;
 mod reading_many;

@@ -29,6 +29,15 @@ pub struct Received<'b> {
     pub data: &'b [u8],
 }
 
+/// Where a message is, and how long.
+#[derive(Clone, Copy, Debug, PartialEq, Eq, Hash)]
+pub struct Peeked {
+    /// Its index.
+    pub index: Index,
+    /// Its length in bytes.
+    pub length: usize,
+}
+
 /// An endpoint of a queue: it appends messages and reads them. Each thread has one of its own, by [`Endpoint::split`].
 ///
 /// Reads go forwards from the start. They return `None` where no message has come yet, and [`Error::Finished`] at the end of a
@@ -194,15 +203,34 @@ impl Endpoint {
         (!matches!(answer.status, NOT_YET | BEFORE_START)).then_some(answer)
     }
 
-    /// Returns the length of the next message, or `None` if there is none yet. It is not read.
+    /// Returns where the next message is and how long, or `None` if there is none yet. The endpoint stays where it is, and the
+    /// next read finds the message, unless its cycle is dropped.
+    ///
+    /// It takes memory for a copy of the message, which it frees. [`Error::NoRoom`] of [`Endpoint::next`] with an empty buffer has
+    /// the length alone, and takes none.
+    ///
+    /// # Errors
+    ///
+    /// [`Error::Finished`]: there is none, and none will come. [`Error::OutOfMemory`], [`Error::WrongKind`].
+    pub fn peek(&mut self) -> Result<Option<Peeked>, Error> {
+        let answer = self.handle.peek();
+        if matches!(answer.status, NOT_YET | BEFORE_START) {
+            return Ok(None);
+        }
+        let Answer { index, length, .. } = Error::done(answer)?;
+        Ok(Some(Peeked { index: Index(index), length: length as usize }))
+    }
+
+    /// Returns whether there is a next message. It is not read.
     ///
     /// # Errors
     ///
     /// [`Error::Finished`]: there is none, and none will come. [`Error::WrongKind`].
-    pub fn peek(&mut self) -> Result<Option<usize>, Error> {
+    #[cfg(feature = "std")]
+    pub(crate) fn has_next(&mut self) -> Result<bool, Error> {
         match self.next(&mut []) {
-            Err(Error::NoRoom { needed }) => Ok(Some(needed)),
-            other => other.map(|found| found.map(|message| message.data.len())),
+            Err(Error::NoRoom { .. }) => Ok(true),
+            other => other.map(|found| found.is_some()),
         }
     }
 

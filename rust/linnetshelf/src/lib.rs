@@ -34,7 +34,7 @@ mod settings;
 #[cfg(feature = "std")]
 mod waiting;
 
-pub use endpoint::{Begun, Direction, Endpoint, Received, StopError};
+pub use endpoint::{Begun, Direction, Endpoint, Peeked, Received, StopError};
 pub use error::{Error, ImageFault};
 #[cfg(feature = "std")]
 pub use folder::FolderError;

@@ -55,6 +55,7 @@ unsafe extern "C" {
     fn linnetshelf_advance(endpoint: *mut Handle, moment: u64) -> Answer;
     fn linnetshelf_close(endpoint: *mut Handle) -> u32;
     fn linnetshelf_next(endpoint: *mut Handle, room: *mut u8, size: usize) -> Answer;
+    fn linnetshelf_peek(endpoint: *mut Handle) -> Answer;
     fn linnetshelf_read_at(endpoint: *mut Handle, index: u64, room: *mut u8, size: usize) -> Answer;
     fn linnetshelf_direction(endpoint: *mut Handle, direction: u32) -> u32;
     fn linnetshelf_move_to(endpoint: *mut Handle, index: u64) -> u32;
@@ -258,6 +259,11 @@ impl Owned {
     pub(crate) fn end(&mut self) -> Answer {
         // SAFETY: HANDLES, THREADS.
         unsafe { linnetshelf_end(&mut self.handle) }
+    }
+
+    pub(crate) fn peek(&mut self) -> Answer {
+        // SAFETY: HANDLES, THREADS.
+        unsafe { linnetshelf_peek(&mut self.handle) }
     }
 
     pub(crate) fn cursor(&mut self) -> Answer {

@@ -3,7 +3,7 @@
 use std::io::Write;
 use std::time::Duration;
 
-use linnetshelf::{Direction, Endpoint, Error, ImageFault, Index, Message, Received, Roll, Saved, Settings};
+use linnetshelf::{Direction, Endpoint, Error, ImageFault, Index, Message, Peeked, Received, Roll, Saved, Settings};
 
 const DAY: u64 = 86_400_000;
 const SMALL: Settings =
@@ -83,7 +83,7 @@ fn a_buffer_that_is_too_small_reads_nothing() {
     assert_eq!(queue.next(&mut []), Err(Error::NoRoom { needed: 9000 }));
     assert_eq!(queue.read_at(Index(0), &mut buffer), Err(Error::NoRoom { needed: 9000 }));
     assert_eq!(queue.take("reader", &mut buffer), Err(Error::NoRoom { needed: 9000 }));
-    assert_eq!(queue.peek(), Ok(Some(9000)));
+    assert_eq!(queue.peek(), Ok(Some(Peeked { index: Index(0), length: 9000 })));
     assert_eq!(queue.position("reader"), Ok(Index(0)));
     let mut large = vec![0; 9001];
     assert_eq!(queue.next(&mut large).unwrap().unwrap().data, [b'x'; 9000]);
@@ -95,6 +95,26 @@ fn a_buffer_that_is_too_small_reads_nothing() {
     assert_eq!(lengths, [9000, 1]);
     let lengths: Vec<usize> = queue.takes("reader", SHORT).map(|message| message.unwrap().data.len()).collect();
     assert_eq!(lengths, [9000, 1]);
+}
+
+#[test]
+fn the_next_message_is_peeked_either_way() {
+    let mut queue = queue();
+    assert_eq!(queue.peek(), Ok(None));
+    let indices: Vec<Index> = (0..4).map(|k| queue.append(k / 2 * DAY, &vec![b'x'; 1 + k as usize]).unwrap()).collect();
+    let at = |k: usize| Ok(Some(Peeked { index: indices[k], length: k + 1 }));
+    let mut buffer = [0; 4];
+    for k in 0..4 {
+        assert_eq!((queue.peek(), queue.peek()), (at(k), at(k)));
+        assert_eq!(queue.next(&mut buffer).unwrap().map(|message| message.index), Some(indices[k]));
+    }
+    assert_eq!(queue.peek(), Ok(None));
+    queue.set_direction(Direction::Backwards).unwrap();
+    for k in (0..4).rev() {
+        assert_eq!((queue.peek(), queue.peek()), (at(k), at(k)));
+        assert_eq!(queue.next(&mut buffer).unwrap().map(|message| message.index), Some(indices[k]));
+    }
+    assert_eq!((queue.peek(), queue.cursor()), (Ok(None), Ok(indices[0])));
 }
 
 #[test]
