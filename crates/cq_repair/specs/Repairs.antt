@@ -13,8 +13,8 @@ use Rattle.cq_repair.specs.declared.fault.RepairFault.TheVariants.{Refused, Tool
 use Rattle.cq_repair.specs.declared.fault.RepairRefusal.{RepairRefusal}
 use Rattle.cq_repair.specs.declared.finding.Found.{Found}
 
--- the image in the file had a fault, and what is kept of it fits a cycle: the old file was written under its new name, and then the new image and, where a name
--- moves, the configuration; no other file changed, and in a dry run none. The text has what was done
+-- the image in the file had a fault, and what is kept of it fits a cycle: the old file was written under its new name, and then the
+-- new image and, where a name moves, the configuration; no other file changed, and in a dry run none. The text has what was done
 pub record IsRepaired (dry : Bool) (file : List ℕ) (before after : Option Files) (text : List ℕ) : Type 0 where
   pub found : Found
   pub mendable : IsMendable file before found
