@@ -7,7 +7,7 @@
 //! | `check`, `dump`, `salvage` | print the state, the records, and the messages of images |
 //! | `migrate` | makes a folder of version 1 into one of version 2 |
 //! | `open_queue` | reads a folder's queue: `Retain`, `SavedQueue`, `CycleImage`, `ImageFile`, `SeenMessages` |
-//! | `can_be_opened`, `is_unread` | whether a queue can hold what was read |
+//! | `can_be_opened` | whether a queue can hold what was read |
 //! | `images_of` | the images of cycles, as files that are to be saved |
 //! | `save`, `save_files`, `write_file` | save images, some files together, and a file |
 //! | `save_fault` | the error for a file that could not be written |
@@ -39,7 +39,7 @@ pub use dumping::dump;
 pub use files::{MOST_FILE_BYTES, has_name, print_outside, save_fault, save_files, write_file};
 pub use initialising::init;
 pub use migrating::migrate;
-pub use openable::{can_be_opened, is_unread};
+pub use openable::can_be_opened;
 pub use opening::{CycleImage, ImageFile, Retain, SavedQueue, SeenMessages, open_queue};
 pub use salvaging::salvage;
 pub use saving::{images_of, save};

@@ -1,8 +1,10 @@
 -- When a time is over.
-use Rattle.std.proofs.Common.{◌≡◌, ◌≢◌, ◌⊎◌, ◌∙◌, ℕ, Option, None, inl, inr, sym}
+use Rattle.std.proofs.Common.{◌≡◌, ◌∙◌, ℕ, Option, ap, inl, inr}
+use Rattle.cq_following.specs.Times.{HasCome, left_until}
 
--- why a time is over, of a watch with the same end
-pub still_over : (end before : Option ℕ) (looks between : ℕ) → end ≡ before → looks ≡ between → (before ≢ None) ⊎ (between ≡ 0)
-    → (end ≢ None) ⊎ (looks ≡ 0)
-still_over end before looks between same count (inl some) = inl (λ none. some (sym same ∙ none))
-still_over end before looks between same count (inr none) = inr (count ∙ none)
+-- why a time is over, of a watch that has the same end and has seen the same
+pub still_over : (end before seen then : Option ℕ) (looks between : ℕ) → end ≡ before → seen ≡ then → looks ≡ between
+    → HasCome then before between → HasCome seen end looks
+still_over end before seen then looks between same read count (inl come) =
+    inl (ap (λ (o : Option ℕ). left_until o end) read ∙ ap (left_until then) same ∙ come)
+still_over end before seen then looks between same read count (inr none) = inr (count ∙ none)

@@ -1,5 +1,5 @@
 -- When a folder counts as changed, and how long one waits between looks at it. All times are in milliseconds.
-use Rattle.std.specs.Prelude.{◌≡◌, ◌≢◌, ◌⊎◌, ◌-◌, ◌*◌, ◌+◌, ◌^◌, ◌<◌, ℕ, Bool, true, false, Option, None, Some, IsSomeAnd, min}
+use Rattle.std.specs.Prelude.{◌≡◌, ◌⊎◌, ◌-◌, ◌*◌, ◌+◌, ◌^◌, ◌<◌, ℕ, Bool, true, false, Option, None, Some, IsSomeAnd, min}
 use Rattle.cq_following.specs.declared.changes.TheConstants.{LONGEST_REST, SETTLING}
 
 -- this was less than that time ago
@@ -21,11 +21,6 @@ abbrev pub IsEndOf : Option ℕ → Option ℕ → Type 0
 IsEndOf None end = end ≡ None
 IsEndOf (Some seconds) end = (now : Option ℕ) × (end ≡ Some (end_after now seconds))
 
--- a time is over: it had an end, which has come, or one has waited as often as can be counted
-pub record IsTimeOver (seconds end : Option ℕ) (looks : ℕ) : Type 0 where
-  pub given : IsEndOf seconds end
-  pub cause : (end ≢ None) ⊎ (looks ≡ 0)
-
 -- how often one still looks: once more than one waits, unless the end has come
 abbrev pub looks_left : Bool → ℕ → ℕ
 looks_left true looks = looks
@@ -36,3 +31,12 @@ abbrev pub left_until : Option ℕ → Option ℕ → ℕ
 left_until now None = 2 ^ 64 - 1
 left_until None (Some end) = 0
 left_until (Some now) (Some end) = end - now
+
+-- the end had come when the clock was looked at last, or one has waited as often as can be counted
+abbrev pub HasCome : Option ℕ → Option ℕ → ℕ → Type 0
+HasCome seen end looks = (left_until seen end ≡ 0) ⊎ (looks ≡ 0)
+
+-- so it is of a time of this number of seconds
+pub record IsTimeOver (seconds seen end : Option ℕ) (looks : ℕ) : Type 0 where
+  pub given : IsEndOf seconds end
+  pub cause : HasCome seen end looks

@@ -35,7 +35,7 @@ where
     W: Write,
     ensures last { TakesAtLast settings.now name.now (F.files folder.old) (F.files folder.new) (W.contents output.old) (W.contents output.new) result }
     ensures nothing { result ≡ Ok Took.Nothing → (settings.now.wait ≡ None)
-        ⊎ (IsTrue watch.new.is_over × IsTimeOver settings.now.wait watch.new.end watch.new.looks) }
+        ⊎ (IsTrue watch.new.is_over × IsTimeOver settings.now.wait watch.new.seen watch.new.end watch.new.looks) }
     ensures kept { IsTrue settings.now.peek → KeepsFiles (F.files folder.old) (F.files folder.new) }
     ensures counted { CountsFaults (F.failed folder.old) (F.failed folder.new) result }
 {

@@ -1,6 +1,6 @@
 //! How a command waits between looks at a folder.
-ghost use Rattle.std.specs.Prelude.{◌≡◌, ◌≢◌, ◌⊎◌, ◌≤◌, ◌-◌, ◌*◌, ◌^◌, IsTrue, None, false, min};
-ghost use Rattle.cq_following.specs.Times.{IsEndOf, end_after, left_until, looks_left};
+ghost use Rattle.std.specs.Prelude.{◌≡◌, ◌≤◌, ◌-◌, ◌*◌, ◌^◌, IsTrue, false, min};
+ghost use Rattle.cq_following.specs.Times.{HasCome, IsEndOf, end_after, left_until, looks_left};
 
 use crate::changes::Changes;
 use std::alloc::Global;
@@ -21,6 +21,8 @@ pub struct Watch<'a, R, C> {
     changes: C,
     /// When it ends, in milliseconds of the clock; `None` if never.
     end: Option<u64>,
+    /// What the clock was when it was looked at last, in milliseconds; `None` if it could not be read.
+    seen: Option<u64>,
     /// The next pause, in milliseconds.
     pause: u64,
     /// How often it still waits. It is 2^64 - 1 at first.
@@ -36,6 +38,7 @@ impl<'a, R: AllocGlobal + Clock, C: Changes> Watch<'a, R, C> {
             rt,
             changes,
             end: None,
+            seen: None,
             pause: FIRST_PAUSE,
             looks: u64::MAX,
             is_over: false,
@@ -53,7 +56,8 @@ impl<'a, R: AllocGlobal + Clock, C: Changes> Watch<'a, R, C> {
         ensures begun { self.new.is_over ≡ false }
         ensures looks { self.new.looks ≡ 2 ^ 64 - 1 }
     {
-        self.end = end_from(milliseconds(self.rt), seconds);
+        self.seen = milliseconds(self.rt);
+        self.end = end_from(self.seen, seconds);
         self.pause = FIRST_PAUSE;
         self.looks = u64::MAX;
         self.is_over = false;
@@ -63,6 +67,7 @@ impl<'a, R: AllocGlobal + Clock, C: Changes> Watch<'a, R, C> {
     pub(crate) fn hurry_if(&mut self, has_come: bool)
         ensures over { self.new.is_over ≡ self.old.is_over }
         ensures end { self.new.end ≡ self.old.end }
+        ensures seen { self.new.seen ≡ self.old.seen }
         ensures looks { self.new.looks ≡ self.old.looks }
     {
         if has_come {
@@ -77,11 +82,12 @@ impl<'a, R: AllocGlobal + Clock, C: Changes> Watch<'a, R, C> {
         self.is_over
     }
 
-    /// Waits until the folder may have changed, or until the end. A watch without an end is over only once it has waited 2^64 - 1 times.
+    /// Waits until the folder may have changed, or until the clock is at the end. If the clock cannot be read, it counts as at the end
+    /// of a given time. A watch without an end is over only once it has waited 2^64 - 1 times.
     pub(crate) fn wait(&mut self)
         requires { self.old.is_over ≡ false }
         ensures end { self.new.end ≡ self.old.end }
-        ensures over { IsTrue self.new.is_over → (self.new.end ≢ None) ⊎ (self.new.looks ≡ 0) }
+        ensures over { IsTrue self.new.is_over → HasCome self.new.seen self.new.end self.new.looks }
         ensures once { self.new.looks ≡ self.old.looks - 1 }
         ensures fewer { looks_left self.new.is_over self.new.looks ≤ self.old.looks }
     {
@@ -91,7 +97,8 @@ impl<'a, R: AllocGlobal + Clock, C: Changes> Watch<'a, R, C> {
         }
         self.looks -= 1;
         'pauses: for _ in 0..u64::MAX {
-            let left = left_until(milliseconds(self.rt), self.end);
+            self.seen = milliseconds(self.rt);
+            let left = left_until(self.seen, self.end);
             if left == 0 {
                 self.is_over = true;
                 return;

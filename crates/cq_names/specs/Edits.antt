@@ -2,6 +2,7 @@
 use Rattle.std.specs.Prelude.{◌≡◌, ◌⊎◌, ⊤, ℕ, ◌<◌, ◌≤◌, List, [], ◌∷◌, ◌++◌, Option, None, Some, length, option_map, set, slice_get, slice_index_or, string_bytes}
 use Rattle.std.specs.List.{flat_map, remove, zip}
 use Rattle.cq_config_text.specs.ConfigText.{IsTextOf}
+pub use Rattle.cq_journal.specs.Journals.{Declares}
 use Rattle.cq_cycle.specs.Index.{index_text}
 use Rattle.cq_model.specs.Settings.{IsTailerName, Settings, settings_of}
 use Rattle.cq_model.specs.States.{end_of}
@@ -58,10 +59,6 @@ removed settings contents place =
 abbrev pub moved : Settings → Contents → ℕ → ℕ → Edit
 moved settings contents place position =
     edit_of settings.names (set contents.positions place position) (slice_index_or settings.names place []) position
-
--- the queue has this name
-abbrev pub Declares : Settings → List ℕ → Type 0
-Declares settings name = (place : ℕ) × (slice_get settings.names place ≡ Some name)
 
 -- the queue can have this name besides those that it has
 pub record IsNewName (settings : Settings) (name : List ℕ) : Type 0 where

@@ -11,8 +11,7 @@ use Rattle.cq_files.specs.declared.opening.SavedQueue.{SavedQueue}
 use Rattle.cq_repair.specs.Kept.{positions_after, salvaged}
 use Rattle.cq_repair.specs.declared.finding.Found.{Found}
 
--- the files are those of the queue, but for the bytes of this one, and it can be opened: some messages in place of those that are
--- lost would make it so
+-- the files are those of a queue that can be opened, except that this one may have other bytes
 pub record HoldOpenableBut (file : List ℕ) (queue : SavedQueue) (files : Files) : Type 0 where
   pub lawful : IsLawfulQueue queue
   pub config : IsSomeAnd (files CONFIG_FILE.now) (IsTextOf queue.config queue.contents.positions queue.contents.floor)

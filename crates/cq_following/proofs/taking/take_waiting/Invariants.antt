@@ -1,8 +1,8 @@
-use Rattle.std.proofs.Common.{◌≡◌, ◌≢◌, ◌⊎◌, ◌≤◌, None}
+use Rattle.std.proofs.Common.{◌≤◌}
 use Rattle.std.specs.Prelude.{IsTrue}
 use Rattle.std.specs.Io.KnownBytes.{Keeps}
 use Rattle.cq_folder.specs.Folder.{KeepsFiles}
-use Rattle.cq_following.specs.Times.{IsEndOf, looks_left}
+use Rattle.cq_following.specs.Times.{HasCome, IsEndOf, looks_left}
 use Rattle.cq_following.proofs.taking.take_waiting.Given as goal
 
 -- nothing was found up to now, so no file changed and nothing was written
@@ -12,7 +12,7 @@ invariant-takes g l = record {
   unwritten : Keeps (g.W.Write.contents l.fn.output) (g.W.Write.contents l.output);
   later : g.F.Folder.failed l.fn.folder ≤ g.F.Folder.failed l.folder;
   given : IsEndOf l.settings.wait l.watch.end;
-  over : IsTrue l.watch.is_over → (l.watch.end ≢ None) ⊎ (l.watch.looks ≡ 0);
+  over : IsTrue l.watch.is_over → HasCome l.watch.seen l.watch.end l.watch.looks;
 }
 
 -- one look less
