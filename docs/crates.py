@@ -3,10 +3,11 @@
 
     docs/crates.py [--check]
 
-With --check nothing is written. What is wrong is printed: a crate of crates.txt that is in no group, one in a group that is none, and a
-picture that is not the one that would be drawn. The last line is `N wrong`, and the status is 1 if there is any.
+With --check nothing is written. What is wrong is printed: a crate of crates.txt that is in no group or in several, a name in a group
+that is no crate, and a picture that is not the one that would be drawn. The last line is `N wrong`, and the status is 1 if there is any.
 """
 
+import collections
 import pathlib
 import re
 import sys
@@ -61,12 +62,12 @@ rect {{ stroke: #6e7781; fill: #f6f8fa; }}
 
 
 def groups():
-    """Returns the crates of each group, in the order of MAP.md."""
+    """Returns the crates of each group, in the order of MAP.md. A group ends at the next heading."""
     found, names = {}, []
     for line in MAP.read_text(encoding="utf-8").splitlines():
-        title, entry = re.match(r"### (.*)", line), re.match(r"- `(\w+)`:", line)
-        if title:
-            group = next((it for it in SAYS if re.match(rf"{it}\b", title[1])), None)
+        entry = re.match(r"- `(\w+)`:", line)
+        if re.match(r"#+ ", line):
+            group = next((it for it in SAYS if re.match(rf"### {it}\b", line)), None)
             names = found.setdefault(group, []) if group else []
         elif entry:
             names.append(entry[1])
@@ -74,12 +75,13 @@ def groups():
 
 
 def misplaced():
-    """Says which crates are in no group, and which names of groups are no crate's."""
+    """Says which crates are in no group or have several entries, and which names of groups are no crate's."""
     lines = (TOP / "crates.txt").read_text(encoding="utf-8").splitlines()
     crates = {re.split(r"[ :]", it)[0] for it in lines if it.strip() and not it.startswith("#")}
-    grouped = {name for names in groups().values() for name in names}
-    yield from (f"MAP.md has no entry for {it}" for it in sorted(crates - grouped))
-    yield from (f"MAP.md has an entry for {it}, which is no crate" for it in sorted(grouped - crates))
+    entries = collections.Counter(name for names in groups().values() for name in names)
+    yield from (f"MAP.md has no entry for {it}" for it in sorted(crates - set(entries)))
+    yield from (f"MAP.md has an entry for {it}, which is no crate" for it in sorted(set(entries) - crates))
+    yield from (f"MAP.md has {count} entries for {it}" for it, count in sorted(entries.items()) if count > 1)
 
 
 class Box:

@@ -23,7 +23,7 @@ except that after a read backwards one reads a single message into a buffer, and
 buffer allocate nothing, so both have to grow memory equally often.
 
 With the word cycles, commands run in little memory on a queue that may have 64 cycles of 65,536 cells, of which one has
-begun. `read`, `take` and `drop` make no slots for the others, which would take 64 MiB.
+begun. `read`, `take` and `drop` make no slots, which would take 64 MiB for all cycles.
 
 A library in front of the C library's malloc, calloc, realloc and aligned_alloc refuses; it is compiled by cc. CQ names
 the program; if it is not set, it is crates/cq/out/cq, which the launcher ./cq builds. The status is 0 if all is as said.
@@ -155,7 +155,7 @@ BUFFERS = [
     "allocating_tests::all_messages_are_read_into_a_room_after_a_read_backwards",
 ]
 
-# A queue of many cycles, the commands that open one cycle of it, what they print, and the memory that they get, in bytes.
+# A queue of many cycles, the commands that read it, what they print, and the memory that they get, in bytes.
 LARGE = [(["init", "D", "daily", "0", "65536", "64", "16", "64", "reader"], b""), HELLO]
 READERS = [
     (["read", "D"], b"00004e2000000000 hello\n00004e2000000001 world\n"),
@@ -333,7 +333,7 @@ def program_named():
 
 
 def try_cycles(room):
-    """Whether commands that read take memory for the cycles that have begun alone."""
+    """Whether commands that read make no slots."""
     for words, given in LARGE:
         assert run(program_named(), words, given, room)[0] == 0, words
     ran = [(words, printed, run(program_named(), words, b"", room, begin=in_little)) for words, printed in READERS]
