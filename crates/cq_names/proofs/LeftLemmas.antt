@@ -1,5 +1,5 @@
 -- What is left of the settings and contents of a queue whose names were changed.
-use Rattle.std.proofs.Common.{◌≡◌, ◌≢◌, ℕ, suc, ◌+◌, ◌<◌, ◌≤◌, ◌++◌, List, [], ◌∷◌, All, length, Some, take, drop, arith, ap, inl, inr, subst, sym, ◌∙◌}
+use Rattle.std.proofs.Common.{◌≡◌, ◌≢◌, ℕ, suc, ◌<◌, ◌≤◌, ◌++◌, List, [], ◌∷◌, All, length, Some, take, drop, arith, ap, inl, inr, subst, sym, ◌∙◌}
 use Rattle.std.specs.List.{AllByRecursion, remove}
 use Rattle.std.specs.Prelude.{string_bytes}
 use Rattle.std.proofs.lemmas.List.{length-append, length-set, take-append-drop}
@@ -16,7 +16,7 @@ use Rattle.cq_model.specs.declared.contents.Contents.{Contents}
 use Rattle.cq_model.specs.declared.contents.CycleList.{CycleList}
 use Rattle.cq_orders.specs.declared.settings.NameChange.{NameChange}
 use Rattle.cq_orders.specs.declared.settings.NameChange.TheVariants as change
-use Rattle.cq_names.specs.Edits.{Edit, IsEdit, IsNewName, removed, with_names, with_positions}
+use Rattle.cq_names.specs.Edits.{Edit, IsEdit, IsNewName, with_names, with_positions}
 
 -- what holds of all of a list holds of the one in it
 one_of : {X : Type 0} (P : X → Type 0) (x : X) → P x → All P (x ∷ [])
