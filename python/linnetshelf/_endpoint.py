@@ -131,7 +131,7 @@ class Message(NamedTuple):
 
 
 class Peeked(NamedTuple):
-    """Where a message is, and how long."""
+    """The index and the length of a message, in bytes."""
 
     index: Index
     length: int
@@ -575,7 +575,10 @@ class Endpoint(Owner):
     def peek(self) -> Peeked | None:
         """Returns the index and the length of the next message, or None if there is none yet. It is not read.
 
-        Finished: there is none, and none will come.
+        The endpoint stays where it is, and the next read finds the message, unless its cycle is dropped. The library makes a
+        copy of the message, and frees it.
+
+        Finished: there is none, and none will come. OutOfMemory: there is no memory for the copy.
         """
         left = self._ahead.left()
         if left:
@@ -587,20 +590,20 @@ class Endpoint(Owner):
         check(answer.status)
         return Peeked(Index(answer.index), answer.length)
 
-    def _has_next(self) -> bool | None:
-        """Returns True if there is a next message, and else None. Finished: there is none, and none will come."""
+    def _has_next(self) -> bool:
+        """Returns whether there is a next message. It is not read. Finished: there is none, and none will come."""
         if self._ahead.has_left():
             self._live()
             return True
         answer = library.next(self._live(), self._buffer[1], 0)
         if answer.status == Status.FINISHED:
             raise error_of(answer.status)
-        return True if answer.status == Status.NO_ROOM else None
+        return answer.status == Status.NO_ROOM
 
     def wait(self, timeout: float | None = None) -> bool:
         """Waits until there is a next message; returns False if none came within `timeout` seconds, or none will come."""
         try:
-            return until(self._has_next, timeout) is not None
+            return until(lambda: self._has_next() or None, timeout) is not None
         except Finished:
             return False
 

@@ -11,6 +11,7 @@ import os
 import pathlib
 import re
 import signal
+import struct
 import subprocess
 import sys
 import tempfile
@@ -75,6 +76,39 @@ class Header(unittest.TestCase):
         texts = [linnetshelf.text_of(status) for status in linnetshelf.Status]
         self.assertEqual(texts[:2], ["it is done", "there is no such message yet"])
         self.assertEqual(len(set(texts)), len(linnetshelf.Status))
+
+
+class Batches(unittest.TestCase):
+    """The messages of one call are made of its answers, and of the buffer where their bytes follow one another."""
+
+    def test_messages_of_one_length_and_of_others(self):
+        cases = {
+            "none": [],
+            "one": [b"abc"],
+            "two of one length": [b"ab", b"cd"],
+            "many of one length": [b"%03d" % k for k in range(_endpoint.MANY)],
+            "the last one is longer": [b"ab", b"cd", b"efg"],
+            "the last one is shorter": [b"ab", b"cd", b"e"],
+            "the first one is longer": [b"abc", b"de", b"fg"],
+            "one between is shorter": [b"ab", b"c", b"de"],
+            "the first and the last one are longer": [b"abc", b"d", b"efg"],
+        }
+        for name, parts in cases.items():
+            with self.subTest(name):
+                # No index follows from the one before it, since each message may be in a cycle of its own.
+                wanted = [(k << 32 | 7 * k + 1, part) for k, part in enumerate(parts)]
+                # linnetshelf_answer: uint64_t index, uint32_t length, uint32_t status. The buffer is longer than the messages.
+                answers = bytearray(b"".join(struct.pack("QII", index, len(part), 0) for index, part in wanted))
+                buffer = bytearray(b"".join(parts) + b"what was there before")
+                batch = _endpoint.Batch(memoryview(answers), memoryview(buffer))
+                # They are copies: the next call writes to the same places.
+                answers[:], buffer[:] = bytes(len(answers)), bytes(len(buffer))
+                self.assertEqual((batch.last_returned(), batch.has_left(), batch.left()), (None, bool(parts), wanted))
+                messages = list(batch.rest)
+                self.assertEqual(messages, wanted)
+                kinds = {(type(message), type(message.index), type(message.data)) for message in messages}
+                self.assertEqual(kinds, {(linnetshelf.Message, linnetshelf.Index, bytes)} if parts else set())
+                self.assertEqual((batch.last_returned(), batch.has_left(), batch.left()), (wanted[-1] if parts else None, False, []))
 
 
 class Calls(unittest.TestCase):
