@@ -50,7 +50,8 @@
  *
  * MEMORY. It comes from malloc and goes back by free. The memory of a queue goes back when its last endpoint is destroyed or
  * linnetshelf_stop returns DONE, that of an endpoint or of what was saved when its handle is destroyed. A call that got none
- * returns OUT_OF_MEMORY. Appends and reads allocate nothing, except an append that begins the next queue of a shelf.
+ * returns OUT_OF_MEMORY. Appends and reads allocate nothing, except an append that begins the next queue of a shelf. A peek makes
+ * a copy of the message, and frees it.
  *
  * BUSY. Another endpoint has begun a message, and has neither completed it nor given it up. Its thread may have been suspended
  * inside its append, and cannot go on while others use its processor. So do not spin: yield (sched_yield) or sleep before the
@@ -331,10 +332,10 @@ linnetshelf_answer linnetshelf_next(linnetshelf_handle *endpoint, void *room, si
 linnetshelf_many linnetshelf_next_many(linnetshelf_handle *endpoint, void *room, size_t size, linnetshelf_answer *answers,
                                        size_t count);
 
-/* Returns the index and the length of the next message in the endpoint's direction. The endpoint stays where it is: the next read
- * finds this message, unless its cycle is dropped. The call takes memory for a copy of the message, and frees it. If the length
- * alone is wanted, linnetshelf_next with a size of 0 takes none: NO_ROOM has it.
- * NOT_YET and FINISHED (forwards), BEFORE_START (backwards), OUT_OF_MEMORY. */
+/* Returns the index and the length of the next message in the endpoint's direction. The endpoint stays where it is, and the next
+ * read finds the message, unless its cycle is dropped. The call makes a copy of the message, and frees it. To get the length alone
+ * call linnetshelf_next with a size of 0: its answer NO_ROOM has the length, and no memory is taken.
+ * NOT_YET and FINISHED (forwards), BEFORE_START (backwards), OUT_OF_MEMORY (there is no memory for the copy). */
 linnetshelf_answer linnetshelf_peek(linnetshelf_handle *endpoint);
 
 /* Reads the message with this index into the buffer `room`, and returns its length. The endpoint stays where it is. NOT_YET,

@@ -104,7 +104,7 @@ static int is_answer(linnetshelf_answer answer, uint64_t index, uint32_t length)
     return answer.index == index && answer.length == length && answer.status == STATUS(DONE);
 }
 
-/* A peek returns where the next message is and how long, either way, and the endpoint stays there. */
+/* A peek returns the index and the length of the next message in either direction, and the endpoint stays where it is. */
 static void next_message_is_peeked(void) {
     linnetshelf_handle queue = queue_of("", 5 * DAY), saved = {0};
     uint64_t first = 5ull << 32, later = 7ull << 32;

@@ -3,7 +3,7 @@
 //!     cargo run --release --example rate [CASE..]
 //!
 //! The cases are those of `c/rate.c`, which makes the same calls in C. `rate` is by the clock's time. REPS is the number of turns, of
-//! which the best counts. They are 3 if it is not set.
+//! which the best counts. They are 3 if it is not set. The status is 2 if there is no such case, and then nothing is measured.
 use std::hint::black_box;
 use std::time::Instant;
 use std::{env, process};
@@ -12,6 +12,9 @@ use linnetshelf::{Endpoint, Error, Roll, Settings};
 
 const SETTINGS: Settings =
     Settings { epoch: 0, cells: 1_048_576, index_count: 256, index_spacing: 16, cycles: 1, roll: Roll::Daily };
+
+/// The cases, and whether each measures appends. The others measure reads.
+const CASES: [(&str, bool); 2] = [("append_by_call", true), ("read_into", false)];
 
 /// Appends until the cycle is full, and returns how many messages that were.
 fn append_all(queue: &mut Endpoint, message: &[u8]) -> u32 {
@@ -58,15 +61,23 @@ fn rate(length: usize, is_append: bool) -> f64 {
     f64::from(count) / start.elapsed().as_secs_f64()
 }
 
+/// Returns the case with this name, or ends the program.
+fn case_of(name: &str) -> (&'static str, bool) {
+    CASES.into_iter().find(|case| case.0 == name).unwrap_or_else(|| {
+        eprintln!("rate: there is no case {name}: the cases are {}", CASES.map(|case| case.0).join(", "));
+        process::exit(2)
+    })
+}
+
 fn main() {
     let repetitions = env::var("REPS").ok().and_then(|text| text.parse().ok()).unwrap_or(3);
-    let mut cases: Vec<String> = env::args().skip(1).collect();
+    let mut cases: Vec<_> = env::args().skip(1).map(|name| case_of(&name)).collect();
     if cases.is_empty() {
-        cases = vec!["append_by_call".into(), "read_into".into()];
+        cases = CASES.to_vec();
     }
-    for case in cases {
+    for (case, is_append) in cases {
         for length in [8, 64, 256, 1024] {
-            let best = (0..repetitions).map(|_| rate(length, case == "append_by_call")).fold(0.0, f64::max);
+            let best = (0..repetitions).map(|_| rate(length, is_append)).fold(0.0, f64::max);
             println!("{{\"name\":\"rust\",\"case\":\"{case}\",\"payload\":{length},\"value\":{best:.0}}}");
         }
     }

@@ -29,7 +29,7 @@ pub struct Received<'b> {
     pub data: &'b [u8],
 }
 
-/// Where a message is, and how long.
+/// The index and the length of a message.
 #[derive(Clone, Copy, Debug, PartialEq, Eq, Hash)]
 pub struct Peeked {
     /// Its index.
@@ -203,15 +203,16 @@ impl Endpoint {
         (!matches!(answer.status, NOT_YET | BEFORE_START)).then_some(answer)
     }
 
-    /// Returns where the next message is and how long, or `None` if there is none yet. The endpoint stays where it is, and the
-    /// next read finds the message, unless its cycle is dropped.
+    /// Returns the index and the length of the next message, or `None` if there is none yet. The endpoint stays where it is, and
+    /// the next read finds the message, unless its cycle is dropped.
     ///
-    /// It takes memory for a copy of the message, which it frees. [`Error::NoRoom`] of [`Endpoint::next`] with an empty buffer has
-    /// the length alone, and takes none.
+    /// The library makes a copy of the message, and frees it. To get the length alone call [`Endpoint::next`] with an empty buffer:
+    /// its [`Error::NoRoom`] has the length, and no memory is taken.
     ///
     /// # Errors
     ///
-    /// [`Error::Finished`]: there is none, and none will come. [`Error::OutOfMemory`], [`Error::WrongKind`].
+    /// [`Error::Finished`]: there is none, and none will come. [`Error::OutOfMemory`]: there is no memory for the copy.
+    /// [`Error::WrongKind`].
     pub fn peek(&mut self) -> Result<Option<Peeked>, Error> {
         let answer = self.handle.peek();
         if matches!(answer.status, NOT_YET | BEFORE_START) {

@@ -2,8 +2,8 @@
 //!
 //! The SAFETY comments cite what the header requires of its callers:
 //!
-//! - HANDLES: a call on a handle takes one that the library wrote and that was not destroyed. `Owned` has the only copy of such
-//!   a handle, and destroys it once, at its end.
+//! - HANDLES: a call on a handle takes one that the library wrote and that was not destroyed; `linnetshelf_destroy` also takes a
+//!   zero one. `Owned` has the only copy of such a handle, and destroys it once, at its end.
 //! - THREADS: a handle is in one call at a time. Each call here takes `&mut self`, and `Owned` is not `Sync`.
 //! - BYTES: addresses are not null and have that many bytes, which nobody else writes or reads meanwhile. A slice has such an
 //!   address, also an empty one.
