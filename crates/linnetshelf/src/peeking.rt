@@ -25,7 +25,10 @@ pub extern "C" fn linnetshelf_peek(alloc: Global, handle: &mut Handle) -> Answer
         Tells (PeeksNext old.queue old.tailer new.tailer) peek_answer result × ChangesTailer old new) }
 {
     match handle.held_mut() {
-        Held::Endpoint(endpoint) => peek_answer(endpoint.peek(alloc)),
+        Held::Endpoint(endpoint) => {
+            let found = endpoint.peek(alloc);
+            peek_answer(&found)
+        }
         Held::Stopped(_) | Held::Saved(_) | Held::Keeper(_) | Held::Shelf(_) => plain(
             Status::WrongKind,
         ),
@@ -33,12 +36,12 @@ pub extern "C" fn linnetshelf_peek(alloc: Global, handle: &mut Handle) -> Answer
 }
 
 /// Makes the answer of `peek`.
-fn peek_answer(said: Result<Next, AllocError>) -> Answer
-    requires { IfOk said FindsMessage }
-    ensures { result ≡ peek_answer said }
+fn peek_answer(said: &Result<Next, AllocError>) -> Answer
+    requires { IfOk said.now FindsMessage }
+    ensures { result ≡ peek_answer said.now }
 {
     match said {
-        Ok(Next::Message(index, message)) => read(index.value(), message.len() as u32),
+        Ok(Next::Message(index, message)) => read(index.value(), message.as_slice().len() as u32),
         Ok(Next::NotYet) => plain(Status::NotYet),
         Ok(Next::Finished) => plain(Status::Finished),
         Ok(Next::BeforeStart) => plain(Status::BeforeStart),
