@@ -74,7 +74,7 @@ last_call k [] xs e is = absurd (none_last xs e is)
 last_call k (f ∷ t) xs e is = last_by k f t xs e (bytes_eq f.by k) (λ ys same. last_call k t ys e same) is
 
 -- of what a caller saw as it went on, the last of the calls that it added is a part
-pub added_last : (v w : View) (es : List Entry) (e : Entry) → IsSoundView v → (x : Extends v w (es ++ e ∷ []))
+added_last : (v w : View) (es : List Entry) (e : Entry) → IsSoundView v → (x : Extends v w (es ++ e ∷ []))
     → IsIn x.seen.0 e
 added_last v w es e ok x =
     let whole : calls v.name v.seen ++ calls v.name x.seen.0 ≡ v.mine ++ (es ++ e ∷ [])
@@ -91,7 +91,7 @@ pub record Between (v w : View) (h : List Entry) : Type 0 where
   pub legal : IsLegal (settings_in v.plan) (state_seen v) h
   pub state : state_seen w ≡ state_of (state_seen v) h
 
-pub between : (v w : View) (es : List Entry) → IsSoundView v → (x : Extends v w es) → Between v w x.seen.0
+between : (v w : View) (es : List Entry) → IsSoundView v → (x : Extends v w es) → Between v w x.seen.0
 between v w es ok x =
     let whole : IsLegal (settings_in v.plan) (opening_of v.plan) (v.seen ++ x.seen.0)
     = subst (IsLegal (settings_in v.plan) (opening_of v.plan)) x.seen.1

@@ -1,5 +1,4 @@
 mod Closings
 mod Endings
 mod Hearings
-mod Peekings
 mod Readings

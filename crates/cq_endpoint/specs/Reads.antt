@@ -5,6 +5,8 @@ use Rattle.cq_endpoint.specs.declared.answers.Next.{Next}
 use Rattle.cq_endpoint.specs.declared.answers.Next.TheVariants as next
 use Rattle.cq_endpoint.specs.declared.answers.NextInto.{NextInto}
 use Rattle.cq_endpoint.specs.declared.answers.NextInto.TheVariants as next_into
+use Rattle.cq_endpoint.specs.declared.answers.NextPeeked.{NextPeeked}
+use Rattle.cq_endpoint.specs.declared.answers.NextPeeked.TheVariants as next_peeked
 use Rattle.cq_endpoint.specs.declared.answers.ReadAt.{ReadAt}
 use Rattle.cq_endpoint.specs.declared.answers.ReadAt.TheVariants as read_at
 use Rattle.cq_endpoint.specs.declared.answers.ReadAtInto.{ReadAtInto}
@@ -13,8 +15,8 @@ use Rattle.cq_endpoint.specs.declared.answers.Taken.{Taken}
 use Rattle.cq_endpoint.specs.declared.answers.Taken.TheVariants as taken
 use Rattle.cq_endpoint.specs.declared.answers.TakenInto.{TakenInto}
 use Rattle.cq_endpoint.specs.declared.answers.TakenInto.TheVariants as taken_into
-use Rattle.cq_layout.specs.Messages.{IsMessage}
 use Rattle.cq_tail.specs.Names.{IsDeclared, NameFails, Takes}
+use Rattle.cq_tail.specs.Peeks.{PeeksNext}
 use Rattle.cq_tail.specs.Rooms.{ReadsAtInto, ReadsInto, TakesInto}
 use Rattle.cq_tail.specs.Tailers.{MadeNoCall, ReadsAt, ReadsNext, TailerFacts}
 use Rattle.cq_tail.specs.declared.answers.At.{At}
@@ -25,6 +27,8 @@ use Rattle.cq_tail.specs.declared.answers.Found.{Found}
 use Rattle.cq_tail.specs.declared.answers.Found.TheVariants as found
 use Rattle.cq_tail.specs.declared.answers.FoundInto.{FoundInto}
 use Rattle.cq_tail.specs.declared.answers.FoundInto.TheVariants as found_into
+use Rattle.cq_tail.specs.declared.answers.Peeked.{Peeked}
+use Rattle.cq_tail.specs.declared.answers.Peeked.TheVariants as peeked
 use Rattle.cq_tail.specs.declared.answers.Take.{Take}
 use Rattle.cq_tail.specs.declared.answers.Take.TheVariants as take
 use Rattle.cq_tail.specs.declared.answers.TakeInto.{TakeInto}
@@ -100,6 +104,12 @@ next_outcome next.NotYet = not_yet
 next_outcome next.Finished = finished
 next_outcome next.BeforeStart = answered found.BeforeStart
 
+abbrev pub peeked_outcome : NextPeeked → Outcome Peeked
+peeked_outcome (next_peeked.Message i len) = answered (peeked.Message i len)
+peeked_outcome next_peeked.NotYet = not_yet
+peeked_outcome next_peeked.Finished = finished
+peeked_outcome next_peeked.BeforeStart = answered peeked.BeforeStart
+
 abbrev pub read_at_outcome : ReadAt → Outcome At
 read_at_outcome (read_at.Message m) = answered (at.Message m)
 read_at_outcome read_at.NotYet = not_yet
@@ -162,6 +172,9 @@ TakeFits room (taken_into.Moved p) = ⊤
 abbrev pub OfNext : QueueFacts → Reader → Reader → Found → Type 0
 OfNext queue t u f = ReadsNext queue t.tailer u.tailer f
 
+abbrev pub OfPeek : QueueFacts → Reader → Reader → Peeked → Type 0
+OfPeek queue t u p = PeeksNext queue t.tailer u.tailer p
+
 abbrev pub OfAt : QueueFacts → ℕ → Reader → Reader → At → Type 0
 OfAt queue i t u f = ReadsAt queue t.tailer u.tailer i f
 
@@ -181,18 +194,9 @@ OfTakeInto queue name t u f = TakesInto queue t.tailer u.tailer name t.room u.ro
 abbrev pub NextSays : QueueFacts → TailerFacts → TailerFacts → Next → Type 0
 NextSays queue old new n = Reads queue (OfNext queue) found.NotYet (reader old []) (reader new []) (next_outcome n)
 
--- a message that was found is one
-abbrev pub FindsMessage : Next → Type 0
-FindsMessage (next.Message i m) = IsMessage m
-FindsMessage next.NotYet = ⊤
-FindsMessage next.Finished = ⊤
-FindsMessage next.BeforeStart = ⊤
-
--- a read of the next message, after which the tailer went back to where it was
-pub record Peeks (queue : QueueFacts) (old new : TailerFacts) (n : Next) : Type 0 where
-  pub read : TailerFacts
-  pub says : NextSays queue old read n
-  pub back : new ≡ record read { cursor = old.cursor }
+-- what a look at the next message says
+abbrev pub PeekSays : QueueFacts → TailerFacts → TailerFacts → NextPeeked → Type 0
+PeekSays queue old new n = Reads queue (OfPeek queue) peeked.NotYet (reader old []) (reader new []) (peeked_outcome n)
 
 abbrev pub ReadAtSays : QueueFacts → TailerFacts → TailerFacts → ℕ → ReadAt → Type 0
 ReadAtSays queue old new i r = Reads queue (OfAt queue i) at.NotYet (reader old []) (reader new []) (read_at_outcome r)

@@ -1,13 +1,15 @@
 //! A tailer that found no message yet looks whether its queue is closed. If so it reads once more, since a message may
 //! have come before the queue was closed.
 ghost use Rattle.std.specs.Prelude.{[], IfErr, IfOk, IsOk, OnErr};
-ghost use Rattle.cq_endpoint.specs.Reads.{LooksAfter, NextFits, OfAt, OfAtInto, OfMemory, OfNext, OfNextInto, OfTake, OfTakeInto, ReadFits, ReadsLast, TakeFits, TakeRefusedAgain, next_into_outcome, next_outcome, read_at_into_outcome, read_at_outcome, reader, taken_into_outcome, taken_outcome};
+ghost use Rattle.cq_endpoint.specs.Reads.{LooksAfter, NextFits, OfAt, OfAtInto, OfMemory, OfNext, OfNextInto, OfPeek, OfTake, OfTakeInto, ReadFits, ReadsLast, TakeFits, TakeRefusedAgain, next_into_outcome, next_outcome, peeked_outcome, read_at_into_outcome, read_at_outcome, reader, taken_into_outcome, taken_outcome};
 ghost use Rattle.cq_tail.specs.Names.{IsDeclared};
 ghost use Rattle.cq_words.specs.Values.{IsOf};
 
-use crate::answers::{Next, NextInto, ReadAt, ReadAtInto, Taken, TakenInto};
+use crate::answers::{Next, NextInto, NextPeeked, ReadAt, ReadAtInto, Taken, TakenInto};
 use cq_cycle::Index;
-use cq_tail::{At, AtInto, Found, FoundInto, NoSuchName, Tailer, Take, TakeFault, TakeInto};
+use cq_tail::{
+    At, AtInto, Found, FoundInto, NoSuchName, Peeked, Tailer, Take, TakeFault, TakeInto,
+};
 use cq_words::Queue;
 use std::alloc::{AllocError, Global};
 
@@ -28,6 +30,19 @@ pub(crate) fn next_again(
         return Ok(Next::NotYet);
     }
     Ok(Next::of(tailer.next(alloc, queue)?))
+}
+
+/// What `peek` returns after a look that found no message yet.
+#[cold]
+pub(crate) fn peek_again(tailer: &mut Tailer, queue: &Queue) -> NextPeeked
+    requires { IsOf queue.now tailer.old.caller }
+    ensures { LooksAfter queue.now (OfPeek queue.now) Peeked.NotYet (reader tailer.old []) (reader tailer.new [])
+        (peeked_outcome result) }
+{
+    if !tailer.is_sealed(queue) {
+        return NextPeeked::NotYet;
+    }
+    NextPeeked::of(tailer.peek(queue))
 }
 
 /// What `read_at` returns after a read that found no message yet.

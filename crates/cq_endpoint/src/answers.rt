@@ -1,9 +1,9 @@
 //! What reads and takes of an endpoint return: what those of a tailer do, and `Finished` besides.
-ghost use Rattle.cq_endpoint.specs.Reads.{IsTold, next_into_outcome, next_outcome, read_at_into_outcome, read_at_outcome, taken_into_outcome, taken_outcome};
+ghost use Rattle.cq_endpoint.specs.Reads.{IsTold, next_into_outcome, next_outcome, peeked_outcome, read_at_into_outcome, read_at_outcome, taken_into_outcome, taken_outcome};
 
 use cq_cycle::Index;
 use cq_model::Message;
-use cq_tail::{At, AtInto, Found, FoundInto, Take, TakeInto};
+use cq_tail::{At, AtInto, Found, FoundInto, Peeked, Take, TakeInto};
 
 /// What a read of the next message returns.
 #[derive(Debug, Drop)]
@@ -27,6 +27,32 @@ impl Next {
             Found::Message(index, message) => Next::Message(index, message),
             Found::NotYet => Next::Finished,
             Found::BeforeStart => Next::BeforeStart,
+        }
+    }
+}
+
+/// What a look at the next message returns, which reads nothing.
+#[derive(Clone, Copy, Debug, PartialEq, Eq)]
+pub enum NextPeeked {
+    /// The index of the next message, and its length in bytes.
+    Message(Index, u32),
+    /// There is no later message yet.
+    NotYet,
+    /// There is no later message, and none comes any more: the queue is closed.
+    Finished,
+    /// There is no earlier message.
+    BeforeStart,
+}
+
+impl NextPeeked {
+    /// Returns what this answer of a tailer is. `NotYet` is final: the queue is closed.
+    pub(crate) fn of(peeked: Peeked) -> NextPeeked
+        ensures { IsTold Peeked.NotYet peeked (peeked_outcome result) }
+    {
+        match peeked {
+            Peeked::Message(index, len) => NextPeeked::Message(index, len),
+            Peeked::NotYet => NextPeeked::Finished,
+            Peeked::BeforeStart => NextPeeked::BeforeStart,
         }
     }
 }

@@ -7,7 +7,7 @@
 //! | `Endpoint` | `create` or `open` makes the first one, `split` another, `of` one from a caller; it appends, reads, takes, closes and stops, and has the `config` of its queue |
 //! | `AppendFault`, `PutFault`, `CompleteFault`, `NotWriting` | why nothing was appended, put, completed or rolled back |
 //! | `CloseFault` | why the queue was not closed |
-//! | `Next`, `ReadAt`, `NextInto`, `ReadAtInto`, `Direction` | what reads return, and which way they go |
+//! | `Next`, `ReadAt`, `NextInto`, `ReadAtInto`, `NextPeeked`, `Direction` | what reads and `peek` return, and which way they go |
 //! | `Taken`, `TakenInto`, `TakeFault`, `Sought`, `NoSuchName`, `SeekFault` | what takes and moves of a name return |
 //! | `NotSeen` | why no cycle was dropped |
 //! | `laws` | what follows of a closed queue |
@@ -40,7 +40,7 @@ mod sharing;
 mod stopping;
 mod work;
 
-pub use answers::{Next, NextInto, ReadAt, ReadAtInto, Taken, TakenInto};
+pub use answers::{Next, NextInto, NextPeeked, ReadAt, ReadAtInto, Taken, TakenInto};
 pub use cq_tail::{Direction, NoSuchName, Sought, TakeFault};
 pub use endpoint::Endpoint;
 pub use fault::{AppendFault, CloseFault, CompleteFault, NotSeen, NotWriting, PutFault, SeekFault};

@@ -3,7 +3,9 @@
 //! The calls of appenders and tailers in `cq_calls_tests` have the same names and texts. An endpoint gives what its appender
 //! refuses as `Refused(..)`. What tailers find is written here and there, since `cq_fixtures` is below `cq_tail`.
 use cq_cycle::Index;
-use cq_endpoint::{Direction, Endpoint, Next, NextInto, ReadAt, ReadAtInto, Taken, TakenInto};
+use cq_endpoint::{
+    Direction, Endpoint, Next, NextInto, NextPeeked, ReadAt, ReadAtInto, Taken, TakenInto,
+};
 use cq_fixtures::{
     done_text, expect_answer, index_text, lists_text, message_text, number_text, shown_text,
 };
@@ -30,6 +32,8 @@ pub enum Call {
     GiveUp,
     /// Reads the next message.
     Next,
+    /// Looks up the next message.
+    Peek,
     /// Reads the next message into a buffer.
     NextInto(usize),
     /// Reads the message at an index.
@@ -94,6 +98,14 @@ fn taken_text<E: Debug>(alloc: Global, answer: &Result<Taken, E>) -> Result<Stri
     match answer {
         Ok(Taken::Taken(index, message)) => message_text(alloc, *index, message),
         other => shown_text(alloc, other),
+    }
+}
+
+/// What comes next: a message's index and length.
+fn peeked_text(alloc: Global, peeked: NextPeeked) -> Result<String, Fail> {
+    match peeked {
+        NextPeeked::Message(index, len) => Ok(format!(in alloc; "{} {len}", index.value())?),
+        other => Ok(format!(in alloc; "{other:?}")?),
     }
 }
 
@@ -203,6 +215,7 @@ impl Call {
             Call::Complete => index_text(alloc, &endpoint.complete()),
             Call::GiveUp => done_text(alloc, "given up", &endpoint.roll_back()),
             Call::Next => found_text(alloc, &endpoint.next(alloc)),
+            Call::Peek => peeked_text(alloc, endpoint.peek()),
             Call::NextInto(size) => next_into_text(alloc, endpoint, size),
             Call::ReadAt(index) => {
                 let index = Index::of_value(index);

@@ -17,6 +17,8 @@ mod meeting_tests;
 #[cfg(test)]
 mod new_queues;
 #[cfg(test)]
+mod peek_tests;
+#[cfg(test)]
 mod room_tests;
 #[cfg(test)]
 mod thread_tests;

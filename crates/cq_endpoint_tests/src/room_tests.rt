@@ -143,14 +143,14 @@ static BUFFERS: [Calls; 7] = [
     ],
 ];
 
-/// Makes the calls of a new endpoint. Fails if one of them does not return what is wanted.
+/// Makes the calls of the endpoint of `new_endpoint`. Fails if one of them does not return what is wanted.
 fn expect_new(alloc: Global, row: &str, calls: Calls) -> Result<(), Fail> {
     let mut endpoint = new_endpoint(alloc)?;
     expect_calls(alloc, row, &mut endpoint, calls)
 }
 
 /// Makes the calls of each row. Fails if one of them does not return what is wanted.
-fn expect_rows(alloc: Global, rows: &[Calls]) -> Result<(), Fail> {
+pub fn expect_rows(alloc: Global, rows: &[Calls]) -> Result<(), Fail> {
     for (number, calls) in rows.iter().enumerate() {
         let row = format!(in alloc; "row {number}")?;
         expect_new(alloc, row.as_str(), calls)?;

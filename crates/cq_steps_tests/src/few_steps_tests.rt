@@ -6,7 +6,7 @@ ghost use Rattle.cq_words.specs.Values.{IsOf};
 
 use crate::many::{COUNT, Many, SPACING, append_all};
 use cq_cycle::Index;
-use cq_tail::{At, Direction, Found, Tailer};
+use cq_tail::{At, Direction, Found, Peeked, Tailer};
 use cq_words::Queue;
 use std::alloc::Global;
 use std::test::Fail;
@@ -22,6 +22,28 @@ fn steps_after(alloc: Global, queue: &Queue, mut tailer: Tailer, count: u32) -> 
     requires { IsOf queue.now tailer.caller }
 {
     for _ in 0..count {
+        match tailer.next(alloc, queue)? {
+            Found::Message(_index, _message) => {}
+            Found::NotYet | Found::BeforeStart => return missing(),
+        }
+    }
+    Ok(tailer.into_caller().steps())
+}
+
+/// Reads this many messages by a tailer, each after a look at it. Returns all steps that it made until then.
+fn steps_with_looks(
+    alloc: Global,
+    queue: &Queue,
+    mut tailer: Tailer,
+    count: u32,
+) -> Result<u64, Fail>
+    requires { IsOf queue.now tailer.caller }
+{
+    for _ in 0..count {
+        match tailer.peek(queue) {
+            Peeked::Message(_index, _len) => {}
+            Peeked::NotYet | Peeked::BeforeStart => return missing(),
+        }
         match tailer.next(alloc, queue)? {
             Found::Message(_index, _message) => {}
             Found::NotYet | Found::BeforeStart => return missing(),
@@ -55,6 +77,12 @@ impl Many {
     fn forward_steps(&mut self, alloc: Global, count: u32) -> Result<u64, Fail> {
         let tailer = Tailer::new(self.queue.split(&mut self.caller));
         steps_after(alloc, &self.queue, tailer, count)
+    }
+
+    /// The steps of reads of all messages forwards by a new caller, each after a look at the message.
+    fn steps_with_looks(&mut self, alloc: Global) -> Result<u64, Fail> {
+        let tailer = Tailer::new(self.queue.split(&mut self.caller));
+        steps_with_looks(alloc, &self.queue, tailer, COUNT)
     }
 
     /// The most steps of one of these reads forwards, each by the caller that read the message before it.
@@ -111,6 +139,18 @@ fn a_read_behind_the_last_one_takes_one_step(rt: HostRuntime) -> Result<(), Fail
 fn a_read_over_an_index_table_takes_three_steps(rt: HostRuntime) -> Result<(), Fail> {
     // An index table comes before each 4,096th message.
     assert!(rt; most_forward_steps(rt.alloc(), &[4_096, 8_192, 28_672])? <= 3);
+    Ok(())
+}
+
+/// The steps of reads of all messages of a new queue forwards, each after a look at the message.
+fn steps_with_looks_of_new(alloc: Global) -> Result<u64, Fail> {
+    Many::new(alloc)?.steps_with_looks(alloc)
+}
+
+#[test]
+fn a_look_before_a_read_takes_one_step_more(rt: HostRuntime) -> Result<(), Fail> {
+    // A few more are for the first message, and for those after an index table.
+    assert!(rt; steps_with_looks_of_new(rt.alloc())? <= u64::from(2 * COUNT + 64));
     Ok(())
 }
 
