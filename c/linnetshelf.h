@@ -50,8 +50,7 @@
  *
  * MEMORY. It comes from malloc and goes back by free. The memory of a queue goes back when its last endpoint is destroyed or
  * linnetshelf_stop returns DONE, that of an endpoint or of what was saved when its handle is destroyed. A call that got none
- * returns OUT_OF_MEMORY. Appends and reads allocate nothing, except an append that begins the next queue of a shelf. A peek makes
- * a copy of the message, and frees it.
+ * returns OUT_OF_MEMORY. Appends, reads and peeks allocate nothing, except an append that begins the next queue of a shelf.
  *
  * BUSY. Another endpoint has begun a message, and has neither completed it nor given it up. Its thread may have been suspended
  * inside its append, and cannot go on while others use its processor. So do not spin: yield (sched_yield) or sleep before the
@@ -65,8 +64,8 @@
  *
  * WHAT AN ENDPOINT HAS SEEN. linnetshelf_drop_before and linnetshelf_seek go up to the end that their endpoint has seen, and
  * return NOT_SEEN above it:
- * - Reads, peeks, takes, moves and positions show the end as far as their answers go. linnetshelf_to_end and linnetshelf_end show all of it.
- * - A call that returns NO_ROOM shows nothing.
+ * - Reads, takes, moves and positions show the end as far as their answers go. linnetshelf_to_end and linnetshelf_end show all of it.
+ * - A peek shows nothing, and neither does a call that returns NO_ROOM.
  * - What an endpoint appended counts once it has read that, or has met another endpoint.
  * - A new endpoint of linnetshelf_split has seen the end at which the queue was created or opened. What its parent appended,
  *   read or learned by linnetshelf_meet does not count for it.
@@ -332,10 +331,9 @@ linnetshelf_answer linnetshelf_next(linnetshelf_handle *endpoint, void *room, si
 linnetshelf_many linnetshelf_next_many(linnetshelf_handle *endpoint, void *room, size_t size, linnetshelf_answer *answers,
                                        size_t count);
 
-/* Returns the index and the length of the next message in the endpoint's direction. The endpoint stays where it is, and the next
- * read finds the message, unless its cycle is dropped. The call makes a copy of the message, and frees it. To get the length alone
- * call linnetshelf_next with a size of 0: its answer NO_ROOM has the length, and no memory is taken.
- * NOT_YET and FINISHED (forwards), BEFORE_START (backwards), OUT_OF_MEMORY (there is no memory for the copy). */
+/* Returns the index and the length of the next message in the endpoint's direction. The message is not read or copied, and the
+ * endpoint stays where it is. The next read finds the message, unless its cycle is dropped.
+ * NOT_YET and FINISHED (forwards), BEFORE_START (backwards). */
 linnetshelf_answer linnetshelf_peek(linnetshelf_handle *endpoint);
 
 /* Reads the message with this index into the buffer `room`, and returns its length. The endpoint stays where it is. NOT_YET,

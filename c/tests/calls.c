@@ -119,8 +119,9 @@ static void next_message_is_peeked(void) {
     CHECK(is_answer(linnetshelf_peek(&queue), first + 1, 5) && linnetshelf_cursor(&queue).index == first + 1);
     CHECK(is_message(linnetshelf_next(&queue, room, sizeof room), first + 1, room, "three"));
 
-    /* The next message is in a later cycle, and the endpoint stays at the end of the one before. */
+    /* The next message is in a later cycle. The endpoint stays at the end of the one before, and has not seen that cycle. */
     CHECK(is_answer(linnetshelf_peek(&queue), later, 7) && linnetshelf_cursor(&queue).index == first + 2);
+    CHECK(linnetshelf_drop_before(&queue, 7).status == STATUS(NOT_SEEN));
     CHECK(linnetshelf_direction(&queue, LINNETSHELF_BACKWARDS) == STATUS(DONE));
     CHECK(is_answer(linnetshelf_peek(&queue), first + 1, 5) && linnetshelf_cursor(&queue).index == first + 2);
     CHECK(linnetshelf_to_start(&queue) == STATUS(DONE));

@@ -575,10 +575,10 @@ class Endpoint(Owner):
     def peek(self) -> Peeked | None:
         """Returns the index and the length of the next message, or None if there is none yet. It is not read.
 
-        The endpoint stays where it is, and the next read finds the message, unless its cycle is dropped. The library makes a
-        copy of the message, and frees it.
+        The endpoint stays where it is, and the next read finds the message, unless its cycle is dropped. The message is not
+        copied.
 
-        Finished: there is none, and none will come. OutOfMemory: there is no memory for the copy.
+        Finished: there is none, and none will come.
         """
         left = self._ahead.left()
         if left:
@@ -590,20 +590,10 @@ class Endpoint(Owner):
         check(answer.status)
         return Peeked(Index(answer.index), answer.length)
 
-    def _has_next(self) -> bool:
-        """Returns whether there is a next message. It is not read. Finished: there is none, and none will come."""
-        if self._ahead.has_left():
-            self._live()
-            return True
-        answer = library.next(self._live(), self._buffer[1], 0)
-        if answer.status == Status.FINISHED:
-            raise error_of(answer.status)
-        return answer.status == Status.NO_ROOM
-
     def wait(self, timeout: float | None = None) -> bool:
         """Waits until there is a next message; returns False if none came within `timeout` seconds, or none will come."""
         try:
-            return until(lambda: self._has_next() or None, timeout) is not None
+            return until(self.peek, timeout) is not None
         except Finished:
             return False
 

@@ -1,10 +1,9 @@
 -- What the answers of calls are for C.
-use Rattle.std.specs.Prelude.{◌≡◌, ℕ, Bool, true, false, Option, Some, None, Result, Ok, Err, length}
-use Rattle.std.specs.declared.alloc.AllocError.{AllocError}
-use Rattle.cq_endpoint.specs.declared.answers.Next.{Next}
-use Rattle.cq_endpoint.specs.declared.answers.Next.TheVariants as next
+use Rattle.std.specs.Prelude.{◌≡◌, ℕ, Bool, true, false, Option, Some, None, Result, Ok, Err}
 use Rattle.cq_endpoint.specs.declared.answers.NextInto.{NextInto}
 use Rattle.cq_endpoint.specs.declared.answers.NextInto.TheVariants as found
+use Rattle.cq_endpoint.specs.declared.answers.NextPeeked.{NextPeeked}
+use Rattle.cq_endpoint.specs.declared.answers.NextPeeked.TheVariants as peeked
 use Rattle.cq_endpoint.specs.declared.answers.ReadAtInto.{ReadAtInto}
 use Rattle.cq_endpoint.specs.declared.answers.ReadAtInto.TheVariants as at
 use Rattle.cq_endpoint.specs.declared.answers.TakenInto.{TakenInto}
@@ -176,12 +175,11 @@ found_answer found.Finished = plain status.Finished
 found_answer found.BeforeStart = plain status.BeforeStart
 
 -- what `peek` answers: the index and the length of the message
-abbrev pub peek_answer : Result Next AllocError → Answer
-peek_answer (Ok (next.Message index message)) = read index (length message)
-peek_answer (Ok next.NotYet) = plain status.NotYet
-peek_answer (Ok next.Finished) = plain status.Finished
-peek_answer (Ok next.BeforeStart) = plain status.BeforeStart
-peek_answer (Err e) = plain status.OutOfMemory
+abbrev pub peek_answer : NextPeeked → Answer
+peek_answer (peeked.Message index len) = read index len
+peek_answer peeked.NotYet = plain status.NotYet
+peek_answer peeked.Finished = plain status.Finished
+peek_answer peeked.BeforeStart = plain status.BeforeStart
 
 -- what `read_at` answers
 abbrev pub at_answer : ReadAtInto → Answer

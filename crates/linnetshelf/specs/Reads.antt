@@ -1,13 +1,11 @@
 -- What the calls say that move an endpoint, drop cycles, or take a name.
 use Rattle.std.specs.Prelude.{◌≡◌, ◌≢◌, ◌⊎◌, ℕ, ◌<◌, ◌≤◌, List, Option, Some, None, Result, Ok, Err}
 use Rattle.std.specs.Str.{IsUtf8}
-use Rattle.std.specs.declared.alloc.AllocError.{AllocError}
 use Rattle.cq_cycle.specs.Index.{cycle_in}
 use Rattle.cq_endpoint.specs.Endpoints.{EndpointFacts, child, endpoint_of}
 use Rattle.cq_endpoint.specs.Faults.{SeekFails}
 use Rattle.cq_endpoint.specs.Meetings.{EndpointsMet}
-use Rattle.cq_endpoint.specs.Reads.{NextFails, Peeks, TakeIntoSays}
-use Rattle.cq_endpoint.specs.declared.answers.Next.{Next}
+use Rattle.cq_endpoint.specs.Reads.{TakeIntoSays}
 use Rattle.cq_endpoint.specs.declared.answers.TakenInto.{TakenInto}
 use Rattle.cq_endpoint.specs.declared.fault.NotSeen.{NotSeen}
 use Rattle.cq_endpoint.specs.declared.fault.SeekFault.{SeekFault}
@@ -20,7 +18,6 @@ use Rattle.cq_tail.specs.declared.answers.Direction.{Direction}
 use Rattle.cq_tail.specs.declared.answers.Direction.TheVariants as direction
 use Rattle.cq_tail.specs.declared.answers.Sought.{Sought}
 use Rattle.cq_tail.specs.declared.error.NoSuchName.{NoSuchName}
-use Rattle.cq_words.specs.Values.{QueueFacts}
 use Rattle.linnetshelf.specs.Makes.{parent_of}
 
 -- the number that C has for a direction
@@ -48,11 +45,6 @@ pub record LooksUpEnd (old new : EndpointFacts) (end : ℕ) : Type 0 where
 abbrev pub SeesEnd : EndpointFacts → EndpointFacts → Option ℕ → Type 0
 SeesEnd old new (Some end) = LooksUpEnd old new end
 SeesEnd old new None = new ≡ old
-
--- the next message was read, and the endpoint went back to where it was; or memory for the message was refused
-abbrev pub PeeksNext : QueueFacts → TailerFacts → TailerFacts → Result Next AllocError → Type 0
-PeeksNext queue old new (Ok n) = Peeks queue old new n
-PeeksNext queue old new (Err e) = NextFails queue old new
 
 -- the cycles below this one were dropped; or it lies behind the end that the endpoint has seen, and nothing changed
 abbrev pub Drops : EndpointFacts → EndpointFacts → ℕ → Result ℕ NotSeen → Type 0

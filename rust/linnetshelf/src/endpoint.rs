@@ -203,16 +203,12 @@ impl Endpoint {
         (!matches!(answer.status, NOT_YET | BEFORE_START)).then_some(answer)
     }
 
-    /// Returns the index and the length of the next message, or `None` if there is none yet. The endpoint stays where it is, and
-    /// the next read finds the message, unless its cycle is dropped.
-    ///
-    /// The library makes a copy of the message, and frees it. To get the length alone call [`Endpoint::next`] with an empty buffer:
-    /// its [`Error::NoRoom`] has the length, and no memory is taken.
+    /// Returns the index and the length of the next message, or `None` if there is none yet. The message is not read or copied, and
+    /// the endpoint stays where it is. The next read finds the message, unless its cycle is dropped.
     ///
     /// # Errors
     ///
-    /// [`Error::Finished`]: there is none, and none will come. [`Error::OutOfMemory`]: there is no memory for the copy.
-    /// [`Error::WrongKind`].
+    /// [`Error::Finished`]: there is none, and none will come. [`Error::WrongKind`].
     pub fn peek(&mut self) -> Result<Option<Peeked>, Error> {
         let answer = self.handle.peek();
         if matches!(answer.status, NOT_YET | BEFORE_START) {
@@ -220,19 +216,6 @@ impl Endpoint {
         }
         let Answer { index, length, .. } = Error::done(answer)?;
         Ok(Some(Peeked { index: Index(index), length: length as usize }))
-    }
-
-    /// Returns whether there is a next message. It is not read.
-    ///
-    /// # Errors
-    ///
-    /// [`Error::Finished`]: there is none, and none will come. [`Error::WrongKind`].
-    #[cfg(feature = "std")]
-    pub(crate) fn has_next(&mut self) -> Result<bool, Error> {
-        match self.next(&mut []) {
-            Err(Error::NoRoom { .. }) => Ok(true),
-            other => other.map(|found| found.is_some()),
-        }
     }
 
     /// Reads the message with this index into a buffer. The endpoint stays where it is.

@@ -135,9 +135,9 @@ impl Endpoint {
     ///
     /// [`Error::WrongKind`].
     pub fn wait(&mut self, timeout: Option<Duration>) -> Result<bool, Error> {
-        match until(timeout, || self.has_next().map(|found| found.then_some(())).transpose()) {
+        match until(timeout, || self.peek().transpose()) {
             None | Some(Err(Error::Finished)) => Ok(false),
-            Some(found) => found.map(|()| true),
+            Some(found) => found.map(|_| true),
         }
     }
 
