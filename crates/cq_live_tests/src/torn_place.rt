@@ -99,8 +99,10 @@ impl LogPlace<TornFile> for TornPlace {
     fn open(&mut self, alloc: Global) -> Result<FoundLog<TornFile>, OpenFault> {
         let found = self.matter.log(alloc);
         self.state = match &found {
-            Ok(log) if log.is_replaced => PlaceState::Replaced,
-            Ok(_) => PlaceState::Free,
+            Ok(log) => PlaceState::Opened {
+                is_replaced: log.is_replaced,
+                bytes: log.bytes.len(),
+            },
             Err(fault) => PlaceState::Refused(*fault),
         };
         found
