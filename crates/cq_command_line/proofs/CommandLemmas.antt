@@ -1,58 +1,68 @@
 -- A command that is built step by step.
-use Rattle.std.proofs.Common.{◌≡◌, ◌∙◌, ◌+◌, ◌<◌, ◌∷◌, ◌++◌, [], List, ap, ap₂, get_or, length, refl, subst, sym, take, ℕ}
+use Rattle.std.proofs.Common.{◌≡◌, ◌∙◌, ◌+◌, ◌<◌, ◌∷◌, ◌++◌, ◌&&◌, [], Bool, List, false, true, ap, ap₂, arith, get_or, length, not, refl, subst, sym, take, ℕ}
+use Rattle.std.proofs.lemmas.Bool.Decides.{nat_tests}
 use Rattle.std.proofs.lemmas.List.{take_more}
-use Rattle.std.proofs.lemmas.List.Sums.{fold-append}
+use Rattle.std.specs.Borrow.{Bor}
 use Rattle.clap.specs.Words.{AddsArg, AddsInTurn, AddsSubcommand, App, Rule, with_rule, with_subcommand}
+use Rattle.clap.specs.Walk.{is_empty}
 use Rattle.clap.specs.declared.builder.arg.Arg.{Arg}
 use Rattle.clap.specs.declared.builder.command.Command.{Command}
-use Rattle.cq_command_line.specs.CommandLine.{Follows, Makes, MakesAll, command_for, rule_for, with_arguments, with_commands}
+use Rattle.cq_command_line.specs.CommandLine.{FollowAll, Follows, Makes, MakesAll, Pairwise, command_for, rule_for, with_arguments, with_commands}
 use Rattle.cq_command_line.specs.declared.arguments.Argument.{Argument}
 use Rattle.cq_command_line.specs.declared.commands.Description.{Description}
 
-pub made-with_rule : (old new : Command) (arg : Arg) (app : App) (rule : Rule) → AddsArg old arg new → Makes old app → Follows arg rule
+no_items : {A : Type 0} (exclusive : Bool) (xs : List A) (others : Bool) → (not exclusive && (is_empty xs && others)) ≡ true → xs ≡ []
+no_items false [] others is = refl
+no_items false (x ∷ xs) others is = absurd (grind (arith, nat_tests))
+no_items true xs others is = cc
+
+-- an argument whose rule allows all others
+pub without_conflicts : (arg : Arg) (rule : Rule) → rule.is_free ≡ true → Follows arg rule → (arg.conflicts.items ≡ []) × (arg.global ≡ false)
+without_conflicts arg rule free follows = (no_items arg.exclusive arg.conflicts.items _ (ap (λ (r : Rule). r.is_free) follows.is ∙ free), follows.local)
+
+made-with_rule : (old new : Command) (arg : Arg) (app : App) (rule : Rule) → AddsArg old arg new → Makes old app → Follows arg rule
     → Makes new (with_rule app rule)
 made-with_rule old new arg app rule adds makes follows = record {
   is = adds.shape follows.local ∙ ap₂ with_rule makes.is follows.is;
   local = adds.globals ∙ (rw (makes.local, follows.local) refl);
 }
 
--- one more argument of a list of them
-pub made-with_more : (old new : Command) (arg : Arg) (app : App) (arguments : List Argument) (i : ℕ) (argument : Argument) → i < length arguments
-    → AddsArg old arg new → Makes old (with_arguments app (take i arguments)) → Follows arg (rule_for (get_or arguments i argument))
-    → Makes new (with_arguments app (take (i + 1) arguments))
-made-with_more old new arg app arguments i argument below adds makes follows =
-    let more = ap (with_arguments app) (take_more arguments i argument below)
-    ∙ fold-append (λ before next. with_rule before (rule_for next)) app (take i arguments) (get_or arguments i argument ∷ []) in
-    subst (Makes new) (sym more) (made-with_rule old new arg _ _ adds makes follows)
-
-pub made-with_subcommand : (old new sub : Command) (app inner : App) → AddsSubcommand old sub new → Makes old app → Makes sub inner
+made-with_subcommand : (old new sub : Command) (app inner : App) → AddsSubcommand old sub new → Makes old app → Makes sub inner
     → Makes new (with_subcommand app inner.top)
 made-with_subcommand old new sub app inner adds makes within = record {
   is = adds.shape within.local ∙ ap₂ with_subcommand makes.is (ap (λ (a : App). a.top) within.is);
   local = adds.globals ∙ (rw (makes.local, within.local) refl);
 }
 
--- one more command of a list of them
-pushed : (commands : List Command) (descriptions : List Description) (command : Command) (description : Description)
-    → MakesAll commands descriptions → Makes command (command_for description)
-    → MakesAll (commands ++ command ∷ []) (descriptions ++ description ∷ [])
-pushed [] [] command description made makes = (makes, tt)
-pushed (first ∷ rest) (told ∷ others) command description made makes = (made.0, pushed rest others command description made.1 makes)
-pushed [] (told ∷ others) command description made makes = absurd made
-pushed (first ∷ rest) [] command description made makes = absurd made
+-- one more item of each of two lists
+one_more : {A B : Type 0} (R : A → B → Type 0) (xs : List A) (ys : List B) (x : A) (y : B) → Pairwise R xs ys → R x y
+    → Pairwise R (xs ++ x ∷ []) (ys ++ y ∷ [])
+one_more R [] [] x y so_far next = (next, tt)
+one_more R (first ∷ xs) (other ∷ ys) x y so_far next = (so_far.0, one_more R xs ys x y so_far.1 next)
+one_more R [] (other ∷ ys) x y so_far next = absurd so_far
+one_more R (first ∷ xs) [] x y so_far next = absurd so_far
 
-pub made_more : (before after : List Command) (command : Command) (descriptions : List Description) (i : ℕ) (description : Description)
-    → i < length descriptions → after ≡ before ++ command ∷ [] → MakesAll before (take i descriptions)
-    → Makes command (command_for (get_or descriptions i description)) → MakesAll after (take (i + 1) descriptions)
-made_more before after command descriptions i description below is made makes =
-    subst (λ commands. MakesAll commands (take (i + 1) descriptions)) (sym is)
-    (subst (MakesAll (before ++ command ∷ [])) (sym (take_more descriptions i description below)) (pushed before _ command _ made makes))
+-- one more item of a list that is gone over
+pub pushed : {A B : Type 0} (R : A → B → Type 0) (before after : List A) (ys : List B) (i : ℕ) (x : A) (y : B) → i < length ys
+    → after ≡ before ++ x ∷ [] → Pairwise R before (take i ys) → R x (get_or ys i y) → Pairwise R after (take (i + 1) ys)
+pushed R before after ys i x y below is so_far next =
+    subst (λ xs. Pairwise R xs (take (i + 1) ys)) (sym is)
+    (subst (Pairwise R (before ++ x ∷ [])) (sym (take_more ys i y below)) (one_more R before _ x _ so_far next))
+
+-- a command with all of a list of arguments
+pub made-with_arguments : (args : List Arg) (arguments : List Argument) (old new : Command) (app : App) → AddsInTurn AddsArg old args new
+    → Makes old app → FollowAll args arguments → Makes new (with_arguments app arguments)
+made-with_arguments [] [] old new app adds makes follow = subst (λ command. Makes command app) adds makes
+made-with_arguments (arg ∷ args) (argument ∷ arguments) old new app adds makes follow =
+    made-with_arguments args arguments adds.0 new _ adds.2 (made-with_rule old adds.0 arg app (rule_for argument) adds.1 makes follow.0) follow.1
+made-with_arguments [] (argument ∷ arguments) old new app adds makes follow = absurd follow
+made-with_arguments (arg ∷ args) [] old new app adds makes follow = absurd follow
 
 -- a command with all of a list of commands below it
-pub made-with_commands : (commands : List Command) (descriptions : List Description) (old new : Command) (app : App)
+pub made-with_commands : (commands : List Command) (descriptions : List (Bor Description)) (old new : Command) (app : App)
     → AddsInTurn AddsSubcommand old commands new → Makes old app → MakesAll commands descriptions → Makes new (with_commands app descriptions)
 made-with_commands [] [] old new app adds makes made = subst (λ command. Makes command app) adds makes
 made-with_commands (first ∷ rest) (told ∷ others) old new app adds makes made =
-    made-with_commands rest others adds.0 new _ adds.2 (made-with_subcommand old adds.0 first app (command_for told) adds.1 makes made.0) made.1
+    made-with_commands rest others adds.0 new _ adds.2 (made-with_subcommand old adds.0 first app (command_for told.now) adds.1 makes made.0) made.1
 made-with_commands [] (told ∷ others) old new app adds makes made = absurd made
 made-with_commands (first ∷ rest) [] old new app adds makes made = absurd made

@@ -1,5 +1,6 @@
 -- The command line of the program, in the words of clap.
 use Rattle.std.specs.Prelude.{◌≡◌, ◌&&◌, ℕ, ◌-◌, ◌^◌, List, [], ◌∷◌, true, false, codes, fold, Some, ⊤}
+use Rattle.std.specs.Borrow.{Bor}
 use Rattle.clap.specs.Words.{App, Rule, app_of, new_app, new_rule, rule_of, with_rule, with_subcommand}
 use Rattle.clap.specs.Walk.{is_empty}
 use Rattle.clap.specs.declared.builder.arg.Arg.{Arg}
@@ -105,9 +106,9 @@ abbrev pub command_for : Description → App
 command_for description = with_arguments (bare_command description) description.arguments.now
 
 -- the program with these commands behind those that it has
-abbrev pub with_commands : App → List Description → App
+abbrev pub with_commands : App → List (Bor Description) → App
 with_commands app [] = app
-with_commands app (first ∷ rest) = with_commands (with_subcommand app (command_for first).top) rest
+with_commands app (first ∷ rest) = with_commands (with_subcommand app (command_for first.now).top) rest
 
 -- the program without its commands, of which one is to be named. It has a version
 abbrev pub program : App
@@ -252,9 +253,17 @@ pub record Makes (command : Command) (app : App) : Type 0 where
   pub is : app_of command ≡ app
   pub local : (out-Command command).has_globals ≡ false
 
+-- of two lists of one length, each item of the first has this to do with the one at its place in the second
+abbrev pub Pairwise : {A B : Type 0} → (A → B → Type 0) → List A → List B → Type 0
+Pairwise R [] [] = ⊤
+Pairwise R (x ∷ xs) (y ∷ ys) = R x y × Pairwise R xs ys
+Pairwise R [] (y ∷ ys) = ⊥
+Pairwise R (x ∷ xs) [] = ⊥
+
+-- the arguments follow the rules of these, in their order
+abbrev pub FollowAll : List Arg → List Argument → Type 0
+FollowAll args arguments = Pairwise (λ arg argument. Follows arg (rule_for argument)) args arguments
+
 -- the commands are those with these descriptions, in their order
-abbrev pub MakesAll : List Command → List Description → Type 0
-MakesAll [] [] = ⊤
-MakesAll (command ∷ commands) (description ∷ descriptions) = Makes command (command_for description) × MakesAll commands descriptions
-MakesAll [] (description ∷ descriptions) = ⊥
-MakesAll (command ∷ commands) [] = ⊥
+abbrev pub MakesAll : List Command → List (Bor Description) → Type 0
+MakesAll commands descriptions = Pairwise (λ command description. Makes command (command_for description.now)) commands descriptions

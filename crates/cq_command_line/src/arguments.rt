@@ -1,7 +1,7 @@
 //! The arguments of a command.
 ghost use Rattle.std.specs.Prelude.{◌≡◌, [], false, IfOk};
 ghost use Rattle.clap.specs.Words.{rule_of};
-ghost use Rattle.cq_command_line.specs.CommandLine.{Follows, rule_for};
+ghost use Rattle.cq_command_line.specs.CommandLine.{FollowAll, Follows, rule_for};
 ghost use Rattle.cq_command_line.specs.CommandLine.{against, between_rule, flag_rule, number_rule, option_between_rule, option_rule, word_rule, words_rule, maybe_rule};
 
 use clap::builder::ValueParser;
@@ -35,8 +35,19 @@ pub(crate) enum Argument {
     Maybe(&'static str, &'static str),
 }
 
+/// Returns the arguments as values of `clap`.
+pub(crate) fn args_of<'a>(alloc: Global, arguments: &[Argument]) -> Result<Vec<Arg<'a>>, AllocError>
+    ensures { IfOk result (λ args. FollowAll args.items arguments.now) }
+{
+    let mut args = Vec::new(alloc);
+    for argument in arguments {
+        args.push(arg(alloc, *argument)?)?;
+    }
+    Ok(args)
+}
+
 /// Returns the argument as a value of `clap`.
-pub(crate) fn arg<'a>(alloc: Global, argument: Argument) -> Result<Arg<'a>, AllocError>
+fn arg<'a>(alloc: Global, argument: Argument) -> Result<Arg<'a>, AllocError>
     ensures { IfOk result (λ arg. Follows arg (rule_for argument)) }
 {
     match argument {

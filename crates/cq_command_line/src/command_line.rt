@@ -1,7 +1,6 @@
 //! The program's commands and their arguments, as `clap` is given them.
 ghost use Rattle.std.specs.Prelude.{IfOk};
-ghost use Rattle.clap.specs.Words.{App};
-ghost use Rattle.cq_command_line.specs.CommandLine.{Makes, care_commands, command_line, image_commands, message_commands, plain_commands};
+ghost use Rattle.cq_command_line.specs.CommandLine.{Makes, command_line};
 
 use crate::arguments::Argument;
 use crate::commands::{Description, commands};
@@ -15,45 +14,21 @@ const VERSION: &str = "0.1.0";
 pub(crate) fn command_line<'a>(alloc: Global) -> Result<Command<'a>, AllocError>
     ensures { IfOk result (λ command. Makes command command_line) }
 {
-    let program = Command::new(alloc, "cq")
+    let commands = commands(
+        alloc,
+        &[
+            &ECHO, &CYCLE, &RACE, &EXPLAIN, &INIT, &NEW, &WRITE, &LOG, &READ, &TAKE, &DROP, &TRIM,
+            &NAME, &MIGRATE, &STAT, &CHECK, &DUMP, &SALVAGE, &REPAIR,
+        ],
+    )?;
+    Command::new(alloc, "cq")
         .about("An append journal")
         .version(VERSION)
-        .subcommand_required(true);
-    let plain = with_plain_commands(alloc, program)?;
-    let with_messages = with_message_commands(alloc, plain)?;
-    let with_care = with_care_commands(alloc, with_messages)?;
-    with_image_commands(alloc, with_care)
+        .subcommand_required(true)
+        .subcommands(commands)
 }
 
-/// Adds the commands that need no folder.
-fn with_plain_commands<'a>(alloc: Global, program: Command<'a>) -> Result<Command<'a>, AllocError>
-    ensures { (app : App) → Makes program.entry app → IfOk result (λ made. Makes made (plain_commands app)) }
-{
-    program.subcommands(commands(alloc, &[ECHO, CYCLE, RACE, EXPLAIN])?)
-}
-
-/// Adds the commands on the messages of a queue that is stored in a folder.
-fn with_message_commands<'a>(alloc: Global, program: Command<'a>) -> Result<Command<'a>, AllocError>
-    ensures { (app : App) → Makes program.entry app → IfOk result (λ made. Makes made (message_commands app)) }
-{
-    program.subcommands(commands(alloc, &[INIT, NEW, WRITE, LOG, READ, TAKE])?)
-}
-
-/// Adds the commands that look after such a queue.
-fn with_care_commands<'a>(alloc: Global, program: Command<'a>) -> Result<Command<'a>, AllocError>
-    ensures { (app : App) → Makes program.entry app → IfOk result (λ made. Makes made (care_commands app)) }
-{
-    program.subcommands(commands(alloc, &[DROP, TRIM, NAME, MIGRATE, STAT])?)
-}
-
-/// Adds the commands that look at its images.
-fn with_image_commands<'a>(alloc: Global, program: Command<'a>) -> Result<Command<'a>, AllocError>
-    ensures { (app : App) → Makes program.entry app → IfOk result (λ made. Makes made (image_commands app)) }
-{
-    program.subcommands(commands(alloc, &[CHECK, DUMP, SALVAGE, REPAIR])?)
-}
-
-const ECHO: Description = Description {
+static ECHO: Description = Description {
     name: "echo",
     about: "Stores each line of the input, and prints it with its number",
     after_help: "Input: at most 129,000 bytes, in at most 1,000 lines of 1 to 128 bytes\n\n\
@@ -61,7 +36,7 @@ const ECHO: Description = Description {
     arguments: &[],
 };
 
-const CYCLE: Description = Description {
+static CYCLE: Description = Description {
     name: "cycle",
     about: "Prints the cycle of a moment, its name and its first index",
     after_help: "Example:\n  cq cycle daily 0 $(date +%s%3N)",
@@ -76,7 +51,7 @@ const CYCLE: Description = Description {
     ],
 };
 
-const RACE: Description = Description {
+static RACE: Description = Description {
     name: "race",
     about: "Lets two appenders and two tailers share a new queue, each in a thread of its own",
     after_help: "Prints 'writer W: K in order' for the writers 0 and 1: both readers read the first K\n\
@@ -91,7 +66,7 @@ const RACE: Description = Description {
     )],
 };
 
-const EXPLAIN: Description = Description {
+static EXPLAIN: Description = Description {
     name: "explain",
     about: "Prints what a fault means, and what to do",
     after_help: "It explains the faults whose texts have WORDS in them, or the one whose message WORDS are. Without WORDS it\n\
@@ -100,7 +75,7 @@ const EXPLAIN: Description = Description {
     arguments: &[Argument::Words("WORDS", "Words of the text of a fault")],
 };
 
-const INIT: Description = Description {
+static INIT: Description = Description {
     name: "init",
     about: "Makes a queue in a folder",
     after_help: "Example:\n  mkdir journal && cq init journal daily 0 65536 32 1 8 reader",
@@ -128,7 +103,7 @@ const INIT: Description = Description {
     ],
 };
 
-const NEW: Description = Description {
+static NEW: Description = Description {
     name: "new",
     about: "Makes a folder with a queue, and prints the line of 'init' that does the same",
     after_help: "A folder without a queue may be there already. EPOCH is 0. COUNT and SPACING are chosen by the cells: the\n\
@@ -163,7 +138,7 @@ const NEW: Description = Description {
     ],
 };
 
-const WRITE: Description = Description {
+static WRITE: Description = Description {
     name: "write",
     about: "Appends each line of the input",
     after_help: "Input: at most 8,388,608 bytes, of which no line is empty, and all fit into one cycle\n\n\
@@ -188,7 +163,7 @@ const WRITE: Description = Description {
     ],
 };
 
-const LOG: Description = Description {
+static LOG: Description = Description {
     name: "log",
     about: "Keeps a queue open: appends each line as it comes, and prints its index once it is stored",
     after_help: "Input: until it ends, lines that are not empty, each in a cycle with room for it. A line has the time\n\
@@ -224,7 +199,7 @@ const LOG: Description = Description {
     ],
 };
 
-const READ: Description = Description {
+static READ: Description = Description {
     name: "read",
     about: "Prints the messages in order",
     after_help: "Without --text, --null, --hex and --json it prints the index, a space and the message, on a line.\n\
@@ -296,7 +271,7 @@ const READ: Description = Description {
     ],
 };
 
-const TAKE: Description = Description {
+static TAKE: Description = Description {
     name: "take",
     about: "Prints the next message of a tailer, and moves the tailer behind it",
     after_help: "With an option it prints nothing where no message has come, and its status is 4 then. Without one it\n\
@@ -329,7 +304,7 @@ const TAKE: Description = Description {
     ],
 };
 
-const DROP: Description = Description {
+static DROP: Description = Description {
     name: "drop",
     about: "Lets reads pass over old cycles, and prints the first one that they look at",
     after_help: "Example:\n  cq drop journal 20005",
@@ -342,7 +317,7 @@ const DROP: Description = Description {
     ],
 };
 
-const TRIM: Description = Description {
+static TRIM: Description = Description {
     name: "trim",
     about: "Removes the images of dropped cycles, so that as many may begin again, and prints their names",
     after_help: "Without --keep and --before it drops no cycle: it removes the images of those that 'drop' dropped.\n\
@@ -372,14 +347,14 @@ const TRIM: Description = Description {
     ],
 };
 
-const CHECK: Description = Description {
+static CHECK: Description = Description {
     name: "check",
     about: "Says of each image what it holds, or what is wrong with it",
     after_help: "Example:\n  cq check journal",
     arguments: &[FOLDER],
 };
 
-const STAT: Description = Description {
+static STAT: Description = Description {
     name: "stat",
     about: "Prints the settings of a queue, its cycles, its names, and what is left",
     after_help: "Prints a line each: 'version', 'roll', 'epoch', 'cells', 'count', 'spacing' and 'cycles' with the\n\
@@ -394,21 +369,21 @@ const STAT: Description = Description {
     ],
 };
 
-const DUMP: Description = Description {
+static DUMP: Description = Description {
     name: "dump",
     about: "Prints the records of an image",
     after_help: "Example:\n  cq dump journal $(date -u +%Y%m%d).cqi",
     arguments: &[FOLDER, IMAGE_FILE],
 };
 
-const SALVAGE: Description = Description {
+static SALVAGE: Description = Description {
     name: "salvage",
     about: "Prints the messages in front of what is wrong with an image, and what that is",
     after_help: "Example:\n  cq salvage journal $(date -u +%Y%m%d).cqi",
     arguments: &[FOLDER, IMAGE_FILE],
 };
 
-const REPAIR: Description = Description {
+static REPAIR: Description = Description {
     name: "repair",
     about: "Makes the messages before the fault of an image the image, and keeps the old file as FILE.bad",
     after_help: "The messages are those that 'salvage' prints.\n\n\
@@ -420,7 +395,7 @@ const REPAIR: Description = Description {
     ],
 };
 
-const MIGRATE: Description = Description {
+static MIGRATE: Description = Description {
     name: "migrate",
     about: "Makes a folder of version 1 one of version 2, in which each cycle has 3 more cells",
     after_help: "The first line of queue.cqc tells the version: 'cq 1' or 'cq 2'. A folder of version 2 stays\n\
@@ -429,7 +404,7 @@ const MIGRATE: Description = Description {
     arguments: &[FOLDER],
 };
 
-const NAME: Description = Description {
+static NAME: Description = Description {
     name: "name",
     about: "Prints the names of the tailers with their positions, adds and removes names, and moves them",
     after_help: "'list' prints a line for each name: NAME and its position. 'add NAME' adds a name at W of --at, and\n\

@@ -1,9 +1,8 @@
 //! Commands with their arguments.
 ghost use Rattle.std.specs.Prelude.{IfOk};
-ghost use Rattle.clap.specs.Words.{App};
-ghost use Rattle.cq_command_line.specs.CommandLine.{Makes, MakesAll, command_for, bare_command, with_arguments};
+ghost use Rattle.cq_command_line.specs.CommandLine.{Makes, MakesAll, command_for};
 
-use crate::arguments::{Argument, arg};
+use crate::arguments::{Argument, args_of};
 use clap::Command;
 use std::alloc::{AllocError, Global};
 
@@ -19,7 +18,7 @@ pub(crate) struct Description {
 /// Returns the commands with these descriptions.
 pub(crate) fn commands<'a>(
     alloc: Global,
-    descriptions: &[Description],
+    descriptions: &[&Description],
 ) -> Result<Vec<Command<'a>>, AllocError>
     ensures { IfOk result (λ commands. MakesAll commands.items descriptions.now) }
 {
@@ -34,32 +33,9 @@ pub(crate) fn commands<'a>(
 fn command<'a>(alloc: Global, description: &Description) -> Result<Command<'a>, AllocError>
     ensures { IfOk result (λ command. Makes command (command_for description.now)) }
 {
-    with_arguments(
-        alloc,
-        bare_command(alloc, description),
-        description.arguments,
-    )
-}
-
-/// Returns the command without its arguments.
-fn bare_command<'a>(alloc: Global, description: &Description) -> Command<'a>
-    ensures { Makes result (bare_command description.now) }
-{
+    let args = args_of(alloc, description.arguments)?;
     Command::new(alloc, description.name)
         .about(description.about)
         .after_help(description.after_help)
-}
-
-/// Returns the command with these arguments after those that it has.
-fn with_arguments<'a>(
-    alloc: Global,
-    mut command: Command<'a>,
-    arguments: &[Argument],
-) -> Result<Command<'a>, AllocError>
-    ensures { (app : App) → Makes command.entry app → IfOk result (λ made. Makes made (with_arguments app arguments.now)) }
-{
-    for argument in arguments {
-        command = command.arg(arg(alloc, *argument)?)?;
-    }
-    Ok(command)
+        .args(args)
 }

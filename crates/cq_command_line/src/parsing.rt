@@ -99,26 +99,23 @@ fn order_in<'a>(
     let matches = command.try_get_matches_from_mut(words)?;
     match order_met(alloc, &matches) {
         Ok(order) => Ok(order),
-        Err(OrderFault::OutOfMemory) => Err(ParseFault::OutOfMemory),
-        Err(OrderFault::NoOrder) => Err(
-            command
-                .error(ErrorKind::InvalidSubcommand, "unknown command")?
-                .into(),
-        ),
-        Err(OrderFault::NoAction) => Err(
-            command
-                .error(ErrorKind::InvalidSubcommand, NO_ACTION)?
-                .into(),
-        ),
-        Err(OrderFault::NoFollow) => Err(
-            command
-                .error(ErrorKind::MissingRequiredArgument, NO_FOLLOW)?
-                .into(),
-        ),
-        Err(OrderFault::NoMoment(text)) => Err(
-            command
-                .error(ErrorKind::ValueValidation, text.as_str())?
-                .into(),
-        ),
+        Err(fault) => Err(said(command, fault)),
+    }
+}
+
+/// Returns the fault that says why what was found is no order.
+fn said<'a>(command: &mut Command<'a>, fault: OrderFault) -> ParseFault
+    ensures { HasOwnKind result }
+{
+    let error = match fault {
+        OrderFault::OutOfMemory => return ParseFault::OutOfMemory,
+        OrderFault::NoOrder => command.error(ErrorKind::InvalidSubcommand, "unknown command"),
+        OrderFault::NoAction => command.error(ErrorKind::InvalidSubcommand, NO_ACTION),
+        OrderFault::NoFollow => command.error(ErrorKind::MissingRequiredArgument, NO_FOLLOW),
+        OrderFault::NoMoment(text) => command.error(ErrorKind::ValueValidation, text.as_str()),
+    };
+    match error {
+        Ok(error) => error.into(),
+        Err(error) => error.into(),
     }
 }

@@ -1,12 +1,12 @@
 use Rattle.std.proofs.Common.{subst}
 use Rattle.std.proofs.lemmas.List.{take_all}
 use Rattle.cq_command_line.specs.CommandLine.{MakesAll}
-use Rattle.cq_command_line.proofs.CommandLemmas.{made_more}
+use Rattle.cq_command_line.proofs.CommandLemmas.{pushed}
 use Rattle.cq_command_line.proofs.commands.commands.Goals as goal
 
 pub loop-description-preserved : goal.loop-description-preserved
 loop-description-preserved c =
-    made_more c.loop-description.commands.items c.push.new.self.items c.in_ok-command.field-0 c.args.descriptions.now c.loop-description.description-index _
+    pushed _ c.loop-description.commands.items c.push.new.self.items c.args.descriptions.now c.loop-description.description-index c.in_ok-command.field-0 _
     c.loop-description-test.true c.in_ok-push.ensures.items c.loop-description.invariant c.in_ok-command.ensures
 
 pub returns : goal.returns

@@ -1,4 +1,4 @@
-use Rattle.std.proofs.Common.{◌≡◌, ◌≢◌, List, [], ◌∷◌, option_map, codes, true, Option, Some, Result, Ok, Err, IfErr, IfSome, IsErrAnd, MatchResult, refl, sym, ap, ap₂, subst, ◌∙◌}
+use Rattle.std.proofs.Common.{◌≡◌, List, [], ◌∷◌, option_map, codes, true, Option, Some, Result, Ok, Err, IfErr, IfSome, IsErrAnd, MatchResult, refl, sym, ap, ap₂, subst, ◌∙◌}
 use Rattle.clap.specs.Words.{App, HasMatchesOf, Row, Text, is_simple, kind_of, subcommand_of, subcommand_rows_of, takes}
 use Rattle.clap.specs.declared.error.Error.{Error}
 use Rattle.clap.specs.declared.error.kind.ErrorKind.TheVariants as kind
@@ -10,6 +10,7 @@ use Rattle.cq_command_line.specs.Faults.{HasOwnKind, IsFaultFor}
 use Rattle.cq_command_line.specs.declared.parsing.ParseFault.{ParseFault}
 use Rattle.cq_command_line.specs.declared.parsing.ParseFault.TheVariants as variant
 use Rattle.cq_command_line.specs.OrderValues.{TakesValues}
+use Rattle.cq_command_line.proofs.FaultLemmas.{own_kind}
 use Rattle.cq_command_line.proofs.parsing.order_in.Goals as goal
 
 -- what clap meets is what its walk over the words gives
@@ -47,14 +48,6 @@ only_memory (Ok order) error P is it = absurd it
 only_memory (Err fault) error P is it = memory_fault fault error is it
 
 -- and holds an error of its kind
-own_kind : (fault : ParseFault) (error : Error) → IsFaultFor fault error → HasOwnKind fault
-own_kind variant.OutOfMemory error it = tt
-own_kind (variant.Version own) error it = ap kind_of it.0 ∙ it.1
-own_kind (variant.NotUnderstood own) error it = (
-  subst (λ other. kind_of other ≢ kind.OutOfMemory) (sym it.0) it.1,
-  subst (λ other. kind_of other ≢ kind.DisplayVersion) (sym it.0) it.2,
-)
-
 own_kinds : (r : Result Order ParseFault) (error : Error) → IsErrAnd r (λ fault. IsFaultFor fault error) → IfErr r HasOwnKind
 own_kinds (Ok order) error it = absurd it
 own_kinds (Err fault) error it = own_kind fault error it
@@ -89,22 +82,7 @@ returns-in-Ok-clause-echo c program words =
     let met = meets _ _ c.in_ok-matches.matches c.requires.is c.in_ok-matches.ensures.ok.2 in
     same_order c.order_met.result _ c.in-Ok.order (c.order_met.ensures.echo (meets_echo _ program _ met words)) c.in-Ok.is
 
-pub returns-in-Err-NoOrder-clause-echo : goal.returns-in-Err-NoOrder-clause-echo
-returns-in-Err-NoOrder-clause-echo c program words =
-    let met = meets _ _ c.in_ok-matches.matches c.requires.is c.in_ok-matches.ensures.ok.2 in
-    absurd (not_both c.order_met.result _ c.in-Err-NoOrder.field-0 (c.order_met.ensures.echo (meets_echo _ program _ met words)) c.in-Err-NoOrder.is)
-
-pub returns-in-Err-NoAction-clause-echo : goal.returns-in-Err-NoAction-clause-echo
-returns-in-Err-NoAction-clause-echo c program words =
-    let met = meets _ _ c.in_ok-matches.matches c.requires.is c.in_ok-matches.ensures.ok.2 in
-    absurd (not_both c.order_met.result _ c.in-Err-NoAction.field-0 (c.order_met.ensures.echo (meets_echo _ program _ met words)) c.in-Err-NoAction.is)
-
-pub returns-in-Err-NoFollow-clause-echo : goal.returns-in-Err-NoFollow-clause-echo
-returns-in-Err-NoFollow-clause-echo c program words =
-    let met = meets _ _ c.in_ok-matches.matches c.requires.is c.in_ok-matches.ensures.ok.2 in
-    absurd (not_both c.order_met.result _ _ (c.order_met.ensures.echo (meets_echo _ program _ met words)) c.in-Err-NoFollow.is)
-
 pub returns-clause-echo : goal.returns-clause-echo
 returns-clause-echo c program words =
     let met = meets _ _ c.in_ok-matches.matches c.requires.is c.in_ok-matches.ensures.ok.2 in
-    absurd (not_both c.order_met.result _ _ (c.order_met.ensures.echo (meets_echo _ program _ met words)) c.in-Err-NoMoment.is)
+    absurd (not_both c.order_met.result _ c.in-Err.fault (c.order_met.ensures.echo (meets_echo _ program _ met words)) c.in-Err.is)
