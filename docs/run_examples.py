@@ -2,15 +2,15 @@
 """Runs the examples of the documents: docs/run_examples.py [PROGRAM].
 
 PROGRAM is the program cq: crates/cq/out/cq, which the launcher ./cq builds, if none is given. The documents are
-README.md, docs/CLI.md, docs/GUIDE.md and docs/CALLING.md. The word at the start of a fenced block says what is done with
-it:
+README.md, docs/CLI.md, docs/GUIDE.md, docs/CALLING.md and docs/C.md. The word at the start of a fenced block says what is done
+with it:
 
 console  A line that begins with `$ ` is a command, and the lines up to the next one are what it prints, on standard
          output and standard error together. The blocks of a document are run in order in one new folder, where `./cq` is
          the program. `$ echo $?` prints the status of the command before it.
 rust     The lines are in a file of src/ of crates/cq_callers, crates/cq_live_tests or crates/cq_stored_threads_tests, one after
          the other, except for spaces at their start.
-c        The lines are in c/example.c in the same way. c/run compiles and runs that file.
+c        The lines are in an example of c/ or in c/tests/examples.c in the same way. c/run compiles and runs these files.
 
 Blocks with another word or none are skipped: what builds or proves is in a block `sh`, or in one without a word.
 
@@ -24,9 +24,9 @@ import sys
 import tempfile
 
 TOP = pathlib.Path(__file__).resolve().parent.parent
-DOCUMENTS = ["README.md", "docs/CLI.md", "docs/GUIDE.md", "docs/CALLING.md"]
+DOCUMENTS = ["README.md", "docs/CLI.md", "docs/GUIDE.md", "docs/CALLING.md", "docs/C.md"]
 RUST = ["cq_callers", "cq_live_tests", "cq_stored_threads_tests"]
-SOURCES = {"rust": [f"crates/{crate}/src/*.rt" for crate in RUST], "c": ["c/example.c"]}
+SOURCES = {"rust": [f"crates/{crate}/src/*.rt" for crate in RUST], "c": ["c/*example.c", "c/tests/examples.c"]}
 
 
 def blocks_of(text):
