@@ -48,12 +48,16 @@ class Figures:
         """Whether other work used the processors too."""
         return self.head.get("in_use", 1) >= BUSY
 
+    def turns(self, part, impl, case, payload=None, threads=None):
+        """The figures of all turns."""
+        return [value for value, _ in self.rates.get((part, impl, case, payload, threads), [])]
+
     def best(self, part, impl, case, payload=None, threads=None):
         """The best figure of the turns: the highest rate or the lowest time. Of quotients the middle one. None if there is none."""
-        turns = self.rates.get((part, impl, case, payload, threads))
-        if not turns:
+        values = self.turns(part, impl, case, payload, threads)
+        if not values:
             return None
-        values, unit = [value for value, _ in turns], turns[0][1]
+        unit = self.rates[part, impl, case, payload, threads][0][1]
         if unit == "ratio":
             return statistics.median(values)
         return max(values) if unit == "msg/s" else min(values)
@@ -93,6 +97,28 @@ def other_table(figures):
     for case in ("append", "read", "read_into"):
         pairs = [[figures.best("ratio", impl, case, payload, "1") for impl in ("cq", "hand")] for payload in (256, 4096)]
         rows.append([f"`{case}`", *(share(own, other) for own, other in pairs)])
+    return rows
+
+
+# The cases by numbers of threads that the C program has too: name, bytes and threads.
+BY_THREADS = [
+    *((case, payload, threads) for case in ("append", "read", "read_into") for threads in ("1", "2", "4") for payload in (8, 64)),
+    *(("flow", payload, threads) for threads in ("1to1", "1to3", "3to1") for payload in (64, 1024)),
+]  # fmt: skip
+
+
+def spread_of(turns):
+    """How far the lowest and the highest of some turns are apart, in percent of the middle one."""
+    return "-" if not turns else f"{100 * (max(turns) - min(turns)) / statistics.median(turns):.0f} %"
+
+
+def threads_table(figures):
+    """The queue and the same protocol in C, by one thread and several, and how far the turns of the queue are apart."""
+    rows = [["Case", "Bytes", "Threads", "Queue, million/s", "C", "Queue / C", "Spread"]]
+    for case, payload, threads in BY_THREADS:
+        own, other = (figures.best("ratio", impl, case, payload, threads) for impl in ("cq", "hand"))
+        spread = spread_of(figures.turns("ratio", "cq", case, payload, threads))
+        rows.append([f"`{case}`", f"{payload:,}", threads.replace("to", " to "), in_millions(own), in_millions(other), share(own, other), spread])
     return rows
 
 
@@ -159,14 +185,18 @@ def program_table(figures):
 # The tables of each document.
 TABLES = {
     "README.md": {"ratio": ratio_table},
-    "docs/MEASURED.md": {"other": other_table, "queues": queues_table, "program": program_table, "stored": stored_table},
+    "docs/MEASURED.md": {"other": other_table, "threads": threads_table, "queues": queues_table, "program": program_table, "stored": stored_table},
 }
 
 # The part of the file that a table is made of, where it has another name.
-PARTS = {"other": "ratio"}
+PARTS = {"other": "ratio", "threads": "ratio"}
 
 # What is said before a table, with an empty line between.
 BEFORE = {
+    "threads": (
+        "**By the number of threads**, in million messages a second: the best of five turns of `./bench ratio`. Each message counts once for each\n"
+        "tailer that reads it, but in `flow` once. The last column says how far the turns of the queue are apart, in percent of the middle one:"
+    ),
     "queues": (
         "**Queues between threads**, in million messages a second: the best of three turns of `./bench peers`. The last two rows say in\n"
         "which time half of the messages, and 99 of 100, came to another thread. In brackets is how many times as fast as the queue that is:"
