@@ -22,8 +22,9 @@ With the word buffers, nothing is refused, and growths are counted: two tests of
 except that after a read backwards one reads a single message into a buffer, and the other 1,299 of them. Reads into a
 buffer allocate nothing, so both have to grow memory equally often.
 
-With the word cycles, commands run in little memory on a queue that may have 64 cycles of 65,536 cells, of which one has
-begun. `read`, `take` and `drop` make no slots, which would take 64 MiB for all cycles.
+With the word cycles, commands run in little memory. `read`, `take` and `drop` do so on a queue that may have 64 cycles of
+65,536 cells, of which one has begun: slots for all cycles would take 64 MiB. `write` does so on a queue with cycles of
+1,048,576 cells, of which the slot of one would take 8 MiB.
 
 A library in front of the C library's malloc, calloc, realloc and aligned_alloc refuses; it is compiled by cc. CQ names
 the program; if it is not set, it is crates/cq/out/cq, which the launcher ./cq builds. The status is 0 if all is as said.
@@ -155,15 +156,23 @@ BUFFERS = [
     "allocating_tests::all_messages_are_read_into_a_room_after_a_read_backwards",
 ]
 
-# A queue of many cycles, the commands that read it, what they print, and the memory that they get, in bytes.
-LARGE = [(["init", "D", "daily", "0", "65536", "64", "16", "64", "reader"], b""), HELLO]
+# A queue of many cycles, the commands that read it, their input, what they print, and the memory that they get, in bytes.
+MANY = [(["init", "D", "daily", "0", "65536", "64", "16", "64", "reader"], b""), HELLO]
 READERS = [
-    (["read", "D"], b"00004e2000000000 hello\n00004e2000000001 world\n"),
-    (["take", "D", "reader"], b"00004e2000000000 hello\n"),
-    (["take", "D", "reader", "--limit", "2"], b"00004e2000000001 world\n"),
-    (["drop", "D", "20000"], b"20000\n"),
+    (["read", "D"], b"", b"00004e2000000000 hello\n00004e2000000001 world\n"),
+    (["take", "D", "reader"], b"", b"00004e2000000000 hello\n"),
+    (["take", "D", "reader", "--limit", "2"], b"", b"00004e2000000001 world\n"),
+    (["drop", "D", "20000"], b"", b"20000\n"),
 ]
-LITTLE = 24 << 20
+FOR_READERS = 24 << 20
+
+# The same of a queue with large cycles, and what appends to it: to the last cycle, and to one that begins.
+LARGE = [(["init", "D", "daily", "0", "1048576", "64", "16", "4"], b""), HELLO]
+WRITERS = [
+    (["write", "D", "1728000000000"], b"again\n", b"00004e2000000002\n"),
+    (["write", "D", "1728086400000"], b"next\n", b"00004e2100000000\n"),
+]
+FOR_WRITERS = 12 << 20
 
 # How a test ends that failed, or whose comparison failed, and how its text names the refusal of memory.
 FAILED, STOPPED = 101, -6
@@ -171,9 +180,9 @@ WANTS = re.compile(rb"\b(AllocError|AllocFailed|OutOfMemory|want of memory)\b")
 COMPARED = re.compile(rb'  left: "(.*)"\n right: "(.*)"\n', re.S)
 
 
-def in_little():
+def bound(size):
     """Bounds the memory of this process."""
-    resource.setrlimit(resource.RLIMIT_AS, (LITTLE, resource.getrlimit(resource.RLIMIT_AS)[1]))
+    resource.setrlimit(resource.RLIMIT_AS, (size, resource.getrlimit(resource.RLIMIT_AS)[1]))
 
 
 def run(program, words, given, folder, more=None, begin=None):
@@ -332,13 +341,19 @@ def program_named():
     return os.environ.get("CQ", os.path.join(HERE, "crates/cq/out/cq"))
 
 
+def faults_in_little(room, before, rows, size):
+    """What commands do wrong in memory of this size, on a queue that others have made."""
+    with tempfile.TemporaryDirectory(dir=room) as folder:
+        for words, given in before:
+            assert run(program_named(), words, given, folder)[0] == 0, words
+        ran = [(words, printed, run(program_named(), words, given, folder, begin=lambda: bound(size))) for words, given, printed in rows]
+    return [f"{words[0]}: {result}" for words, printed, result in ran if result != (0, printed, b"")]
+
+
 def try_cycles(room):
-    """Whether commands that read make no slots."""
-    for words, given in LARGE:
-        assert run(program_named(), words, given, room)[0] == 0, words
-    ran = [(words, printed, run(program_named(), words, b"", room, begin=in_little)) for words, printed in READERS]
-    wrong = [f"{words[0]}: {result}" for words, printed, result in ran if result != (0, printed, b"")]
-    print("\n".join([*wrong, f"1 of 64 cycles in {LITTLE >> 20} MiB: {len(ran)} commands, {len(wrong)} wrong"]))
+    """Whether commands make no slots."""
+    wrong = [*faults_in_little(room, MANY, READERS, FOR_READERS), *faults_in_little(room, LARGE, WRITERS, FOR_WRITERS)]
+    print("\n".join([*wrong, f"in little memory: {len(READERS) + len(WRITERS)} commands, {len(wrong)} wrong"]))
     return not wrong
 
 
