@@ -12,6 +12,10 @@ use std::time::{Duration, Instant};
 /// The most times that a thread checks whether another has come.
 const MOST_LOOKS: u32 = 1 << 30;
 
+/// For how many milliseconds all threads spin before they start. Two that were made at once may be on one processor, and the
+/// system needs some milliseconds to move one to a processor that is idle.
+const SPREAD: u64 = 20;
+
 /// How many threads have come so far.
 #[derive(Drop)]
 pub struct Gate {
@@ -79,7 +83,19 @@ fn run(job: Job, bytes: &[u8]) -> Result<(), BenchFault> {
     }
 }
 
-/// Does a job, once all threads have come.
+/// Spins for this time, or as long as the clock can be read.
+fn spin_for(clock: &impl Clock, time: Duration) -> Result<(), BenchFault> {
+    let start = now(clock)?;
+    for _ in 0..MOST_LOOKS {
+        if now(clock)?.duration_since(start) >= time {
+            break;
+        }
+        spin_loop();
+    }
+    Ok(())
+}
+
+/// Does a job, once all threads have come and are spread over the processors.
 fn span_of<R: Clock>(
     rt: &R,
     gate: &Gate,
@@ -89,6 +105,11 @@ fn span_of<R: Clock>(
 ) -> Result<Span, BenchFault> {
     gate.come();
     let _ = gate.wait(all);
+    if all > 1 {
+        let _ = spin_for(rt, Duration::from_millis(SPREAD));
+        gate.come();
+        let _ = gate.wait(all.saturating_mul(2));
+    }
     let start = now(rt);
     run(job, bytes)?;
     let end = now(rt)?;
