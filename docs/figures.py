@@ -113,12 +113,13 @@ def spread_of(turns):
 
 
 def threads_table(figures):
-    """The queue and the same protocol in C, by one thread and several, and how far the turns of the queue are apart."""
-    rows = [["Case", "Bytes", "Threads", "Queue, million/s", "C", "Queue / C", "Spread"]]
+    """The queue and the same protocol in C, by one thread and several: the middle turns, and how far turns are apart."""
+    rows = [["Case", "Bytes", "Threads", "Queue, million/s", "C", "Queue / C", "Spread", "Spread of C"]]
     for case, payload, threads in BY_THREADS:
-        own, other = (figures.best("ratio", impl, case, payload, threads) for impl in ("cq", "hand"))
-        spread = spread_of(figures.turns("ratio", "cq", case, payload, threads))
-        rows.append([f"`{case}`", f"{payload:,}", threads.replace("to", " to "), in_millions(own), in_millions(other), share(own, other), spread])
+        own, other = (figures.turns("ratio", impl, case, payload, threads) for impl in ("cq", "hand"))
+        middle, middle_of_c = (statistics.median(turns) if turns else None for turns in (own, other))
+        row = [f"`{case}`", f"{payload:,}", threads.replace("to", " to "), in_millions(middle), in_millions(middle_of_c)]
+        rows.append([*row, share(middle, middle_of_c), spread_of(own), spread_of(other)])
     return rows
 
 
@@ -194,8 +195,10 @@ PARTS = {"other": "ratio", "threads": "ratio"}
 # What is said before a table, with an empty line between.
 BEFORE = {
     "threads": (
-        "**By the number of threads**, in million messages a second: the best of five turns of `./bench ratio`. Each message counts once for each\n"
-        "tailer that reads it, but in `flow` once. The last column says how far the turns of the queue are apart, in percent of the middle one:"
+        "**By the number of threads**, in million messages a second: the middle of five turns of `./bench ratio`. Each message counts once\n"
+        "for each tailer that reads it, but in `flow` once. The last columns say how far the turns of each are apart, in percent of the middle\n"
+        "one. Little else ran on the machine, but it is a virtual one, and what its host leaves it differs. The best turn of contended appends\n"
+        "is often one in which a thread was alone for a while:"
     ),
     "queues": (
         "**Queues between threads**, in million messages a second: the best of three turns of `./bench peers`. The last two rows say in\n"
