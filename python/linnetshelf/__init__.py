@@ -11,6 +11,7 @@ Each thread has an endpoint of its own: `split` makes one. See docs/PYTHON.md.
 """
 from ._endpoint import Begun, Endpoint, Index, Message, Peeked, Roll, Settings, create, now
 from ._library import text_of
+from ._live import Live
 from ._saved import Image, Journal, Saved, init
 from .errors import (
     BadValue,
@@ -21,7 +22,9 @@ from .errors import (
     FolderFault,
     Full,
     ImageFault,
+    IsLive,
     LinnetshelfError,
+    LogFault,
     Misused,
     Moved,
     NoMessage,
@@ -30,6 +33,7 @@ from .errors import (
     OutOfMemory,
     Status,
     Unsaved,
+    Unstored,
 )
 
 __version__ = "0.1.0"
@@ -47,8 +51,11 @@ __all__ = [
     "Image",
     "ImageFault",
     "Index",
+    "IsLive",
     "Journal",
     "LinnetshelfError",
+    "Live",
+    "LogFault",
     "Message",
     "Misused",
     "Moved",
@@ -62,6 +69,7 @@ __all__ = [
     "Settings",
     "Status",
     "Unsaved",
+    "Unstored",
     "create",
     "init",
     "now",

@@ -285,6 +285,28 @@ class QueueFacts:
     def __init__(self, settings: Settings, names: tuple[str, ...]) -> None:
         self.settings, self.names = settings, names
         self.endpoints: weakref.WeakSet[Endpoint] = weakref.WeakSet()
+        # What has to live as long as an endpoint does.
+        self.owner: object = None
+        self._is_ended = False
+
+    def add(self, endpoint: Endpoint) -> None:
+        """Adds an endpoint. It is closed at once if another thread has ended the queue meanwhile."""
+        self.endpoints.add(endpoint)
+        if self._is_ended:
+            endpoint.close()
+
+    def living(self) -> list[Endpoint]:
+        """Returns the endpoints that are there."""
+        while True:
+            # It is raised if another thread splits one off meanwhile.
+            with contextlib.suppress(RuntimeError):
+                return list(self.endpoints)
+
+    def end(self) -> None:
+        """Closes all endpoints, for good."""
+        self._is_ended = True
+        for endpoint in self.living():
+            endpoint.close()
 
 
 class Endpoint(Owner):
@@ -296,11 +318,11 @@ class Endpoint(Owner):
 
     def __init__(self, handle: Handle, queue: QueueFacts) -> None:
         super().__init__(handle)
-        self._queue = queue
-        queue.endpoints.add(self)
-        ENDPOINTS.add(self)
         # What an iteration has read by its last call.
         self._ahead = Batch(memoryview(b""), memoryview(b""))
+        self._queue = queue
+        queue.add(self)
+        ENDPOINTS.add(self)
         self._way = FORWARDS
         self._answers = bytearray(MANY * ANSWER.size)
         self._grow(4096)
@@ -752,14 +774,14 @@ class Endpoint(Owner):
     def stop_all(self) -> Saved:
         """Closes all other endpoints of the queue, and stops it. Messages that they have begun are given up."""
         while True:
-            for other in list(self._queue.endpoints):
+            for other in self._queue.living():
                 if other is not self:
                     other.close()
             try:
                 return self.stop()
             except Misused:
                 # Another thread has split one off meanwhile, from an endpoint that was not closed yet.
-                if all(other is self or other.closed for other in list(self._queue.endpoints)):
+                if all(other is self or other.closed for other in self._queue.living()):
                     raise
 
 

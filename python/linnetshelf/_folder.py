@@ -1,4 +1,4 @@
-"""The files of a queue's folder, which the library does not touch: `queue.cqc`, names of images, the lock, and saves.
+"""The files of a queue's folder, which the library does not touch: `queue.cqc`, names of images, locks, the log, and saves.
 
 They are those of the program cq (docs/FORMATS.md).
 """
@@ -14,10 +14,11 @@ import re
 import stat
 from collections.abc import Iterator
 from dataclasses import dataclass, field
+from typing import BinaryIO
 
-from .errors import FolderFault
+from .errors import FolderFault, IsLive, LogFault
 
-CONFIG, RECORD, IMAGE = "queue.cqc", "queue.save", ".cqi"
+CONFIG, RECORD, LOG, IMAGE = "queue.cqc", "queue.save", "queue.log", ".cqi"
 
 # The length of a cycle in milliseconds, and the form of its name.
 ROLLS = {"daily": (86_400_000, "%Y%m%d"), "hourly": (3_600_000, "%Y%m%d-%H"), "minutely": (60_000, "%Y%m%d-%H%M")}
@@ -31,6 +32,8 @@ RECORDS = (
     re.compile(rf"cq save 2\n{NUMBER}\n((?:{SAVED}\n)*)\n((?:{SAVED}\n)+)end\n"),
 )
 MOST_RECORD_BYTES = 1_048_576
+# The log that is played has at most as many bytes as the program cq plays.
+MOST_LOG_BYTES = 1 << 30
 LAST_CYCLE = 2_147_483_646
 
 
@@ -124,6 +127,8 @@ class Folder:
         self._left: Left | None = None
         # Whether something was renamed or removed that no sync has brought to the disk.
         self._is_unsynced = False
+        # What kept the last save from being finished, although it is done.
+        self._unfinished: OSError | None = None
 
     def __enter__(self) -> Folder:
         self.enter()
@@ -182,12 +187,17 @@ class Folder:
 
     def read(self, name: str) -> bytes:
         """Reads a plain file; of a save that was cut short, what it wrote. A file that such a save removes is not found."""
+        with open(self._open_through(name), "rb") as file:
+            return file.read()
+
+    def _open_through(self, name: str) -> int:
+        """Opens what `read` reads."""
         if self._left and name in self._left.removed:
             raise FileNotFoundError(errno.ENOENT, os.strerror(errno.ENOENT), str(self.path / name))
         if self._left and name in self._left.names:
             with contextlib.suppress(FileNotFoundError):
-                return self._read_plain(self._part(name, self._left.process))
-        return self._read_plain(name)
+                return self._open_plain(self._part(name, self._left.process))
+        return self._open_plain(name)
 
     def read_config(self) -> Config:
         try:
@@ -203,14 +213,81 @@ class Folder:
         for name in sorted(name for name in names if name.endswith(IMAGE)):
             yield name, config.cycle_of(name)
 
-    def save(self, files: dict[str, bytes]) -> None:
+    def has_log(self) -> bool:
+        """Returns whether there is a log with bytes."""
+        return self.has(LOG) and os.stat(LOG, dir_fd=self._at, follow_symlinks=False).st_size > 0
+
+    def read_log(self) -> bytes:
+        """Reads the log as `read` does, also that of a live queue. If there is none, it has no bytes. LogFault: it is too long."""
+        try:
+            log = self._open_through(LOG)
+        except FileNotFoundError:
+            return b""
+        with open(log, "rb") as file:
+            return self._all_of(file)
+
+    @contextlib.contextmanager
+    def locked_log(self) -> Iterator[bytes]:
+        """Locks the log for a block, and reads it. If there is none, it has no bytes. IsLive; LogFault: it is too long."""
+        try:
+            log = self._lock_log()
+        except FileNotFoundError:
+            yield b""
+            return
+        with open(log, "rb") as file:
+            yield self._all_of(file)
+
+    def new_log(self) -> int:
+        """Opens and locks the log that a save has just made anew. The caller closes it.
+
+        Where that save could not be finished it raises why. The next one who enters alone finishes it, and would put the empty
+        log in the place of this one. IsLive: another program has put bytes into it.
+        """
+        if self._unfinished:
+            raise self._unfinished
+        log = self._lock_log()
+        if os.fstat(log).st_size:
+            os.close(log)
+            raise IsLive(f"{self.path / LOG}: another program writes to it")
+        return log
+
+    def _lock_log(self) -> int:
+        """Opens the log, and locks it alone. The caller closes it. IsLive: another has locked it."""
+        log = self._open_plain(LOG, os.O_RDWR)
+        try:
+            fcntl.flock(log, fcntl.LOCK_EX | fcntl.LOCK_NB)
+        except BaseException as fault:
+            os.close(log)
+            if isinstance(fault, BlockingIOError):
+                raise IsLive(f"{self.path}: a queue is live in this folder") from None
+            raise
+        return log
+
+    def _all_of(self, log: BinaryIO) -> bytes:
+        """Reads a log that is open. LogFault: it is longer than one that is played. Of such a one nothing is read."""
+        if os.fstat(log.fileno()).st_size <= MOST_LOG_BYTES:
+            data = log.read()
+            # That of a live queue grows meanwhile.
+            if len(data) <= MOST_LOG_BYTES:
+                return data
+        raise LogFault(f"{self.path / LOG} has more than {MOST_LOG_BYTES} bytes")
+
+    def open_again(self) -> int:
+        """Opens the folder once more, without its lock. The caller closes it."""
+        return os.open(".", os.O_RDONLY | os.O_DIRECTORY | os.O_CLOEXEC, dir_fd=self._at)
+
+    def save(self, files: dict[str, bytes], empties_log: bool = False) -> None:
         """Writes files: all of them or none, also if this process stops in between. Those that stay the same are left alone.
 
-        A save before this one that failed with its record in place is finished first.
+        With `empties_log` the log is made anew, without a byte. A save before this one that failed with its record in place is
+        finished first.
         """
         self._left = self._record()
         self._finish()
+        self._unfinished = None
         changed = {name: data for name, data in files.items() if not (self.has(name) and self._read_plain(name) == data)}
+        if empties_log:
+            changed[LOG] = b""
         if not changed:
             return
         process = os.getpid()
@@ -230,8 +307,10 @@ class Folder:
             self._left = Left(process, [*changed], [])
         self._sync()
         # What changed is saved. Renames that fail from here on are made by the next save, or by the next one that is alone.
-        with contextlib.suppress(OSError):
+        try:
             self._settle()
+        except OSError as fault:
+            self._unfinished = fault
         if self._is_unsynced:
             self._sync()
 
@@ -257,11 +336,14 @@ class Folder:
     def _open(self, name: str, flags: int, mode: int = 0o666) -> int:
         return os.open(name, flags | os.O_NOFOLLOW | os.O_CLOEXEC, mode, dir_fd=self._at)
 
-    def _read_plain(self, name: str, most: int = -1) -> bytes:
-        """Reads a file. A link, a folder or a FIFO of this name is not opened."""
+    def _open_plain(self, name: str, flags: int = os.O_RDONLY) -> int:
+        """Opens a file that is there. A link, a folder or a FIFO of this name is not opened."""
         if not stat.S_ISREG(os.stat(name, dir_fd=self._at, follow_symlinks=False).st_mode):
             raise FolderFault(f"{self.path / name} is no plain file")
-        with open(self._open(name, os.O_RDONLY | os.O_NONBLOCK), "rb") as file:
+        return self._open(name, flags | os.O_NONBLOCK)
+
+    def _read_plain(self, name: str, most: int = -1) -> bytes:
+        with open(self._open_plain(name), "rb") as file:
             return file.read(most)
 
     def _write(self, name: str, process: int, data: bytes) -> None:

@@ -39,8 +39,12 @@ class Many(ctypes.Structure):
     _fields_ = [("index", ctypes.c_uint64), ("count", ctypes.c_uint64), ("length", ctypes.c_uint32), ("status", ctypes.c_uint32)]
 
 
+class Call(ctypes.Structure):
+    _fields_ = [("place", ctypes.c_uint64), ("length", ctypes.c_uint64), ("kind", ctypes.c_uint32), ("status", ctypes.c_uint32)]
+
+
 _HANDLE, _SETTINGS = ctypes.POINTER(Handle), ctypes.POINTER(RawSettings)
-_BYTES, _SIZE, _WORD, _LONG = ctypes.c_void_p, ctypes.c_size_t, ctypes.c_uint32, ctypes.c_uint64
+_BYTES, _SIZE, _WORD, _LONG, _BOOL = ctypes.c_void_p, ctypes.c_size_t, ctypes.c_uint32, ctypes.c_uint64, ctypes.c_bool
 
 # The type of the result, and those of the arguments.
 CALLS = {
@@ -87,6 +91,12 @@ CALLS = {
     "saved_set_position": (_WORD, _HANDLE, _WORD, _LONG),
     "saved_set_floor": (_WORD, _HANDLE, _WORD),
     "open": (_WORD, _HANDLE, _HANDLE),
+    "play": (Answer, _HANDLE, _BYTES, _SIZE),
+    "keep": (_WORD, _HANDLE, _HANDLE, _HANDLE),
+    "turn": (_WORD, _HANDLE),
+    "log_call": (Call, _HANDLE, _BYTES, _SIZE),
+    "log_done": (_WORD, _HANDLE, _BOOL),
+    "stored": (Answer, _HANDLE),
     "text": (_SIZE, _WORD, _BYTES, _SIZE),
     "version": (_WORD,),
     "size": (_SIZE, _WORD),
@@ -114,7 +124,7 @@ class Library:
                 raise ImportError(f"{path} is an earlier version of the library: it has no linnetshelf_{name}")
             function.restype, function.argtypes = result, arguments
             setattr(self, name, function)
-        structs = {0: Handle, 1: RawSettings, 2: Answer, 6: Many}
+        structs = {0: Handle, 1: RawSettings, 2: Answer, 5: Call, 6: Many}
         if any(self.size(which) != ctypes.sizeof(struct) for which, struct in structs.items()):
             raise ImportError(f"{path} is another version of the library")
 

@@ -6,9 +6,9 @@ from collections.abc import Iterable, Iterator, Mapping
 from typing import NamedTuple
 
 from ._endpoint import Buffer, Endpoint, Index, Owner, QueueFacts, Roll, Settings, address_of, create, names_of
-from ._folder import CONFIG, Config, Folder
+from ._folder import CONFIG, LOG, Config, Folder
 from ._library import NO_SAVED, Handle, check, error_of, library, number
-from .errors import BadValue, FolderFault, ImageFault, Status, Unsaved
+from .errors import BadValue, FolderFault, ImageFault, LogFault, Status, Unsaved
 
 
 class Image(NamedTuple):
@@ -36,13 +36,31 @@ class Saved(Owner):
 
     @classmethod
     def load(cls, folder: str | os.PathLike[str]) -> Saved:
-        """Reads what the files of a folder hold."""
+        """Reads what the files of a folder hold, and plays the log that is there, also that of a live queue. No file changes."""
         with Folder(folder, is_alone=False) as files:
-            return cls.read(files)
+            saved = cls.read(files)
+            saved._play_log(files, files.read_log())
+            return saved
+
+    @classmethod
+    def fold(cls, files: Folder, moment: int | None, renews_log: bool = False) -> Saved:
+        """Reads what the files of a folder hold, plays the log that is there, and saves what that gives with an empty log.
+
+        The folder is entered already, alone. If no cycle has begun, that of `moment` begins, as in `open`. Without `renews_log` no
+        file changes where the log has no bytes. IsLive, LogFault: no file changes.
+        """
+        saved = cls.read(files)
+        if saved.is_new:
+            saved = saved.open(moment).stop()
+        with files.locked_log() as log:
+            saved._play_log(files, log)
+            if log or renews_log:
+                saved.write(files, empties_log=True)
+        return saved
 
     @classmethod
     def read(cls, files: Folder) -> Saved:
-        """Reads what the files of a folder hold, which is entered already."""
+        """Reads what the files of a folder hold, which is entered already. The log is not read."""
         config = files.read_config()
         roll = Roll[config.roll.upper()]
         settings = Settings(config.cells, config.count, config.spacing, config.cycles, roll, config.epoch)
@@ -68,6 +86,30 @@ class Saved(Owner):
             error.at = answer.index
             raise error
         check(answer.status)
+
+    def play(self, log: Buffer) -> int:
+        """Plays the bytes of a log on it, which goes on from it, and returns how many turns were played.
+
+        LogFault: the log is at fault, or goes on from something else. Nothing changed then.
+        """
+        answer = library.play(self._live(), address_of(log), memoryview(log).nbytes)
+        if answer.status == Status.BAD_TURN:
+            error = error_of(answer.status, f"frame {answer.index}")
+            assert isinstance(error, LogFault)
+            error.turn = answer.index
+            raise error
+        check(answer.status)
+        return answer.index
+
+    def _play_log(self, files: Folder, log: bytes) -> None:
+        """Plays the log of a folder on what its images hold, if it has bytes."""
+        try:
+            if log:
+                self.play(log)
+        except LogFault as fault:
+            named = LogFault(f"{files.path / LOG}: {fault}", fault.status)
+            named.turn = fault.turn
+            raise named from fault
 
     def __len__(self) -> int:
         """Returns how many cycles there are."""
@@ -145,18 +187,21 @@ class Saved(Owner):
         if not self.is_new:
             self.open().close()
         with Folder(folder, is_alone=True) as files:
-            if files.has(CONFIG):
-                raise FileExistsError(f"{files.path}: a queue is there already")
+            if files.has(CONFIG) or files.has_log():
+                raise FileExistsError(f"{files.path}: a queue is there already, or the log of one")
             self.write(files)
 
-    def write(self, files: Folder) -> None:
-        """Makes the files of a folder what this holds: all of them or none. The folder is entered already, alone."""
+    def write(self, files: Folder, empties_log: bool = False) -> None:
+        """Makes the files of a folder what this holds: all of them or none. The folder is entered already, alone.
+
+        With `empties_log` the log is made anew among them, without a byte.
+        """
         it = self.settings
         positions = {name: int(position) for name, position in self.positions.items()}
         roll = it.roll.name.lower()
         config = Config(roll, it.epoch, it.cells, it.index_count, it.index_spacing, it.cycles, self.floor, positions)
         changes = {config.image_name(image.cycle): image.data for image in self.images()}
-        files.save({**changes, CONFIG: config.text()})
+        files.save({**changes, CONFIG: config.text()}, empties_log)
 
 
 def init(folder: str | os.PathLike[str], settings: Settings = Settings(), names: Iterable[str] = ()) -> None:
@@ -170,7 +215,9 @@ class Journal:
 
     The folder is locked as long as the queue is open, so other programs wait, `cq` among them. At the end of the block all
     endpoints of the queue are closed, and what it holds is saved, also if the block raises. What was appended since the
-    start is lost if the process ends before.
+    start is lost if the process ends before. `Live` keeps it in a log.
+
+    A log that is there with bytes is played, and saved into the images. IsLive: a queue is live in the folder.
 
     Unsaved: it could not be saved, as on a full device. The folder is still locked then, and `save` tries again.
     """
@@ -184,8 +231,8 @@ class Journal:
     def __enter__(self) -> Endpoint:
         self._files.enter()
         try:
-            with Saved.read(self._files) as saved:
-                queue = saved.open(self._moment)
+            with Saved.fold(self._files, self._moment) as saved:
+                queue = saved.open()
             # The queue is stopped by this endpoint, also if the other ones are closed by then.
             self._last = queue.split()
         except BaseException:

@@ -129,6 +129,29 @@ class FolderFault(LinnetshelfError):
     """The files of a folder are no queue of version 2, or the folder is in use by this process."""
 
 
+class IsLive(LinnetshelfError):
+    """A queue is live in the folder: another program has its log, or another `Live` of this process."""
+
+
+class LogFault(FolderFault):
+    """The log of a folder cannot be played.
+
+    It goes on from something else than the images hold (OTHER_LOG), it is at fault (BAD_HEAD, BAD_TURN, BAD_GAIN), or it has more
+    than 1 GiB (`status` is None). `turn` is the number of the frame that is at fault, at BAD_TURN.
+    """
+
+    turn = 0
+
+
+class Unstored(LinnetshelfError):
+    """The log of a live queue has failed, for the reason in `__cause__`, and stores nothing more.
+
+    `index` is that of the message, which may be stored or not. None: the call has appended nothing.
+    """
+
+    index: int | None = None
+
+
 class Unsaved(LinnetshelfError):
     """What a journal held could not be saved, for the reason in `__cause__`. `journal` has it: `journal.save()` tries again."""
 
@@ -165,4 +188,9 @@ ERRORS: dict[Status, type[LinnetshelfError]] = {
     Status.OUT_OF_MEMORY: OutOfMemory,
     Status.CLOSED: Closed,
     Status.FINISHED: Finished,
+    Status.LONG_HEAD: BadValue,
+    Status.BAD_HEAD: LogFault,
+    Status.OTHER_LOG: LogFault,
+    Status.BAD_TURN: LogFault,
+    Status.BAD_GAIN: LogFault,
 }

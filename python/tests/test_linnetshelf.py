@@ -9,7 +9,10 @@ import itertools
 import multiprocessing
 import os
 import pathlib
+import random
 import re
+import resource
+import shutil
 import signal
 import struct
 import subprocess
@@ -17,15 +20,17 @@ import sys
 import tempfile
 import threading
 import time
+import traceback
 import unittest
 import unittest.mock
+import warnings
 
 TOP = pathlib.Path(__file__).resolve().parent.parent.parent
 sys.path.insert(0, str(TOP / "python"))
 os.environ["LINNETSHELF_LIBRARY"], CQ = str(pathlib.Path(sys.argv[1]).resolve()), (sys.argv[2:] or [None])[0]
 
 import linnetshelf
-from linnetshelf import _endpoint, _folder, _library
+from linnetshelf import _endpoint, _folder, _library, _live
 
 DAY = 86_400_000
 SMALL = linnetshelf.Settings(cells=4096, index_count=16, index_spacing=4, cycles=3)
@@ -42,11 +47,16 @@ def data_of(messages):
 
 def in_child(call):
     """Runs a call in a child process, and returns how that ended: 0 if the call returns a true value."""
-    child = os.fork()
+    with warnings.catch_warnings():
+        # Later versions of Python warn of a fork while threads run.
+        warnings.simplefilter("ignore", DeprecationWarning)
+        child = os.fork()
     if child == 0:
         status = 3
         try:
             status = 0 if call() else 1
+        except BaseException:
+            traceback.print_exc()
         finally:
             os._exit(status)
     return os.waitpid(child, 0)[1]
@@ -64,10 +74,9 @@ class Header(unittest.TestCase):
 
     def test_calls(self):
         declared = dict(re.findall(r"^\w[\w ]* \*?linnetshelf_(\w+)\(([^)]*)\);", self.header, re.M))
-        # The package has no shelves and no logs. It keeps the settings of a queue, and reads the text of queue.cqc itself.
-        of_logs = {"play", "keep", "turn", "settle", "log_call", "log_done", "stored"}
-        of_settings = {"settings_of", "names_of", "config_read", "config_write"}
-        left_out = of_logs | of_settings
+        # The package has no shelves. It keeps the settings of a queue, and reads the text of queue.cqc itself. A turn to which
+        # nothing came settles a log.
+        left_out = {"settings_of", "names_of", "config_read", "config_write", "settle"}
         self.assertEqual({name for name in declared if not name.startswith("shelf_")} - left_out, set(_library.CALLS))
         for name, (_, *arguments) in _library.CALLS.items():
             self.assertEqual(len(arguments), 0 if declared[name] == "void" else len(declared[name].split(",")), name)
@@ -1019,6 +1028,672 @@ class Folders(unittest.TestCase):
             with self.assertRaises(linnetshelf.FolderFault):
                 linnetshelf.Journal(self.folder).__enter__()
             self.assertEqual((self.folder / "queue.save").read_bytes(), record)
+
+
+class LiveQueues(unittest.TestCase):
+    """Queues that are kept in the log of a folder."""
+
+    MOMENT = 1_728_000_000_000
+    SETTINGS = linnetshelf.Settings(cells=65536, index_count=64, index_spacing=16, cycles=64)
+    REFUSED = "cq: a queue is live in this folder"
+
+    def setUp(self):
+        room = tempfile.TemporaryDirectory()
+        self.addCleanup(room.cleanup)
+        self.room = pathlib.Path(room.name)
+        self.folder = self.new_folder("queue")
+
+    def new_folder(self, name):
+        folder = self.room / name
+        folder.mkdir()
+        linnetshelf.init(folder, self.SETTINGS, ["reader"])
+        return folder
+
+    def open(self, folder=None):
+        return linnetshelf.Live(folder or self.folder, self.MOMENT)
+
+    def append(self, endpoint, data):
+        return endpoint.append(data, self.MOMENT)
+
+    def found(self, folder=None):
+        """Returns the messages that the files of a folder hold, which do not change."""
+        with linnetshelf.Saved.load(folder or self.folder) as saved, saved.open(self.MOMENT) as queue:
+            return data_of(queue)
+
+    def files(self, folder=None):
+        return {file.name: file.read_bytes() for file in (folder or self.folder).iterdir()}
+
+    def crash(self, data, folder=None):
+        """Lets a child store messages and end without closing, so that they are in the log alone."""
+
+        def stores():
+            live = self.open(folder)
+            for part in data:
+                live.append(part, self.MOMENT)
+            return True
+
+        self.assertEqual(in_child(stores), 0)
+
+    def script(self, text):
+        """Runs a program of its own that opens a live queue of the folder, with all warnings."""
+        begin = f"import os, sys, linnetshelf\nfolder, moment = sys.argv[1], {self.MOMENT}\n"
+        begin += "live = linnetshelf.Live(folder, moment)\n"
+        command = [sys.executable, "-B", "-X", "dev", "-W", "always", "-W", "ignore::DeprecationWarning", "-c", begin + text]
+        env = {**os.environ, "PYTHONPATH": str(TOP / "python")}
+        return subprocess.run([*command, self.folder], capture_output=True, text=True, env=env, check=False, timeout=120)
+
+    def test_what_was_appended_is_there_again(self):
+        for turn in range(3):
+            with self.open() as live:
+                self.assertEqual(len(data_of(live.queue)), 60 * turn)
+                for k in range(60):
+                    moment = self.MOMENT + (60 * turn + k) // 40 * DAY
+                    if k % 10 == 0:
+                        index = live.append(b"%d" % (60 * turn + k), moment)
+                        self.assertGreater(live.stored, index)
+                    else:
+                        index = live.queue.append(b"%d" % (60 * turn + k), moment)
+                self.assertTrue(live.wait(index))
+                self.assertEqual(self.found(), [b"%d" % k for k in range(60 * turn + 60)])
+                self.assertEqual(live.queue.take("reader").data, b"%d" % turn)
+                self.assertEqual((type(live.stored), live.stored), (linnetshelf.Index, live.queue.end))
+        with linnetshelf.Saved.load(self.folder) as saved:
+            self.assertEqual((saved.positions["reader"].sequence, len(saved)), (3, 5))
+
+    def test_a_wait_has_a_time(self):
+        with self.open() as live:
+            index = live.append(b"one", self.MOMENT)
+            self.assertEqual((live.wait(index, 0), live.wait(index + 1, 0), live.wait(index + 1, 0.02)), (True, False, False))
+            with live.queue.begin(3, self.MOMENT) as message:
+                message.put(b"two")
+                with self.assertRaises(linnetshelf.Busy):
+                    live.append(b"refused", self.MOMENT, timeout=0.01)
+            later = threading.Timer(0.05, self.append, (live.queue, b"three"))
+            later.start()
+            self.assertTrue(live.wait(index + 2, 60))
+            later.join()
+        self.assertEqual(self.found(), [b"one", b"two", b"three"])
+
+    def test_a_signal_comes_while_a_thread_waits(self):
+        with self.open() as live:
+            index, main = live.append(b"one", self.MOMENT), threading.main_thread().ident
+
+            def interrupted(number):
+                later = threading.Timer(0.05, signal.pthread_kill, (main, number))
+                later.start()
+                try:
+                    return live.wait(index + 9, 0.2)
+                finally:
+                    later.join()
+
+            before = signal.signal(signal.SIGUSR1, lambda *_: live.append(b"of a handler", self.MOMENT))
+            self.addCleanup(signal.signal, signal.SIGUSR1, before)
+            self.assertFalse(interrupted(signal.SIGUSR1))
+            with self.assertRaises(KeyboardInterrupt):
+                interrupted(signal.SIGINT)
+            live.append(b"two", self.MOMENT)
+        self.assertEqual(self.found(), [b"one", b"of a handler", b"two"])
+
+    def test_the_keeper_stays_in_its_thread(self):
+        calls, places = ("keep", "turn", "log_call", "log_done", "stored", "destroy"), []
+
+        def noted(name):
+            real = getattr(_library.library, name)
+
+            def call(*arguments):
+                places.append((name, threading.current_thread()))
+                return real(*arguments)
+
+            return unittest.mock.patch.object(_library.library, name, call)
+
+        with contextlib.ExitStack() as stack:
+            for name in calls:
+                stack.enter_context(noted(name))
+            with self.open() as live:
+                live.append(b"one", self.MOMENT)
+        # Endpoints and what is saved are destroyed by the others.
+        threads = {thread for name, thread in places if name != "destroy"}
+        self.assertEqual(len(threads), 1)
+        self.assertNotIn(threading.current_thread(), threads)
+        last = [name for name, thread in places if thread in threads]
+        self.assertEqual((last[0], last[-1], last.count("keep"), last.count("destroy")), ("keep", "destroy", 1, 1))
+
+    def test_one_that_is_closed(self):
+        live = self.open()
+        index, endpoint = live.append(b"one", self.MOMENT), live.split()
+        self.append(endpoint, b"two")
+        begun = endpoint.begin(8, self.MOMENT)
+        begun.__enter__().put(b"given up")
+        self.assertFalse(live.closed)
+        live.close()
+        live.close()
+        self.assertEqual((live.closed, live.queue.closed, endpoint.closed), (True, True, True))
+        self.assertEqual((live.wait(index), live.stored), (True, index + 2))
+        for call in (lambda: live.append(b"x"), live.split, lambda: live.wait(index + 2), lambda: endpoint.append(b"x")):
+            with self.assertRaises(ValueError):
+                call()
+        with self.assertRaises(RuntimeError), self.open() as live:
+            self.append(live.queue, b"three")
+            raise RuntimeError
+        self.assertEqual(self.found(), [b"one", b"two", b"three"])
+        self.assertFalse(_live.OPEN)
+
+    def test_one_that_is_closed_while_an_endpoint_is_split_off(self):
+        live, real = self.open(), _library.library.split
+
+        def split(endpoint, out):
+            status = real(endpoint, out)
+            live.close()
+            return status
+
+        with unittest.mock.patch.object(_library.library, "split", split):
+            endpoint = live.split()
+        self.assertTrue(endpoint.closed)
+        with self.assertRaises(ValueError):
+            self.append(endpoint, b"lost")
+
+    def test_threads_share_it(self):
+        count, who = 25, range(8)
+
+        def work(live, own, k):
+            with live.split() as endpoint:
+                for number in range(count):
+                    if k % 2:
+                        own.append(live.append(b"%d %d" % (k, number), self.MOMENT))
+                    else:
+                        own.append(self.append(endpoint, b"%d %d" % (k, number)))
+                        live.wait(own[-1])
+                    self.assertGreater(live.stored, own[-1])
+
+        with self.open() as live:
+            indices = [[] for _ in who]
+            threads = [threading.Thread(target=work, args=(live, indices[k], k)) for k in who]
+            for thread in threads:
+                thread.start()
+            for thread in threads:
+                thread.join()
+            stored = self.found()
+        self.assertEqual(len(stored), count * len(who))
+        with self.open() as live:
+            for k in who:
+                self.assertEqual([live.queue[index] for index in indices[k]], [b"%d %d" % (k, number) for number in range(count)])
+            self.assertEqual(data_of(live.queue), stored)
+
+    def test_threads_go_on_while_it_is_closed(self):
+        """What was appended before the end is there, and nothing is appended after it, also by endpoints that are split off."""
+        for turn in range(5):
+            live, done, ends = self.open(), [[] for _ in range(4)], []
+
+            def work(live, own, who, turn=turn, ends=ends):
+                try:
+                    while True:
+                        with live.split() as endpoint:
+                            data = b"%d %d %d" % (turn, who, len(own))
+                            endpoint.append(data, self.MOMENT + turn * DAY)
+                            own.append(data)
+                except ValueError as error:
+                    ends.append(str(error))
+
+            threads = [threading.Thread(target=work, args=(live, own, who)) for who, own in enumerate(done)]
+            for thread in threads:
+                thread.start()
+            while min(map(len, done)) < 5:
+                time.sleep(0.001)
+            live.close()
+            for thread in threads:
+                thread.join()
+            self.assertEqual(ends, ["it is closed"] * 4)
+            found = [it for it in self.found() if it.startswith(b"%d " % turn)]
+            for who, own in enumerate(done):
+                self.assertEqual([it for it in found if it.startswith(b"%d %d " % (turn, who))], own)
+            self.assertEqual(len(found), sum(map(len, done)))
+
+    def append_until_killed(self, to):
+        """In a child: appends in eight threads, and writes each message to a pipe once it is stored."""
+        live = self.open()
+        there = data_of(live.queue)
+
+        def work(who):
+            endpoint = live.split()
+            for number in itertools.count(sum(it.startswith(b"%d " % who) for it in there)):
+                data = b"%d %d" % (who, number)
+                if who % 2:
+                    live.append(data, self.MOMENT)
+                else:
+                    live.wait(self.append(endpoint, data))
+                os.write(to, data + b"\n")
+
+        threads = [threading.Thread(target=work, args=(who,)) for who in range(8)]
+        for thread in threads:
+            thread.start()
+        for thread in threads:
+            thread.join()
+
+    def test_processes_that_append_are_killed(self):
+        """Each message that was acknowledged is there, once and in its writer's order, whoever opens the folder then."""
+        openings = [self.found, lambda: self.open().close(), self.enter_journal]
+        if CQ:
+            openings.append(lambda: cq("drop", self.folder, 0))
+        stored = [0] * 8
+        for turn in range(8):
+            reader, writer = os.pipe()
+            child = os.fork()
+            if child == 0:
+                try:
+                    self.append_until_killed(writer)
+                finally:
+                    os._exit(3)
+            os.close(writer)
+            with open(reader, "rb") as acknowledged:
+                lines = [acknowledged.readline() for _ in range(8 + 3 * turn)]
+                time.sleep(0.002 * random.random())
+                os.kill(child, signal.SIGKILL)
+                lines += acknowledged.readlines()
+            self.assertEqual(os.waitpid(child, 0)[1], signal.SIGKILL)
+            for line in lines:
+                who, number = map(int, line.split())
+                self.assertEqual(number, stored[who])
+                stored[who] += 1
+            openings[turn % len(openings)]()
+            found = self.found()
+            for who in range(8):
+                numbers = [int(it.split()[1]) for it in found if it.startswith(b"%d " % who)]
+                self.assertEqual(numbers, list(range(len(numbers))))
+                # The last message of each thread may be stored without having been acknowledged.
+                self.assertIn(len(numbers) - stored[who], (0, 1))
+                stored[who] = len(numbers)
+            if CQ:
+                self.assertEqual([line[17:].encode() for line in cq("read", self.folder).splitlines()], found)
+
+    def enter_journal(self, folder=None):
+        journal = linnetshelf.Journal(folder or self.folder)
+        try:
+            with journal:
+                pass
+        finally:
+            journal.discard()
+
+    @staticmethod
+    def at_call(number, does, counted):
+        """Lets the call of the system with this number do something else, of those that change or sync the folder and its log."""
+
+        def replaced(real):
+            def call(*arguments, **named):
+                if next(counted) == number:
+                    does()
+                return real(*arguments, **named)
+
+            return call
+
+        names = ("rename", "unlink", "fsync", "pwrite", "fdatasync", "ftruncate", "open")
+        stack = contextlib.ExitStack()
+        for name in names:
+            stack.enter_context(unittest.mock.patch.object(os, name, replaced(getattr(os, name))))
+        return stack
+
+    def open_and_close(self, folder):
+        with self.open(folder):
+            # No log is handed out that a save could still replace.
+            self.assertFalse((folder / "queue.save").exists())
+
+    def test_an_opening_is_killed_or_fails_at_each_call(self):
+        """Nothing that was stored is lost, and the next opening works, also in the same process."""
+        wanted, is_past = [b"one", b"two", b"three"], self.room / "past"
+        self.crash(wanted)
+
+        def kill():
+            os.kill(os.getpid(), signal.SIGKILL)
+
+        def fail():
+            raise OSError(5, "Input/output error")
+
+        for opens, does in itertools.product((self.open_and_close, self.enter_journal), (kill, fail)):
+            number = 0
+            while not is_past.exists():
+                folder = self.room / "copy"
+                shutil.copytree(self.folder, folder)
+
+                def works(folder=folder, number=number, does=does, opens=opens):
+                    counted = itertools.count()
+                    errors = (OSError, linnetshelf.Unstored, linnetshelf.Unsaved)
+                    with contextlib.suppress(*errors), self.at_call(number, does, counted):
+                        opens(folder)
+                    if next(counted) <= number:
+                        is_past.touch()
+                    with self.open(folder) as live:
+                        return data_of(live.queue) == wanted
+
+                self.assertEqual(in_child(works), 0 if does is fail or is_past.exists() else signal.SIGKILL, number)
+                self.assertEqual(self.found(folder), wanted)
+                with self.open(folder) as live:
+                    self.assertEqual(data_of(live.queue), wanted)
+                self.assertFalse([name for name in os.listdir(folder) if name.endswith((".part", ".save"))])
+                shutil.rmtree(folder)
+                number += 1
+            is_past.unlink()
+            self.assertGreater(number, 20)
+
+    def test_calls_of_the_log_fail(self):
+        """Nothing is acknowledged from then on, a sync is not made again, and what was stored is there."""
+        for name, at in itertools.product(("pwrite", "fdatasync"), range(5)):
+            with self.subTest(name=name, at=at):
+                folder, made, real, stored = self.new_folder(f"{name}{at}"), [], getattr(os, name), []
+
+                def fails(*arguments, made=made, real=real, at=at):
+                    made.append(arguments)
+                    if len(made) == at + 1:
+                        raise OSError(5, "Input/output error")
+                    return real(*arguments)
+
+                live = self.open(folder)
+                with unittest.mock.patch.object(os, name, fails):
+                    with self.assertRaises(linnetshelf.Unstored) as fault:
+                        for k in range(40):
+                            stored.append(live.append(b"%d" % k, self.MOMENT))
+                    self.assertEqual((fault.exception.index.sequence, fault.exception.__cause__.errno), (len(stored), 5))
+                    index = self.append(live.queue, b"lost")
+                    for call, given in ((lambda: live.append(b"x"), None), (lambda: live.wait(index), index), (live.close, None)):
+                        with self.assertRaises(linnetshelf.Unstored) as fault:
+                            call()
+                        self.assertEqual((fault.exception.index, fault.exception.__cause__.errno), (given, 5))
+                    self.assertEqual(len(made), at + 1)
+                live.close()
+                with self.open(folder) as live:
+                    found = data_of(live.queue)
+                self.assertEqual(found[: len(stored)], [b"%d" % k for k in range(len(stored))])
+                self.assertLessEqual(len(found), len(stored) + 1)
+
+    def test_a_log_that_failed_is_locked_until_it_is_closed(self):
+        live = self.open()
+        with unittest.mock.patch.object(os, "pwrite", side_effect=OSError(5, "Input/output error")):
+            with self.assertRaises(linnetshelf.Unstored):
+                live.append(b"one", self.MOMENT)
+        with self.assertRaises(linnetshelf.IsLive):
+            self.open()
+        with self.assertRaises(linnetshelf.Unstored):
+            live.close()
+        self.open().close()
+
+    def test_a_file_may_not_grow(self):
+        """As on a full device."""
+
+        def works():
+            live, (_, most), stored = self.open(), resource.getrlimit(resource.RLIMIT_FSIZE), 0
+            signal.signal(signal.SIGXFSZ, signal.SIG_IGN)
+            resource.setrlimit(resource.RLIMIT_FSIZE, (6000, most))
+            with self.assertRaises(linnetshelf.Unstored) as fault:
+                for stored in range(1000):
+                    live.append(b"%d" % stored, self.MOMENT)
+            self.assertEqual((fault.exception.__cause__.errno, fault.exception.index.sequence), (27, stored))
+            self.assertGreater(stored, 0)
+            with self.assertRaises(linnetshelf.Unstored):
+                live.close()
+            resource.setrlimit(resource.RLIMIT_FSIZE, (most, most))
+            found = self.found()
+            self.assertEqual(found[:stored], [b"%d" % k for k in range(stored)])
+            self.assertLessEqual(len(found), stored + 1)
+            with self.open() as live:
+                return data_of(live.queue) == found
+
+        self.assertEqual(in_child(works), 0)
+
+    def test_writes_that_are_short_go_on(self):
+        real = os.pwrite
+        with unittest.mock.patch.object(os, "pwrite", lambda file, data, place: real(file, data[:7], place)), self.open() as live:
+            live.append(b"x" * 100_000, self.MOMENT)
+            live.append(b"y", self.MOMENT)
+        self.assertEqual(self.found(), [b"x" * 100_000, b"y"])
+
+    def test_turns_are_out_of_memory(self):
+        real, refused = _library.library.turn, iter(range(3))
+        turn = lambda keeper: real(keeper) if next(refused, None) is None else linnetshelf.Status.OUT_OF_MEMORY
+        with self.open() as live, unittest.mock.patch.object(_library.library, "turn", turn):
+            live.append(b"one", self.MOMENT)
+            self.assertIsNone(next(refused, None))
+        live = self.open()
+        with unittest.mock.patch.object(_library.library, "turn", lambda keeper: linnetshelf.Status.OUT_OF_MEMORY):
+            self.assertFalse(live.wait(self.append(live.queue, b"two"), 0.05))
+            with self.assertRaises(linnetshelf.Unstored) as fault:
+                live.close()
+            self.assertIsInstance(fault.exception.__cause__, linnetshelf.OutOfMemory)
+        self.assertEqual(self.found(), [b"one"])
+
+    def test_others_are_refused_meanwhile(self):
+        with self.open() as live:
+            live.append(b"one", self.MOMENT)
+            files = self.files()
+
+            def refused():
+                for opens in (self.open, linnetshelf.Journal(self.folder).__enter__):
+                    with self.assertRaises(linnetshelf.IsLive):
+                        opens()
+                return True
+
+            self.assertTrue(refused())
+            self.assertEqual(in_child(refused), 0)
+            with self.assertRaises(FileExistsError):
+                linnetshelf.init(self.folder)
+            self.assertEqual((self.found(), self.files()), ([b"one"], files))
+        with linnetshelf.Journal(self.folder) as queue:
+            self.assertEqual(data_of(queue), [b"one"])
+            self.assertEqual(self.files()["queue.log"], b"")
+            with self.assertRaises(linnetshelf.FolderFault):
+                self.open()
+
+    @unittest.skipUnless(CQ, "there is no program")
+    def test_commands_meanwhile(self):
+        with self.open() as live:
+            index = live.append(b"one", self.MOMENT)
+            files = self.files()
+            for words in (("write", self.folder, self.MOMENT), ("take", self.folder, "reader"), ("log", self.folder)):
+                done = subprocess.run([CQ, *map(str, words)], input="more\n", capture_output=True, text=True, check=False)
+                self.assertEqual((done.returncode, done.stdout, done.stderr.startswith(self.REFUSED)), (1, "", True), done)
+            self.assertEqual(cq("read", self.folder), f"{index} one\n")
+            self.assertEqual(cq("check", self.folder).splitlines()[-1], "queue.log: 1 messages, live")
+            self.assertEqual(self.files(), files)
+        self.assertEqual(cq("check", self.folder).splitlines()[-1], "queue.log: 1 messages, not live")
+        cq("write", self.folder, self.MOMENT, text="two\n")
+        with self.open() as live:
+            self.assertEqual(data_of(live.queue), [b"one", b"two"])
+
+    @unittest.skipUnless(CQ, "there is no program")
+    def test_the_log_of_the_program(self):
+        with subprocess.Popen([CQ, "log", self.folder], stdin=subprocess.PIPE, stdout=subprocess.PIPE) as holder:
+            holder.stdin.write(b"one\ntwo\n")
+            holder.stdin.flush()
+            lines = [holder.stdout.readline() for _ in range(2)]
+            for opens in (self.open, linnetshelf.Journal(self.folder).__enter__):
+                with self.assertRaises(linnetshelf.IsLive):
+                    opens()
+            self.assertEqual(self.found(), [b"one", b"two"])
+            holder.kill()
+        with self.open() as live:
+            self.assertEqual([live.queue[int(line, 16)] for line in lines], [b"one", b"two"])
+
+    def test_it_waits_for_the_folder(self):
+        context = multiprocessing.get_context("fork")
+        entered, release, found = context.Event(), context.Event(), []
+        holder = context.Process(target=hold, args=(self.folder, entered, release))
+        holder.start()
+        self.assertTrue(entered.wait(60))
+
+        def work():
+            with self.open() as live:
+                found.extend(data_of(live.queue))
+
+        thread = threading.Thread(target=work)
+        thread.start()
+        thread.join(0.2)
+        self.assertTrue(thread.is_alive())
+        release.set()
+        thread.join()
+        holder.join()
+        self.assertEqual(found, [b"held"])
+
+    def test_a_save_that_was_cut_short_is_finished(self):
+        config = (self.folder / "queue.cqc").read_bytes()
+        for name, data in {"queue.cqc": b"cq 1\n", "queue.cqc.77.part": config, "queue.log.77.part": b""}.items():
+            (self.folder / name).write_bytes(data)
+        (self.folder / "queue.save").write_bytes(b"cq save 1\n77\nqueue.cqc\nqueue.log\nend\n")
+        with self.open() as live:
+            live.append(b"one", self.MOMENT)
+            self.assertEqual(sorted(self.files()), ["20241004.cqi", "queue.cqc", "queue.log"])
+        self.assertEqual(self.found(), [b"one"])
+
+    def test_a_journal_saves_the_log(self):
+        self.crash([b"one", b"two"])
+        files = self.files()
+        self.assertEqual((self.found(), self.files()), ([b"one", b"two"], files))
+        with linnetshelf.Journal(self.folder) as queue:
+            self.assertEqual(self.files()["queue.log"], b"")
+            self.append(queue, b"three")
+        (self.folder / "queue.log").unlink()
+        self.assertEqual(self.found(), [b"one", b"two", b"three"])
+
+    def test_logs_at_fault(self):
+        openings = (self.open, linnetshelf.Journal(self.folder).__enter__, lambda: linnetshelf.Saved.load(self.folder))
+        log = self.folder / "queue.log"
+
+        def refused(error=linnetshelf.LogFault):
+            files, faults = self.files() if log.is_file() and log.stat().st_size < 1 << 30 else None, []
+            for opens in openings:
+                with self.assertRaises(error) as fault:
+                    opens()
+                self.assertIn("queue.log", str(fault.exception))
+                faults.append((fault.exception.status, getattr(fault.exception, "turn", None)))
+            if files:
+                self.assertEqual(self.files(), files)
+            self.assertEqual(len(set(faults)), 1)
+            return faults[0]
+
+        self.crash([b"one", b"two"])
+        good = log.read_bytes()
+        self.assertEqual(good[:1], b"\1")
+        turn = 5 + struct.unpack_from("<I", good, 1)[0]
+        log.write_bytes(good[: turn + 5] + b"\x09" + good[turn + 6 :])
+        self.assertEqual(refused(), (linnetshelf.Status.BAD_TURN, 1))
+        log.write_bytes(b"\1\2\0\0\0ab\0")
+        self.assertEqual(refused(), (linnetshelf.Status.BAD_HEAD, 0))
+        log.unlink()
+        with linnetshelf.Journal(self.folder) as queue:
+            self.append(queue, b"other")
+        log.write_bytes(good)
+        self.assertEqual(refused(), (linnetshelf.Status.OTHER_LOG, 0))
+        os.truncate(log, (1 << 30) + 1)
+        self.assertEqual(refused(), (None, 0))
+        log.unlink()
+        log.symlink_to("queue.cqc")
+        refused(linnetshelf.FolderFault)
+        log.unlink()
+        log.mkdir()
+        refused(linnetshelf.FolderFault)
+        log.rmdir()
+        log.write_bytes(b"no log")
+        self.assertEqual(self.found(), [b"other"])
+        with self.open() as live:
+            self.assertEqual(data_of(live.queue), [b"other"])
+
+    def test_no_queue_is_made_over_a_log(self):
+        self.crash([b"one"])
+        folder = self.room / "other"
+        folder.mkdir()
+        shutil.copy(self.folder / "queue.log", folder)
+        with self.assertRaises(FileExistsError):
+            linnetshelf.init(folder)
+        (folder / "queue.log").write_bytes(b"")
+        linnetshelf.init(folder)
+
+    def test_a_folder_without_a_queue(self):
+        for folder in (self.room, self.room / "missing"):
+            with self.assertRaises(FileNotFoundError):
+                self.open(folder)
+        self.assertFalse(_live.OPEN)
+
+    def test_one_that_is_forgotten_is_closed(self):
+        live = self.open()
+        queue = live.queue
+        self.append(queue, b"one")
+        del live
+        gc.collect()
+        # Whoever has an endpoint keeps the log.
+        with self.assertRaises(linnetshelf.IsLive):
+            self.open()
+        self.append(queue, b"two")
+        with warnings.catch_warnings(record=True) as warned:
+            warnings.simplefilter("always")
+            del queue
+            gc.collect()
+        self.assertEqual([it.category for it in warned], [ResourceWarning])
+        while _live.OPEN:
+            time.sleep(0.001)
+        with self.open() as live:
+            self.assertEqual(data_of(live.queue), [b"one", b"two"])
+
+    def test_a_program_ends_without_closing(self):
+        done = self.script("live.queue.append_all([b'one', b'two'], moment)")
+        self.assertEqual((done.returncode, done.stdout), (0, ""))
+        self.assertIn("ResourceWarning: unclosed <linnetshelf.Live", done.stderr)
+        self.assertEqual(self.found(), [b"one", b"two"])
+        done = self.script("live.queue.append(b'three', moment)\nraise SystemExit(7)")
+        self.assertEqual((done.returncode, self.found()), (7, [b"one", b"two", b"three"]))
+
+    def test_a_child_leaves_it_to_its_parent(self):
+        with self.open() as live:
+            index = live.append(b"one", self.MOMENT)
+
+            def refused():
+                calls = (lambda: live.append(b"x"), lambda: live.wait(index), lambda: live.stored, live.split, live.queue.next)
+                for call in calls:
+                    with self.assertRaises(ValueError):
+                        call()
+                with self.assertRaises(linnetshelf.IsLive):
+                    self.open()
+                live.close()
+                return not live.closed
+
+            self.assertEqual(in_child(refused), 0)
+            live.append(b"two", self.MOMENT)
+            with self.assertRaises(linnetshelf.IsLive):
+                self.open()
+        self.assertEqual(self.found(), [b"one", b"two"])
+
+    def test_a_child_ends_as_a_program_does(self):
+        done = self.script(
+            "live.append(b'one', moment)\n"
+            "child = os.fork()\n"
+            "if child == 0: sys.exit(0)\n"
+            "ended = os.waitpid(child, 0)[1]\n"
+            "live.append(b'two', moment)\n"
+            "try: linnetshelf.Live(folder)\n"
+            "except linnetshelf.IsLive: print('live')\n"
+            "live.close()\n"
+            "sys.exit(ended)\n"
+        )
+        self.assertEqual((done.returncode, done.stdout, done.stderr), (0, "live\n", ""))
+        self.assertEqual(self.found(), [b"one", b"two"])
+
+    def test_a_child_does_not_keep_the_log_of_a_parent_that_was_killed(self):
+        (reader, writer), (waits, ends) = os.pipe(), os.pipe()
+        parent = os.fork()
+        if parent == 0:
+            try:
+                live = self.open()
+                live.append(b"one", self.MOMENT)
+                warnings.simplefilter("ignore", DeprecationWarning)
+                os.fork()
+                os.close(ends)
+                # Both write, so that both are there.
+                os.write(writer, b"x")
+                os.read(waits, 1)
+            finally:
+                os._exit(3)
+        self.assertEqual(os.read(reader, 1) + os.read(reader, 1), b"xx")
+        os.kill(parent, signal.SIGKILL)
+        os.waitpid(parent, 0)
+        with self.open() as live:
+            self.assertEqual(data_of(live.queue), [b"one"])
+        for file in (reader, writer, waits, ends):
+            os.close(file)
 
 
 class Document(unittest.TestCase):
