@@ -170,10 +170,10 @@ the settings of the log: ..\n\
 \t  The log was changed, or is of another version.\t  What to do: Use the version that wrote it, restore the file, or move it away.\n\
 the log is of a queue with other settings:\n\
 the log is of a queue with other settings: ..\n\
-\t  It is the log of another queue, or images or queue.cqc were changed while it had messages of\t  its own, as by the packages for Python and Rust.\t  What to do: Restore the files of one time, or move queue.log away.\n\
+\t  It is the log of another queue, or images or queue.cqc were changed while it had messages of\t  its own, as by the package for Rust.\t  What to do: Restore the files of one time, or move queue.log away.\n\
 the log goes on from\n\
 the log goes on from ..\n\
-\t  It is the log of another queue, or images or queue.cqc were changed while it had messages of\t  its own, as by the packages for Python and Rust.\t  What to do: Restore the files of one time, or move queue.log away.\n\
+\t  It is the log of another queue, or images or queue.cqc were changed while it had messages of\t  its own, as by the package for Rust.\t  What to do: Restore the files of one time, or move queue.log away.\n\
 of the log:\n\
 frame N of the log: ..\n\
 \t  The log was changed.\t  What to do: Restore it, or move it away.\n\
