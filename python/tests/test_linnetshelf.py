@@ -1126,8 +1126,13 @@ class LiveQueues(unittest.TestCase):
                 finally:
                     later.join()
 
-            before = signal.signal(signal.SIGUSR1, lambda *_: live.append(b"of a handler", self.MOMENT))
-            self.addCleanup(signal.signal, signal.SIGUSR1, before)
+            # A shell starts what runs in the background with SIGINT ignored.
+            handlers = {
+                signal.SIGUSR1: lambda *_: live.append(b"of a handler", self.MOMENT),
+                signal.SIGINT: signal.default_int_handler,
+            }
+            for number, handler in handlers.items():
+                self.addCleanup(signal.signal, number, signal.signal(number, handler))
             self.assertFalse(interrupted(signal.SIGUSR1))
             with self.assertRaises(KeyboardInterrupt):
                 interrupted(signal.SIGINT)
