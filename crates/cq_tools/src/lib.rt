@@ -17,7 +17,6 @@
 
 mod checking;
 mod fault;
-mod logging;
 mod making;
 mod output;
 mod program;

@@ -1,30 +1,34 @@
 //! The program, as it is run for an order.
 
-ghost use Rattle.std.specs.Prelude.{◌≡◌, ◌↔◌};
+ghost use Rattle.std.specs.Prelude.{◌≡◌, ◌↔◌, IfOk};
+ghost use Rattle.cq_orders.specs.OrderFolder.{IsPlain};
 ghost use Rattle.cq_tools.specs.Starts.{IsForOne};
 
 use crate::checking::print_news;
 use crate::fault::StartFault;
-use crate::logging::log;
 use crate::making::{make_folder, remove_made};
 use crate::output::Output;
 use cq_advice::{Explained, explain};
-use cq_commands::Took;
+use cq_commands::{Took, run};
 use cq_folder::{Folder, LOG_FILE};
 use cq_following::{FolderChanges, Pipe, Watch, follow, take_waiting};
 use cq_ingest::moment_of;
 use cq_logged::{LogFault, LogNews, LoggedFolder, SystemLock};
 use cq_names::names;
 use cq_new::{init_line, settings_of};
-use cq_orders::{InputForm, NewSettings, Order, ReadSettings, TakeSettings, WriteSettings};
+use cq_orders::{
+    InitSettings, InputForm, NameChange, NewSettings, Order, ReadSettings, TakeSettings,
+    TrimSettings, WriteSettings,
+};
 use cq_progress::{Progress, with_progress};
 use cq_race::{OpenGate, race};
 use cq_real_folder::RealFolder;
 use cq_repair::repair;
+use cq_service::log;
 use cq_text::print;
 use cq_trim::trim;
 use cq_writing::{Batch, Begun, write_by};
-use std::alloc::AllocError;
+use std::alloc::{AllocError, Global};
 use std::fs::File;
 use std::io;
 use std::rt::{Clock, Files};
@@ -118,25 +122,31 @@ where
         }
     }
 
-    /// Makes a folder with a queue, and prints the line of `init` that does the same. A folder that was made is removed again if the queue
-    /// is refused.
+    /// Makes a folder with a queue, and prints the line of `init` that does the same.
     fn make(&self, path: &str, given: &NewSettings) -> Result<(), StartFault> {
         let alloc = self.rt.alloc();
         let settings = settings_of(alloc, given)?;
-        let mut line = init_line(alloc, path, &settings)?;
-        line.push('\n')?;
-        let order = Order::Init {
-            folder: String::from_str(alloc, path)?,
-            settings,
-        };
-        let is_made = make_folder(self.rt, path)?;
-        if let Err(fault) = self.run_for_one(&order) {
-            if is_made {
-                remove_made(self.rt, path);
-            }
-            return Err(fault);
-        }
+        let line = whole_line(init_line(alloc, path, &settings)?)?;
+        self.make_queue(path, settings)?;
         Ok(print(&mut io::writer(self.rt), line.as_bytes())?)
+    }
+
+    /// Makes a folder with a queue of these settings.
+    fn make_queue(&self, path: &str, settings: InitSettings) -> Result<(), StartFault> {
+        let init = init_order(self.rt.alloc(), path, settings)?;
+        self.make_by(&init, path)
+    }
+
+    /// Makes a folder with a queue, by the order to make the queue. A folder that was made is removed again if the queue is refused.
+    fn make_by(&self, init: &Order, path: &str) -> Result<(), StartFault>
+        requires { IsForOne init.now }
+    {
+        let is_made = make_folder(self.rt, path)?;
+        let made = self.run_for_one(init);
+        if is_made && made.is_err() {
+            remove_made(self.rt, path);
+        }
+        made.map(|_| ())
     }
 
     /// Runs an order for one caller. On a terminal it says for how long, if it takes long and prints little.
@@ -208,14 +218,22 @@ where
         requires { IsForOne order.now }
     {
         let mut folder = self.logged_folder(order.folder().unwrap_or(""))?;
-        let mut done = self.run_in(order, &mut folder);
-        if done.is_ok()
-            && let Err(fault) = self.say_news(order, folder.news())
-        {
-            done = Err(fault);
-        }
+        let done = self.run_and_say(order, &mut folder);
         let (_folder, cause) = folder.into_parts();
         self.end(done, cause)
+    }
+
+    /// Runs an order for one caller over such a folder, and prints what it found of the log.
+    fn run_and_say(
+        &self,
+        order: &Order,
+        folder: &mut LoggedFolder<RealFolder<'a, R>, SystemLock<'a, R>>,
+    ) -> Result<Outcome, StartFault>
+        requires { IsForOne order.now }
+    {
+        let outcome = self.run_in(order, folder)?;
+        self.say_news(order, folder.news())?;
+        Ok(outcome)
     }
 
     /// Prints what `check` found of the log, if that is the order and there was something.
@@ -243,8 +261,6 @@ where
     fn run_in<F: Folder>(&self, order: &Order, folder: &mut F) -> Result<Outcome, StartFault>
         requires { IsForOne order.now }
     {
-        let alloc = self.rt.alloc();
-        let mut output = self.output();
         match order {
             Order::Write { folder: _, moment } => {
                 self.write(folder, *moment, InputForm::Lines)?;
@@ -266,19 +282,53 @@ where
             Order::Trim {
                 folder: _,
                 settings,
-            } => trim(alloc, folder, settings, &mut output)?,
-            Order::Names { folder: _, change } => names(alloc, folder, change, &mut output)?,
+            } => self.trim(folder, settings)?,
+            Order::Names { folder: _, change } => self.names(folder, change)?,
             Order::Repair {
                 folder: _,
                 file,
                 dry_run,
-            } => repair(alloc, folder, file.as_str(), *dry_run, &mut output)?,
+            } => self.repair(folder, file.as_str(), *dry_run)?,
             Order::Race { .. } | Order::Log { .. } | Order::New { .. } | Order::Explain { .. } => {
                 unreachable!()
             }
-            _ => cq_commands::run(alloc, order, folder, &mut self.rt.reader(), &mut output)?,
+            _ => self.run_plain(order, folder)?,
         }
         Ok(Outcome::Done)
+    }
+
+    /// Runs an order that needs no more than a folder and the standard streams.
+    fn run_plain<F: Folder>(&self, order: &Order, folder: &mut F) -> Result<(), StartFault>
+        requires { IsPlain order.now }
+    {
+        let alloc = self.rt.alloc();
+        Ok(run(
+            alloc,
+            order,
+            folder,
+            &mut self.rt.reader(),
+            &mut self.output(),
+        )?)
+    }
+
+    /// Removes the images of dropped cycles.
+    fn trim<F: Folder>(&self, folder: &mut F, settings: &TrimSettings) -> Result<(), StartFault> {
+        Ok(trim(self.rt.alloc(), folder, settings, &mut self.output())?)
+    }
+
+    /// Prints or changes the names of a queue.
+    fn names<F: Folder>(&self, folder: &mut F, change: &NameChange) -> Result<(), StartFault> {
+        Ok(names(self.rt.alloc(), folder, change, &mut self.output())?)
+    }
+
+    /// Makes what `salvage` finds the image.
+    fn repair<F: Folder>(
+        &self,
+        folder: &mut F,
+        file: &str,
+        dry_run: bool,
+    ) -> Result<(), StartFault> {
+        Ok(repair(self.rt.alloc(), folder, file, dry_run, &mut self.output())?)
     }
 
     /// Appends the messages of the input as options say. Without a moment it is the time of the clock.
@@ -357,14 +407,46 @@ where
     ) -> Result<Outcome, StartFault> {
         match cause {
             None => done,
-            Some(LogFault::NotShown(fault)) => {
-                self.quiet();
-                let _ = eprintln!(self.errors; "cq: {}", LogFault::NotShown(fault));
-                done
-            }
-            Some(cause) => done.map_err(|_| StartFault::Log(cause)),
+            Some(cause) => self.end_without_log(done, cause),
         }
     }
+
+    /// Returns what an order came to whose log kept it out or was not shown.
+    fn end_without_log(
+        &self,
+        done: Result<Outcome, StartFault>,
+        cause: LogFault,
+    ) -> Result<Outcome, StartFault> {
+        if matches!(cause, LogFault::NotShown(_)) {
+            self.quiet();
+            let _ = eprintln!(self.errors; "cq: {cause}");
+            return done;
+        }
+        kept_out(done, cause)
+    }
+}
+
+/// Returns what an order came to that its log kept out.
+fn kept_out(done: Result<Outcome, StartFault>, cause: LogFault) -> Result<Outcome, StartFault> {
+    match done {
+        Ok(outcome) => Ok(outcome),
+        Err(_) => Err(StartFault::Log(cause)),
+    }
+}
+
+/// Returns the order to make a queue with these settings in the folder of this path.
+fn init_order(alloc: Global, path: &str, settings: InitSettings) -> Result<Order, AllocError>
+    ensures { IfOk result IsForOne }
+{
+    let folder = String::from_str(alloc, path)?;
+    Ok(Order::Init { folder, settings })
+}
+
+/// Returns a line with its line feed.
+fn whole_line(text: String) -> Result<String, AllocError> {
+    let mut line = text;
+    line.push('\n')?;
+    Ok(line)
 }
 
 /// Returns what a `take` with options came to.

@@ -65,10 +65,6 @@ where
         process,
         terminals,
     } = start;
-    let order = match order_in(rt, words) {
-        Ok(order) => order,
-        Err(unread) => return said(rt, errors, unread),
-    };
     let program = Program {
         rt,
         errors,
@@ -76,10 +72,18 @@ where
         terminals,
         progress: None,
     };
-    match program.run(&order) {
+    match order_in(rt, words) {
+        Ok(order) => said_of(errors, program.run(&order)),
+        Err(unread) => said(rt, errors, unread),
+    }
+}
+
+/// Prints the error of a command, and returns the exit status.
+fn said_of<E: Eprint>(errors: &E, done: Result<Outcome, StartFault>) -> u8 {
+    match done {
         Ok(Outcome::Done) => DONE,
         Ok(Outcome::Nothing) => NOTHING,
-        Err(error) => fault(errors, error),
+        Err(error) => fault(errors, &error),
     }
 }
 
@@ -115,16 +119,16 @@ fn said<R: Print, E: Eprint>(rt: &R, errors: &E, unread: Unread) -> u8 {
         }
         Unread::NoOrder(ParseFault::Version(text)) => match print!(rt; "{text}") {
             Ok(()) => DONE,
-            Err(_) => fault(errors, StartFault::Tool(ToolFault::WriteFault)),
+            Err(_) => fault(errors, &StartFault::Tool(ToolFault::WriteFault)),
         },
         Unread::NoOrder(ParseFault::OutOfMemory) => {
-            fault(errors, StartFault::Tool(ToolFault::OutOfMemory))
+            fault(errors, &StartFault::Tool(ToolFault::OutOfMemory))
         }
     }
 }
 
 /// Prints the error, and returns the exit status.
-fn fault<E: Eprint>(errors: &E, fault: StartFault) -> u8
+fn fault<E: Eprint>(errors: &E, fault: &StartFault) -> u8
     ensures { result ≡ FAULT }
 {
     let _ = eprintln!(errors; "cq: {fault}");
