@@ -4,19 +4,15 @@ ghost use Rattle.cq_bench.specs.Counts.{messages_appended};
 ghost use Rattle.cq_words.specs.Values.{IsOf};
 
 use crate::fault::BenchFault;
-use cq_append::Appender;
+use cq_append::{Appender, Backoff};
 use cq_layout::Refusal;
 use cq_words::Queue;
-use std::hint::spin_loop;
 
 /// The moment of each append, in milliseconds of Unix time: all messages are in one cycle.
 pub const MOMENT: u64 = 0;
 
 /// The most tries of one call that is held back by another caller.
 pub const MOST_TRIES: u32 = 1 << 30;
-
-/// How many times a caller pauses before it tries again.
-const PAUSES: u32 = 32;
 
 /// How an append is compiled into the measured loop.
 #[derive(Clone, Copy)]
@@ -27,13 +23,6 @@ pub enum Appending {
     Called,
 }
 
-/// A short spin.
-fn pause() {
-    for _ in 0..PAUSES {
-        spin_loop();
-    }
-}
-
 /// Appends a message, and tries again if another caller writes.
 #[inline(always)]
 pub fn append_one(queue: &Queue, appender: &mut Appender, bytes: &[u8]) -> Result<(), BenchFault>
@@ -41,23 +30,43 @@ pub fn append_one(queue: &Queue, appender: &mut Appender, bytes: &[u8]) -> Resul
     ensures of { IsOf queue.now appender.new }
     ensures appended { OnOk result (messages_appended appender.old + 1 ≤ messages_appended appender.new) }
 {
+    append_among(queue, appender, &mut Backoff::new(), bytes)
+}
+
+/// Appends a message, and tries again if another caller writes, with waits that go on from one message to the next.
+#[inline(always)]
+fn append_among(
+    queue: &Queue,
+    appender: &mut Appender,
+    backoff: &mut Backoff,
+    bytes: &[u8],
+) -> Result<(), BenchFault>
+    requires { IsOf queue.now appender.old }
+    ensures of { IsOf queue.now appender.new }
+    ensures appended { OnOk result (messages_appended appender.old + 1 ≤ messages_appended appender.new) }
+{
     match appender.append(queue, MOMENT, bytes) {
         Ok(_index) => Ok(()),
-        Err(Refusal::Busy) => append_again(queue, appender, bytes),
+        Err(Refusal::Busy) => append_again(queue, appender, backoff, bytes),
         Err(refusal) => Err(BenchFault::Refused(refusal)),
     }
 }
 
-/// Tries again to append a message that another caller held back, with a pause before each try. It is a function of
-/// its own, so that an append is one call if no other caller writes.
+/// Tries again to append a message that another caller held back, with a wait before each try, as `append_waiting` does. It is a
+/// function of its own, so that an append is one call if no other caller writes.
 #[inline(never)]
-fn append_again(queue: &Queue, appender: &mut Appender, bytes: &[u8]) -> Result<(), BenchFault>
+fn append_again(
+    queue: &Queue,
+    appender: &mut Appender,
+    backoff: &mut Backoff,
+    bytes: &[u8],
+) -> Result<(), BenchFault>
     requires { IsOf queue.now appender.old }
     ensures of { IsOf queue.now appender.new }
     ensures appended { OnOk result (messages_appended appender.old + 1 ≤ messages_appended appender.new) }
 {
     for _ in 0..MOST_TRIES {
-        pause();
+        backoff.pause();
         match appender.append(queue, MOMENT, bytes) {
             Ok(_index) => return Ok(()),
             Err(Refusal::Busy) => {}
@@ -103,9 +112,11 @@ fn append_rest(
     ensures of { IsOf queue.now appender.new }
     ensures appended { OnOk result (messages_appended appender.old + count ≤ messages_appended appender.new) }
 {
-    append_again(queue, appender, bytes)?;
+    let mut backoff = Backoff::new();
+    append_again(queue, appender, &mut backoff, bytes)?;
     for _ in 1..count {
-        append_one(queue, appender, bytes)?;
+        append_among(queue, appender, &mut backoff, bytes)?;
+        backoff.shorten();
     }
     Ok(())
 }
