@@ -3,6 +3,7 @@ use Rattle.std.proofs.Common.{◌≡◌, ◌≢◌, ◌⊎◌, ◌∙◌, ℕ, B
 use Rattle.std.specs.Io.KnownBytes.{Keeps}
 use Rattle.std.specs.Prelude.{Contains, Option, None, Some, IfErr, IfOk, IfSome, IsErrAnd, IsSome, IsSomeAnd, IsTrue, OnErr, Result, Ok, Err}
 use Rattle.cq_folder.specs.Folder.{Files, KeepsFiles, KeepsOrWrites, ListsFiles, NamedFile, WritesFiles, named_file}
+use Rattle.cq_files.specs.FolderFaults.{IsShowFault}
 use Rattle.cq_files.proofs.QueueLemmas.{keeps-trans, of_before}
 use Rattle.cq_files.proofs.WritingLemmas.{kept_then_written}
 use Rattle.cq_model.specs.Settings.{texts}
@@ -10,7 +11,7 @@ use Rattle.cq_text.specs.Output.{AppendsBeginning}
 use Rattle.cq_text.specs.declared.fault.ToolFault.{ToolFault}
 use Rattle.cq_text.specs.declared.fault.ToolFault.TheVariants.{FileFault, OutOfMemory, WriteFault}
 use Rattle.cq_files.specs.Saved.{first_file}
-use Rattle.cq_repair.specs.Found.{IsFound}
+use Rattle.cq_repair.specs.Found.{IsFound, IsOldOrUnread}
 use Rattle.cq_repair.specs.Kept.{AreChanges, both, image, old_file}
 use Rattle.cq_repair.specs.Plans.{Decides, HasOther, IsCutShort, IsPlanCutShort, IsPlanned, IsUndecided, IsUnlessTaken, IsUnread, Leaves, writes_of}
 use Rattle.cq_repair.specs.Repairs.{IsRepairFault, IsRepaired, Repairs}
@@ -61,6 +62,24 @@ decides_unless_taken dry file a b found plan (Ok (Refuse (ThereAlready name))) k
   decided.0 ∙ ap (λ (old : NamedFile). old.0) planned.old,
 )
 decides_unless_taken dry file a b found plan (Ok (Refuse (NoFault name))) kept is planned decided = absurd decided
+
+-- an image that is not found is not decided
+pub not_found : (file : List ℕ) (a : Option Files) (fault : ToolFault) → IfSome a (λ files. IsShowFault (IsOldOrUnread file) file files fault)
+    → IfSome a (λ files. IsUndecided file files fault)
+not_found file None fault why = tt
+not_found file (Some a) fault why = inl why
+
+-- nor is one for which memory runs out
+pub scarce : (file : List ℕ) (a : Option Files) → IfSome a (λ files. IsUndecided file files OutOfMemory)
+scarce file None = tt
+scarce file (Some a) = inl (inl (tt, tt))
+
+-- these causes are not that the writer failed
+pub unprinted : {T : Type 0} (file : List ℕ) (result : Result T ToolFault) → IfErr result (λ fault. (fault ≡ OutOfMemory) ⊎ IsUnread file fault)
+    → IfErr result (λ fault. fault ≢ WriteFault)
+unprinted file (Ok value) why = tt
+unprinted file (Err fault) (inl no_room) = λ is. cc
+unprinted file (Err fault) (inr unread) = λ is. subst (IsUnread file) is unread
 
 -- why it is not decided: memory that runs out is among the first causes
 pub unjudged : (dry : Bool) (file : List ℕ) (a : Option Files) (found : Found) (plan : Plan) (fault : ToolFault) → IsFound file a found

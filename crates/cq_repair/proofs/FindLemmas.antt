@@ -1,5 +1,6 @@
 -- How an image is found among the files of a folder.
-use Rattle.std.proofs.Common.{◌≡◌, ◌≢◌, ℕ, zero, suc, ◌<◌, ◌≤◌, List, [], ◌∷◌, length, get_or, refl, ap, sym, subst, arith, inl, inr, rules, string_bytes}
+use Rattle.std.proofs.Common.{◌≡◌, ◌≢◌, ℕ, zero, suc, ◌+◌, ◌<◌, ◌≤◌, List, [], ◌∷◌, ◌++◌, length, get_or, take, refl, ap, sym, subst, arith, inl, inr, rules, string_bytes}
+use Rattle.std.proofs.lemmas.List.{take_more}
 use Rattle.std.specs.Prelude.{Contains, String, Option, None, Some, IfSome, IsSomeAnd}
 use Rattle.std.specs.List.{AllByRecursion}
 use Rattle.cq_config_text.specs.ConfigText.{IsTextOf}
@@ -36,6 +37,15 @@ pub none_of : {A : Type 0} (Q : List ℕ → Type 0) (names : List (String A)) �
 none_of Q [] all file has holds = let low = has.1 in absurd (let nothing : ⊥ = omega (arith, low) in nothing)
 none_of Q (name ∷ names) all file (zero, low, same) holds = all.0 (subst Q (sym same) holds)
 none_of Q (name ∷ names) all file (suc k, low, same) holds = none_of Q names all.1 file (k, omega (arith, low), same) holds
+
+-- what holds of the first names and of the next one holds of one more
+pub all_more : {A : Type 0} (P : A → Type 0) (xs : List A) (i : ℕ) (x : A) → i < length xs → AllByRecursion P (take i xs) → P (get_or xs i x)
+    → AllByRecursion P (take (i + 1) xs)
+all_more P xs i x below all next = subst (AllByRecursion P) (sym (take_more xs i x below)) (all_and P (take i xs) (get_or xs i x) all next)
+  where
+    all_and : {A : Type 0} (P : A → Type 0) (xs : List A) (x : A) → AllByRecursion P xs → P x → AllByRecursion P (xs ++ x ∷ [])
+    all_and P [] x all next = (next, tt)
+    all_and P (first ∷ xs) x all next = (all.0, all_and P xs x all.1 next)
 
 -- what was read of a folder that was entered
 pub record IsEntered (files : Option Files) (saved : SavedConfig) (all : List (List ℕ)) : Type 0 where
