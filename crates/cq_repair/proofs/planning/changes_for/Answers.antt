@@ -1,4 +1,5 @@
-use Rattle.std.proofs.Common.{◌≡◌, ◌∙◌, ℕ, List, Vec, Global, ap, map, sym, subst}
+use Rattle.std.proofs.Common.{◌≡◌, ◌∙◌, ℕ, List, Vec, Global, ap, length, map, sym, subst}
+use Rattle.std.proofs.lemmas.List.{length-map}
 use Rattle.cq_folder.specs.Folder.{named_file}
 use Rattle.cq_folder.specs.declared.storage.NewFile.{NewFile}
 use Rattle.cq_repair.specs.Kept.{AreChanges, lowered, positions_after}
@@ -29,3 +30,10 @@ returns c =
           c.new-changes.ensures.items c.in_ok-push.ensures.items c.in_ok-image_file.ensures after
           (sym c.as_slice-2.ensures.value ∙ (same_list c.as_slice-2.result.now c.as_slice-3.result.now w.if-ne.ensures ∙ c.as_slice-3.ensures.value)))
     ]
+
+pub config_file-requires-clause-paired : goal.config_file-requires-clause-paired
+config_file-requires-clause-paired c =
+    ap length c.as_slice-then-ne.ensures.value
+    ∙ (ap length c.in_ok-positions.ensures
+    ∙ (length-map c.as_slice.result.now (lowered c.args.kept.now.ended c.args.kept.now.end)
+    ∙ (ap length c.as_slice.ensures.value ∙ c.requires.paired)))
