@@ -1,6 +1,6 @@
 //! The program's commands and their arguments, as `clap` is given them.
 ghost use Rattle.std.specs.Prelude.{IfOk};
-ghost use Rattle.cq_command_line.specs.CommandLine.{Makes, command_line};
+ghost use Rattle.cq_command_line.specs.CommandLine.{Makes, command_line, program};
 
 use crate::arguments::Argument;
 use crate::commands::{Description, commands};
@@ -21,11 +21,17 @@ pub(crate) fn command_line<'a>(alloc: Global) -> Result<Command<'a>, AllocError>
             &NAME, &MIGRATE, &STAT, &CHECK, &DUMP, &SALVAGE, &REPAIR,
         ],
     )?;
+    program(alloc).subcommands(commands)
+}
+
+/// Returns the program without its commands.
+fn program<'a>(alloc: Global) -> Command<'a>
+    ensures { Makes result program }
+{
     Command::new(alloc, "cq")
         .about("An append journal")
         .version(VERSION)
         .subcommand_required(true)
-        .subcommands(commands)
 }
 
 static ECHO: Description = Description {

@@ -1,6 +1,6 @@
 //! Commands with their arguments.
 ghost use Rattle.std.specs.Prelude.{IfOk};
-ghost use Rattle.cq_command_line.specs.CommandLine.{Makes, MakesAll, command_for};
+ghost use Rattle.cq_command_line.specs.CommandLine.{Makes, MakesAll, bare_command, command_for};
 
 use crate::arguments::{Argument, args_of};
 use clap::Command;
@@ -34,8 +34,14 @@ fn command<'a>(alloc: Global, description: &Description) -> Result<Command<'a>, 
     ensures { IfOk result (λ command. Makes command (command_for description.now)) }
 {
     let args = args_of(alloc, description.arguments)?;
+    without_arguments(alloc, description).args(args)
+}
+
+/// Returns the command with this description, without its arguments.
+fn without_arguments<'a>(alloc: Global, description: &Description) -> Command<'a>
+    ensures { Makes result (bare_command description.now) }
+{
     Command::new(alloc, description.name)
         .about(description.about)
         .after_help(description.after_help)
-        .args(args)
 }
