@@ -1,3 +1,4 @@
 pub mod LeftLemmas
 pub mod FoundLemmas
 pub mod OpenLemmas
+pub mod StepLemmas

@@ -1,21 +1,10 @@
-use Rattle.std.proofs.Common.{◌≡◌, ◌+◌, ◌<◌, ◌++◌, ◌∷◌, [], List, ap, ap₂, get_or, length, map, string_bytes, subst, sym, take, ℕ, ◌∙◌}
-use Rattle.std.proofs.lemmas.List.{get_or-map, length-map, map-append, take_more}
-use Rattle.std.proofs.lemmas.List.Elements.{All-append}
-use Rattle.std.specs.Prelude.{All}
-use Rattle.cq_layout.proofs.Each.{each-all}
+use Rattle.std.proofs.Common.{◌≡◌, ◌<◌, List, ap, get_or, length, string_bytes, subst, sym, ℕ, ◌∙◌}
+use Rattle.std.proofs.lemmas.List.{get_or-map, length-map}
 use Rattle.cq_model.specs.Settings.{texts}
 use Rattle.cq_stat.specs.Facts.{left_from}
 use Rattle.cq_stat.specs.declared.facts.NameStat.{NameStat}
+use Rattle.cq_stat.proofs.StepLemmas.{all_more, one_more}
 use Rattle.cq_stat.proofs.names.name_stats.Goals as goal
-
--- what is said of one more name
-one_more : {X Y : Type 0} (f : X → Y) (xs more : List X) (x : X) (ys : List Y) (i : ℕ) (d : Y) → more ≡ xs ++ x ∷ [] → map f xs ≡ take i ys
-    → i < length ys → f x ≡ get_or ys i d → map f more ≡ take (i + 1) ys
-one_more f xs more x ys i d is said low at =
-    ap (map f) is ∙ map-append f xs (x ∷ []) ∙ ap₂ (λ a b. a ++ b ∷ []) said at ∙ sym (take_more ys i d low)
-
-all_more : {X : Type 0} (P : X → Type 0) (xs more : List X) (x : X) → more ≡ xs ++ x ∷ [] → All P xs → P x → All P more
-all_more P xs more x is all holds = subst (All P) (sym is) (All-append P xs (x ∷ []) all (each-all P (x ∷ []) (holds, tt)))
 
 pub loop-i-preserved : goal.loop-i-preserved
 loop-i-preserved c =
