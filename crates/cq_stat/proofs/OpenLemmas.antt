@@ -3,6 +3,7 @@ use Rattle.std.proofs.Common.{◌≡◌, ap, inl, inr, map, refl, subst, sym, �
 use Rattle.std.specs.Prelude.{List, ℕ, Bool, Err, IfErr, IfSome, None, Ok, Option, Result, Some}
 use Rattle.cq_folder.specs.Folder.{Files}
 use Rattle.cq_files.specs.declared.opening.SavedQueue.{SavedQueue}
+use Rattle.cq_files.specs.FolderFaults.{IsQueueFault}
 use Rattle.cq_files.specs.Openable.{IsOpenFault}
 use Rattle.cq_files.specs.Queue.{CanBeOpened, HoldQueue, IsLawfulQueue, contents_from, contents_in, list_in}
 use Rattle.cq_model.specs.declared.contents.Contents.{Contents}
@@ -33,6 +34,11 @@ bad_contents (Some files) queue lawful held lists bad = inl (
     bad = λ can. bad (subst (CanBeOpened queue.config) (sym (whole queue lists)) can);
   },
 )
+
+-- a queue that is not read cannot be opened
+pub not_read : (a : Option Files) (fault : ToolFault) → IfSome a (λ files. IsQueueFault files fault) → IfSome a (λ files. IsOpenFault files fault)
+not_read None fault cause = tt
+not_read (Some files) fault cause = inr cause
 
 -- what is said of the queue that the files hold
 pub found_in : (a : Option Files) (queue : SavedQueue) (stat : QueueStat) → IsLawfulQueue queue → IfSome a (HoldQueue queue)
