@@ -64,3 +64,57 @@ returns-in-name-clause-named c = named _ _ _ c.in-name.is c.names_order.ensures.
 
 pub returns-in-explain-clause-named : goal.returns-in-explain-clause-named
 returns-in-explain-clause-named c = named _ _ _ c.in-explain.is c.explain_order.ensures.named
+
+pub returns-in-cycle-clause-values : goal.returns-in-cycle-clause-values
+returns-in-cycle-clause-values c = c.cycle_order.ensures.values
+
+pub returns-in-init-clause-values : goal.returns-in-init-clause-values
+returns-in-init-clause-values c = c.init_order.ensures.values
+
+pub returns-in-new-clause-values : goal.returns-in-new-clause-values
+returns-in-new-clause-values c = c.new_order.ensures.values
+
+pub returns-in-write-clause-values : goal.returns-in-write-clause-values
+returns-in-write-clause-values c = c.write_order.ensures.values
+
+pub returns-in-log-clause-values : goal.returns-in-log-clause-values
+returns-in-log-clause-values c = c.log_order.ensures.values
+
+pub returns-in-read-clause-values : goal.returns-in-read-clause-values
+returns-in-read-clause-values c = c.read_order.ensures.values
+
+pub returns-in-take-clause-values : goal.returns-in-take-clause-values
+returns-in-take-clause-values c = c.take_order.ensures.values
+
+pub returns-in-drop-clause-values : goal.returns-in-drop-clause-values
+returns-in-drop-clause-values c = c.drop_order.ensures.values
+
+pub returns-in-trim-clause-values : goal.returns-in-trim-clause-values
+returns-in-trim-clause-values c = c.trim_order.ensures.values
+
+pub returns-in-check-clause-values : goal.returns-in-check-clause-values
+returns-in-check-clause-values c = c.check_order.ensures.values
+
+pub returns-in-stat-clause-values : goal.returns-in-stat-clause-values
+returns-in-stat-clause-values c = c.stat_order.ensures.values
+
+pub returns-in-dump-clause-values : goal.returns-in-dump-clause-values
+returns-in-dump-clause-values c = c.dump_order.ensures.values
+
+pub returns-in-salvage-clause-values : goal.returns-in-salvage-clause-values
+returns-in-salvage-clause-values c = c.salvage_order.ensures.values
+
+pub returns-in-repair-clause-values : goal.returns-in-repair-clause-values
+returns-in-repair-clause-values c = c.repair_order.ensures.values
+
+pub returns-in-migrate-clause-values : goal.returns-in-migrate-clause-values
+returns-in-migrate-clause-values c = c.migrate_order.ensures.values
+
+pub returns-in-race-clause-values : goal.returns-in-race-clause-values
+returns-in-race-clause-values c = c.race_order.ensures.values
+
+pub returns-in-name-clause-values : goal.returns-in-name-clause-values
+returns-in-name-clause-values c = c.names_order.ensures.values
+
+pub returns-in-explain-clause-values : goal.returns-in-explain-clause-values
+returns-in-explain-clause-values c = c.explain_order.ensures.values
