@@ -1,9 +1,10 @@
 -- What is decided of a queue that is opened.
 use Rattle.std.proofs.Common.{◌≡◌, ◌≢◌, ◌≤◌, ℕ, List, [], ◌∷◌, ap, arith, inl, inr, map, max, min, subst, sym}
 use Rattle.std.specs.List.{AllByRecursion}
-use Rattle.std.specs.Prelude.{Option, None, Some, IfErr, IfOk, IfSome, Result, Ok, Err, option_map, string_bytes}
+use Rattle.std.specs.Prelude.{Option, None, Some, IfErr, IfOk, IfSome, IsErrAnd, Result, Ok, Err, option_map, string_bytes}
 use Rattle.cq_cycle.specs.declared.roll.TheConstants.{LAST_CYCLE}
 use Rattle.cq_folder.specs.Folder.{Files}
+use Rattle.cq_files.proofs.CauseLemmas.{MindsFault}
 use Rattle.cq_files.specs.Counted.{CountsFaults}
 use Rattle.cq_files.specs.FolderFaults.{IsQueueFault, MindsVersion}
 use Rattle.cq_files.specs.Openable.{IsOpenFault}
@@ -109,6 +110,18 @@ pub minds_still : {T U : Type 0} (a : Option Files) (value : T) (result : Result
 minds_still None value result second = tt
 minds_still (Some files) value (Ok decision) second = second
 minds_still (Some files) value (Err fault) second = inr (inr second)
+
+-- a queue that is not opened is passed on
+pub minds_passed : {T : Type 0} (a : Option Files) (fault : ToolFault) (result : Result T ToolFault) → IsErrAnd result (λ passed. passed ≡ fault)
+    → MindsFault a fault → IfSome a (λ files. MindsVersion files result)
+minds_passed None fault result is minds = tt
+minds_passed (Some files) fault (Ok value) is minds = absurd is
+minds_passed (Some files) fault (Err passed) is minds = subst (MindsFault (Some files)) (sym is) minds
+
+pub not_opened : (a : Option Files) (wanted : TrimSettings) (fault : ToolFault) → IfSome a (λ files. IsQueueFault files fault)
+    → IfSome a (λ files. IsUndecided wanted files fault)
+not_opened None wanted fault cause = tt
+not_opened (Some files) wanted fault cause = inl (inr cause)
 
 -- no failure is counted for it
 pub counts_still : {T : Type 0} (was now : ℕ) (wanted : TrimSettings) (settings : Settings) (result : Result T ToolFault) → was ≤ now

@@ -1,6 +1,11 @@
-use Rattle.std.proofs.Common.{rules}
+use Rattle.std.proofs.Common.{refl, rules}
+use Rattle.std.specs.Prelude.{◌≢◌, IfSome}
+use Rattle.cq_files.proofs.CountLemmas.{counts_passed}
 use Rattle.cq_files.specs.Queue.{CanBeOpened}
-use Rattle.cq_trim.proofs.PlanLemmas.{bad_decided, decided, undecided}
+use Rattle.cq_text.proofs.FaultLemmas.{passed_on}
+use Rattle.cq_text.specs.declared.fault.ToolFault.TheVariants.{WriteFault}
+use Rattle.cq_trim.specs.Plans.{IsUndecided}
+use Rattle.cq_trim.proofs.PlanLemmas.{bad_decided, counts_still, decided, minds_passed, minds_still, not_opened, undecided, unprinted_still}
 use Rattle.cq_trim.proofs.planning.decide.Goals as goal
 
 pub returns-then-not-can_be_opened-clause-cause : goal.returns-then-not-can_be_opened-clause-cause
@@ -23,3 +28,36 @@ returns-clause-cause g c =
     let read = c.in_ok-config.ensures in
     let can : CanBeOpened queue.config queue.contents = search rules in
     undecided (g.F.Folder.files c.args.folder.now) c.args.settings.now queue c.decision_for.result read.lawful read.held read.lists can c.decision_for.ensures.fault
+
+pub returns-in_err-config-clause-cause : goal.returns-in_err-config-clause-cause
+returns-in_err-config-clause-cause g c =
+    let files = g.F.Folder.files c.args.folder.now in
+    let fault = c.in_err-config.field-0.0 in
+    passed_on c.from_residual.result (λ f. IfSome files (λ held. IsUndecided c.args.settings.now held f)) fault c.from_residual.ensures.1
+    (not_opened files c.args.settings.now fault c.in_err-config.ensures.cause)
+
+pub returns-in_err-config-clause-unprinted : goal.returns-in_err-config-clause-unprinted
+returns-in_err-config-clause-unprinted g c =
+    passed_on c.from_residual.result (λ f. f ≢ WriteFault) c.in_err-config.field-0.0 c.from_residual.ensures.1 c.in_err-config.ensures.unprinted
+
+pub returns-in_err-config-clause-version : goal.returns-in_err-config-clause-version
+returns-in_err-config-clause-version g c =
+    minds_passed (g.F.Folder.files c.args.folder.now) c.in_err-config.field-0.0 c.from_residual.result c.from_residual.ensures.1
+    (c.in_err-config.ensures.version refl)
+
+pub returns-in_err-config-clause-counted : goal.returns-in_err-config-clause-counted
+returns-in_err-config-clause-counted g c =
+    counts_passed _ _ c.in_err-config.field-0.0 c.from_residual.result c.in_err-config.ensures.counted c.from_residual.ensures.1
+
+pub returns-clause-unprinted : goal.returns-clause-unprinted
+returns-clause-unprinted g c =
+    unprinted_still c.args.settings.now c.in_ok-config.field-0.config c.decision_for.result c.decision_for.ensures.fault
+
+pub returns-clause-version : goal.returns-clause-version
+returns-clause-version g c =
+    minds_still (g.F.Folder.files c.args.folder.now) c.in_ok-config.field-0 c.decision_for.result (c.in_ok-config.ensures.version refl)
+
+pub returns-clause-counted : goal.returns-clause-counted
+returns-clause-counted g c =
+    counts_still _ _ c.args.settings.now c.in_ok-config.field-0.config c.decision_for.result c.in_ok-config.ensures.counted.later
+    c.decision_for.ensures.fault
