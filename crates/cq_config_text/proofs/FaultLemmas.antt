@@ -1,9 +1,12 @@
 -- The first faulty line of a text.
-use Rattle.std.proofs.Common.{◌≡◌, ◌==◌, ℕ, ◌+◌, ◌<◌, List, [], ◌∷◌, length, get_or, drop, refl, ap, ◌∙◌, arith, false, true, cond, nat_eq, Some, None}
+use Rattle.std.proofs.Common.{◌≡◌, ◌==◌, ℕ, ◌+◌, ◌<◌, List, [], ◌∷◌, length, get_or, drop, refl, ap, sym, ◌∙◌, arith, false, true, cond, nat_eq, Some, None}
 use Rattle.std.proofs.lemmas.Bool.Decides.{nat_tests}
 use Rattle.std.proofs.lemmas.List.Splits.{length-slice_split}
 use Rattle.std.specs.List.{slice_split}
+use Rattle.std.specs.Prelude.{IfErr, IsErrAnd, Option, Result, Ok, Err, option_map}
 use Rattle.cq_config_text.specs.ConfigText.{Form, fault_from, first_fault, has_form, name_form}
+use Rattle.cq_config_text.specs.declared.config_fault.ConfigFault.{ConfigFault}
+use Rattle.cq_config_text.specs.declared.config_fault.ConfigFault.TheVariants.{Line}
 
 -- the parts of a text between its line feeds
 abbrev pub lines_in : List ℕ → List (List ℕ)
@@ -44,3 +47,11 @@ pub no_fault_at_end : (text : List ℕ) → length text ≡ 0 → (number : ℕ)
 unfolding fault_from first_fault
 no_fault_at_end [] none number = refl
 no_fault_at_end (byte ∷ text) none number = absurd (omega arith)
+
+-- a line that is refused is the first faulty one
+pub line_refused : {T : Type 0} (result : Result T ConfigFault) (fault : ConfigFault) (number : ℕ) (faulty : Option ℕ)
+    → IsErrAnd result (λ passed. passed ≡ fault) → fault ≡ Line number → faulty ≡ Some number
+    → IfErr result (λ passed. option_map (λ line. Line line) faulty ≡ Some passed)
+line_refused (Ok value) fault number faulty is line first = tt
+line_refused (Err passed) fault number faulty is line first =
+    ap (option_map (λ line. Line line)) first ∙ ap Some (sym (is ∙ line))

@@ -1,10 +1,11 @@
 use Rattle.std.proofs.Common.{refl, lit<, ◌≡◌, ◌∙◌, ◌++◌, ◌∷◌, [], List, ℕ, ap, codes, drop, sym}
 use Rattle.cq_model.specs.Settings.{Settings}
-use Rattle.cq_config_text.specs.ConfigText.{IsWritable, fault_from, floor_forms, head_forms, head_lines, line_at, line_of, lines_text, setting_words}
+use Rattle.cq_config_text.specs.ConfigText.{IsWritable, fault_from, faulty_line, floor_forms, head_forms, head_lines, line_at, line_of, lines_text, setting_words}
 use Rattle.cq_config_text.specs.Version.{store_in, version_of, version_word}
 use Rattle.cq_config_text.specs.declared.version.FolderVersion.{FolderVersion}
 use Rattle.cq_cycle.specs.RollWord.{roll_word}
 use Rattle.cq_config_text.specs.Written.{settings_in}
+use Rattle.cq_config_text.proofs.FaultLemmas.{line_refused}
 use Rattle.cq_config_text.proofs.SpellingLemmas.{line_behind_head}
 use Rattle.cq_config_text.proofs.TextLemmas.{line_before, none_declared, version_kept}
 use Rattle.cq_config_text.proofs.config_text.take_head.Goals as goal
@@ -77,3 +78,66 @@ returns-clause-next c =
     ∙ c.in_ok-index_spacing.ensures.next (drop 6 head_forms ++ forms)
     ∙ c.in_ok-cycles.ensures.next forms
     ∙ ap (λ (line : List ℕ). fault_from 8 (floor_forms line) rest) (line_behind_head settings [] 0 writable text rest found)
+
+pub returns-in_err-version-clause-fault : goal.returns-in_err-version-clause-fault
+returns-in_err-version-clause-fault c =
+    let forms = floor_forms (line_at c.args.text.now 7) in
+    line_refused c.from_residual.result c.in_err-version.field-0.0 1 (faulty_line c.args.text.now) c.from_residual.ensures.1 c.in_err-version.ensures.fault.0
+    (c.in_err-version.ensures.fault.1 (drop 1 head_forms ++ forms))
+
+pub returns-in_err-roll-clause-fault : goal.returns-in_err-roll-clause-fault
+returns-in_err-roll-clause-fault c =
+    let forms = floor_forms (line_at c.args.text.now 7) in
+    line_refused c.from_residual-in_err-roll.result c.in_err-roll.field-0.0 2 (faulty_line c.args.text.now) c.from_residual-in_err-roll.ensures.1 c.in_err-roll.ensures.fault.0
+    (c.in_ok-version.ensures.next (drop 1 head_forms ++ forms)
+    ∙ c.in_err-roll.ensures.fault.1 (drop 2 head_forms ++ forms))
+
+pub returns-in_err-epoch-clause-fault : goal.returns-in_err-epoch-clause-fault
+returns-in_err-epoch-clause-fault c =
+    let forms = floor_forms (line_at c.args.text.now 7) in
+    line_refused c.from_residual-in_err-epoch.result c.in_err-epoch.field-0.0 3 (faulty_line c.args.text.now) c.from_residual-in_err-epoch.ensures.1 c.in_err-epoch.ensures.fault.0
+    (c.in_ok-version.ensures.next (drop 1 head_forms ++ forms)
+    ∙ c.in_ok-roll.ensures.next (drop 2 head_forms ++ forms)
+    ∙ c.in_err-epoch.ensures.fault.1 (drop 3 head_forms ++ forms))
+
+pub returns-in_err-cells-clause-fault : goal.returns-in_err-cells-clause-fault
+returns-in_err-cells-clause-fault c =
+    let forms = floor_forms (line_at c.args.text.now 7) in
+    line_refused c.from_residual-in_err-cells.result c.in_err-cells.field-0.0 4 (faulty_line c.args.text.now) c.from_residual-in_err-cells.ensures.1 c.in_err-cells.ensures.fault.0
+    (c.in_ok-version.ensures.next (drop 1 head_forms ++ forms)
+    ∙ c.in_ok-roll.ensures.next (drop 2 head_forms ++ forms)
+    ∙ c.in_ok-epoch.ensures.next (drop 3 head_forms ++ forms)
+    ∙ c.in_err-cells.ensures.fault.1 (drop 4 head_forms ++ forms))
+
+pub returns-in_err-index_count-clause-fault : goal.returns-in_err-index_count-clause-fault
+returns-in_err-index_count-clause-fault c =
+    let forms = floor_forms (line_at c.args.text.now 7) in
+    line_refused c.from_residual-in_err-index_count.result c.in_err-index_count.field-0.0 5 (faulty_line c.args.text.now) c.from_residual-in_err-index_count.ensures.1 c.in_err-index_count.ensures.fault.0
+    (c.in_ok-version.ensures.next (drop 1 head_forms ++ forms)
+    ∙ c.in_ok-roll.ensures.next (drop 2 head_forms ++ forms)
+    ∙ c.in_ok-epoch.ensures.next (drop 3 head_forms ++ forms)
+    ∙ c.in_ok-cells.ensures.next (drop 4 head_forms ++ forms)
+    ∙ c.in_err-index_count.ensures.fault.1 (drop 5 head_forms ++ forms))
+
+pub returns-in_err-index_spacing-clause-fault : goal.returns-in_err-index_spacing-clause-fault
+returns-in_err-index_spacing-clause-fault c =
+    let forms = floor_forms (line_at c.args.text.now 7) in
+    line_refused c.from_residual-in_err-index_spacing.result c.in_err-index_spacing.field-0.0 6 (faulty_line c.args.text.now) c.from_residual-in_err-index_spacing.ensures.1 c.in_err-index_spacing.ensures.fault.0
+    (c.in_ok-version.ensures.next (drop 1 head_forms ++ forms)
+    ∙ c.in_ok-roll.ensures.next (drop 2 head_forms ++ forms)
+    ∙ c.in_ok-epoch.ensures.next (drop 3 head_forms ++ forms)
+    ∙ c.in_ok-cells.ensures.next (drop 4 head_forms ++ forms)
+    ∙ c.in_ok-index_count.ensures.next (drop 5 head_forms ++ forms)
+    ∙ c.in_err-index_spacing.ensures.fault.1 (drop 6 head_forms ++ forms))
+
+pub returns-in_err-cycles-clause-fault : goal.returns-in_err-cycles-clause-fault
+returns-in_err-cycles-clause-fault c =
+    let forms = floor_forms (line_at c.args.text.now 7) in
+    line_refused c.from_residual-in_err-cycles.result c.in_err-cycles.field-0.0 7 (faulty_line c.args.text.now) c.from_residual-in_err-cycles.ensures.1 c.in_err-cycles.ensures.fault.0
+    (c.in_ok-version.ensures.next (drop 1 head_forms ++ forms)
+    ∙ c.in_ok-roll.ensures.next (drop 2 head_forms ++ forms)
+    ∙ c.in_ok-epoch.ensures.next (drop 3 head_forms ++ forms)
+    ∙ c.in_ok-cells.ensures.next (drop 4 head_forms ++ forms)
+    ∙ c.in_ok-index_count.ensures.next (drop 5 head_forms ++ forms)
+    ∙ c.in_ok-index_spacing.ensures.next (drop 6 head_forms ++ forms)
+    ∙ c.in_err-cycles.ensures.fault.1 forms)
