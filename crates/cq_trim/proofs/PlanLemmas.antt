@@ -2,11 +2,12 @@
 use Rattle.std.proofs.Common.{◌≡◌, ◌≢◌, ◌≤◌, ℕ, List, [], ◌∷◌, ap, arith, inl, inr, map, max, min, subst, sym}
 use Rattle.std.specs.List.{AllByRecursion}
 use Rattle.std.specs.Prelude.{Option, None, Some, IfErr, IfOk, IfSome, IsErrAnd, Result, Ok, Err, option_map, string_bytes}
+use Rattle.cq_config_text.specs.declared.version.FolderVersion.TheVariants as version
 use Rattle.cq_cycle.specs.declared.roll.TheConstants.{LAST_CYCLE}
 use Rattle.cq_folder.specs.Folder.{Files}
 use Rattle.cq_files.proofs.CauseLemmas.{MindsFault}
 use Rattle.cq_files.specs.Counted.{CountsFaults}
-use Rattle.cq_files.specs.FolderFaults.{IsQueueFault, MindsVersion}
+use Rattle.cq_files.specs.FolderFaults.{HasVersion, IsQueueFault, MindsVersion}
 use Rattle.cq_files.specs.Openable.{IsOpenFault}
 use Rattle.cq_files.specs.Queue.{CanBeOpened, HoldQueue, IsLawfulQueue, contents_from, contents_in, list_in}
 use Rattle.cq_files.specs.declared.opening.SavedQueue.{SavedQueue}
@@ -105,11 +106,11 @@ module _ (a : Option Files) (wanted : TrimSettings) (queue : SavedQueue) (result
       by (Some files) holds (Err fault) (inr word) = inr (queue, record { lawful = lawful; held = holds; openable = can_whole }, word)
 
 -- the folder is of version 2, and it is decided or not
-pub minds_still : {T U : Type 0} (a : Option Files) (value : T) (result : Result U ToolFault) → IfSome a (λ files. MindsVersion {T = T} files (Ok value))
+pub minds_still : {T : Type 0} (a : Option Files) (result : Result T ToolFault) → IfSome a (λ files. HasVersion files version.Second)
     → IfSome a (λ files. MindsVersion files result)
-minds_still None value result second = tt
-minds_still (Some files) value (Ok decision) second = second
-minds_still (Some files) value (Err fault) second = inr (inr second)
+minds_still None result second = tt
+minds_still (Some files) (Ok done) second = second
+minds_still (Some files) (Err fault) second = inr (inr second)
 
 -- a queue that is not opened is passed on
 pub minds_passed : {T : Type 0} (a : Option Files) (fault : ToolFault) (result : Result T ToolFault) → IsErrAnd result (λ passed. passed ≡ fault)

@@ -55,7 +55,7 @@ returns-clause-unprinted g c =
 
 pub returns-clause-version : goal.returns-clause-version
 returns-clause-version g c =
-    minds_still (g.F.Folder.files c.args.folder.now) c.in_ok-config.field-0 c.decision_for.result (c.in_ok-config.ensures.version refl)
+    minds_still (g.F.Folder.files c.args.folder.now) c.decision_for.result (c.in_ok-config.ensures.version refl)
 
 pub returns-clause-counted : goal.returns-clause-counted
 returns-clause-counted g c =

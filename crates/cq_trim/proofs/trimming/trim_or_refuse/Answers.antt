@@ -1,6 +1,7 @@
-use Rattle.std.proofs.Common.{◌≡◌, inr, map, refl, subst, sym, ◌∙◌}
+use Rattle.std.proofs.Common.{◌≡◌, inl, inr, map, refl, subst, sym, ◌∙◌}
 use Rattle.std.proofs.KnownBytes.{Keeps-refl}
-use Rattle.std.specs.Prelude.{Option}
+use Rattle.std.specs.Prelude.{Err, Option}
+use Rattle.cq_files.proofs.CountLemmas.{counts_from, counts_passed}
 use Rattle.cq_files.proofs.QueueLemmas.{keeps-trans}
 use Rattle.cq_folder.specs.Folder.{Files, named_file}
 use Rattle.cq_model.specs.Settings.{texts}
@@ -8,6 +9,7 @@ use Rattle.cq_text.proofs.FaultLemmas.{passed_on}
 use Rattle.cq_text.specs.declared.fault.ToolFault.TheVariants.{OutOfMemory, WriteFault}
 use Rattle.cq_files.specs.FolderFaults.{IsSaveFault, TellsFile}
 use Rattle.cq_trim.proofs.EndLemmas.{kept_or_trimmed, trimmed_by, trims_none, trims_not, undone, unsaved}
+use Rattle.cq_trim.proofs.PlanLemmas.{minds_passed, minds_still}
 use Rattle.cq_trim.specs.Plans.{Decides}
 use Rattle.cq_trim.specs.Trimmed.{Leaves, first_touched}
 use Rattle.cq_trim.proofs.trimming.trim_or_refuse.Goals as goal
@@ -103,3 +105,36 @@ returns-in_ok-print_outside-in-Trim-clause-trims g c =
       silent = tt;
       broken = tt;
     }
+
+pub returns-in_err-name-clause-trims : goal.returns-in_err-name-clause-trims
+returns-in_err-name-clause-trims g c =
+    let files = g.F.Folder.files in
+    let old = g.W.Write.contents c.args.output.now in
+    let kept = c.in_err-name.ensures.kept in
+    trims_not c.args.settings.now (files c.args.folder.now) (files c.decide.new.folder) old old c.from_residual.result c.in_err-name.field-0.0 c.from_residual.ensures.1
+    (record { unsaved = λ other. kept; scarce = λ memory. kept; whole = inl kept })
+    (λ unwritten. Keeps-refl old)
+    (λ written. absurd (c.in_err-name.ensures.unprinted written))
+
+pub returns-in_err-name-clause-version : goal.returns-in_err-name-clause-version
+returns-in_err-name-clause-version g c =
+    minds_passed (g.F.Folder.files c.args.folder.now) c.in_err-name.field-0.0 c.from_residual.result c.from_residual.ensures.1 c.in_err-name.ensures.version
+
+pub returns-in_err-name-clause-counted : goal.returns-in_err-name-clause-counted
+returns-in_err-name-clause-counted g c =
+    counts_passed _ _ c.in_err-name.field-0.0 c.from_residual.result c.in_err-name.ensures.counted c.from_residual.ensures.1
+
+pub returns-in_err-carry_out-in-Trim-clause-version : goal.returns-in_err-carry_out-in-Trim-clause-version
+returns-in_err-carry_out-in-Trim-clause-version g c =
+    minds_still (g.F.Folder.files c.args.folder.now) c.from_residual-in_err-carry_out-in-Trim.result c.in_ok-name.ensures.version
+
+pub returns-in_err-carry_out-in-Trim-clause-counted : goal.returns-in_err-carry_out-in-Trim-clause-counted
+returns-in_err-carry_out-in-Trim-clause-counted g c =
+    let fault = c.in_err-carry_out-in-Trim.field-0.0 in
+    counts_passed _ _ fault c.from_residual-in_err-carry_out-in-Trim.result
+    (counts_from _ _ _ (Err fault) c.in_ok-name.ensures.counted.later c.in_err-carry_out-in-Trim.ensures.counted)
+    c.from_residual-in_err-carry_out-in-Trim.ensures.1
+
+pub returns-in_err-print_outside-in-Trim-clause-version : goal.returns-in_err-print_outside-in-Trim-clause-version
+returns-in_err-print_outside-in-Trim-clause-version g c =
+    minds_still (g.F.Folder.files c.args.folder.now) c.from_residual-in_err-print_outside-in-Trim.result c.in_ok-name.ensures.version
