@@ -1,14 +1,15 @@
 -- How `read` goes through the messages of a queue that was opened.
-use Rattle.std.specs.Prelude.{◌≡◌, ◌-◌, ℕ, Bool, List, Option, None, Some, filter, length, max, min, nat_le, nat_lt, option_map, reverse, true, false}
+use Rattle.std.specs.Prelude.{◌≡◌, ◌-◌, ℕ, Bool, List, Option, None, Some, filter, length, max, min, nat_le, nat_lt, option_map, reverse, string_bytes, true, false}
 use Rattle.std.specs.List.{flat_map}
 use Rattle.cq_folder.specs.Folder.{Files}
+use Rattle.cq_forms.specs.Forms.{formed}
 use Rattle.cq_forms.specs.Names.{AreNames, name_in}
 use Rattle.cq_model.specs.Finds.{Placed}
 use Rattle.cq_model.specs.Settings.{Settings}
 use Rattle.cq_orders.specs.declared.settings.ReadSettings.{ReadSettings}
 use Rattle.cq_files.specs.Queue.{contents_in}
-use Rattle.cq_commands.specs.Messages.{IsSince, IsUntil, asked, limited}
-use Rattle.cq_commands.specs.Opened.{IsOpenedFrom}
+use Rattle.cq_commands.specs.Messages.{IsSince, IsStart, IsUntil, asked, limited}
+use Rattle.cq_commands.specs.Opened.{IsOpenedFrom, readable_held}
 use Rattle.cq_commands.specs.TakenBy.{position_after}
 use Rattle.cq_commands.specs.declared.printing.Bounds.{Bounds}
 use Rattle.cq_commands.specs.declared.printing.Choice.{Choice}
@@ -73,10 +74,10 @@ choice last limit s = record { span = s; last = last; limit = limit }
 abbrev pub read_choice : Option ℕ → Option ℕ → Bool → ℕ → ℕ → ℕ → Choice
 read_choice last limit back start since until = choice last limit (read_span last back start since until)
 
--- which ones a round prints: those that `read` does forwards, and from a place on the ones up to its limit
-abbrev pub round_choice : Option ℕ → Option ℕ → Option ReadPlace → ℕ → ℕ → ℕ → Choice
-round_choice last limit None start since until = read_choice last limit false start since until
-round_choice last limit (Some place) start since until = choice None place.left (span false place.next until)
+-- which ones a round prints: those that `read` does, and from a place on the ones up to its limit
+abbrev pub round_choice : Option ℕ → Option ℕ → Bool → Option ReadPlace → ℕ → ℕ → ℕ → Choice
+round_choice last limit back None start since until = read_choice last limit back start since until
+round_choice last limit back (Some place) start since until = choice None place.left (span false place.next until)
 
 -- the place before the messages on a way, and before the last ones, which have no limit
 abbrev pub place_for : Option ℕ → Option ℕ → Span → ReadPlace
@@ -92,6 +93,18 @@ pub record AreLines (line : Placed → List ℕ) (place : ReadPlace) (messages :
 abbrev pub AreChosenLines : (Placed → List ℕ) → Choice → List Placed → Lines → Type 0
 AreChosenLines line c messages lines =
     AreLines line (place_for c.last c.limit c.span) (span_messages c.last c.limit c.span messages) lines
+
+-- the queue was opened with what the folder's files hold, and these are the texts of its messages that are read from a place on,
+-- or without one as the settings say, and the place after them
+pub record AreRead (settings : ReadSettings) (back : Bool) (given : Option ReadPlace) (files : Option Files) (lines : Lines) : Type 0 where
+  pub queue : ReadQueue
+  pub from : IsReadFrom files queue
+  pub start : ℕ
+  pub start_is : IsStart back (option_map string_bytes settings.from) start
+  pub bounds : Bounds
+  pub bounds_are : AreBounds queue.opened.config settings bounds
+  pub lines_are : AreChosenLines (formed settings.form (name_in queue.names.items))
+      (round_choice settings.last settings.limit back given start bounds.since bounds.until) (readable_held queue.opened.held) lines
 
 -- the index after the first message that was found; the other one is that after one more
 abbrev pub first_after : Option ℕ → ℕ → Option ℕ
