@@ -125,6 +125,14 @@ minds_still None value result second = tt
 minds_still (Some files) value (Ok decision) second = second
 minds_still (Some files) value (Err fault) second = inr (inr second)
 
+-- a fault that is passed on minds the version as the one that it was
+pub minds_passed : {U : Type 0} (a : Option Files) (fault : ToolFault) (result : Result U ToolFault)
+    → IfSome a (λ files. MindsVersion {T = U} files (Err fault)) → IsErrAnd result (λ passed. passed ≡ fault)
+    → IfSome a (λ files. MindsVersion files result)
+minds_passed None fault result minds is = tt
+minds_passed (Some files) fault (Ok value) minds is = absurd is
+minds_passed {U} (Some files) fault (Err passed) minds is = subst (λ (f : ToolFault). MindsVersion {T = U} files (Err f)) (sym is) minds
+
 -- what is written behind calls that keep all files
 kept_then_written : (a b c : Option Files) (name bytes : List ℕ) → KeepsFiles a b → WritesFile b c name bytes → WritesFile a c name bytes
 kept_then_written None b c name bytes kept done = tt

@@ -1,15 +1,19 @@
-use Rattle.std.proofs.Common.{◌≡◌, ◌∷◌, [], ℕ, List, inl, inr, subst, sym, ◌∙◌}
+use Rattle.std.proofs.Common.{◌≡◌, ◌∷◌, [], ℕ, List, inl, inr, rules, subst, sym, ◌∙◌}
 use Rattle.std.proofs.KnownBytes.{Keeps-refl}
-use Rattle.std.specs.Prelude.{Option}
+use Rattle.std.specs.Prelude.{None, Ok, Option, Some}
+use Rattle.cq_files.proofs.CountLemmas.{counts_from, counts_other, counts_passed}
 use Rattle.cq_files.proofs.QueueLemmas.{keeps-trans}
 use Rattle.cq_files.proofs.WritingLemmas.{tells_file}
 use Rattle.cq_files.specs.FolderFaults.{IsFileFault, IsSaveFault}
 use Rattle.cq_folder.specs.Folder.{Files, KeepsOrWrites, WritesFile}
 use Rattle.cq_folder.specs.declared.names.TheConstants.{CONFIG_FILE}
 use Rattle.cq_text.proofs.FaultLemmas.{passed_on}
+use Rattle.cq_text.specs.Faults.{IsDeviceFault}
+use Rattle.cq_text.specs.declared.fault.ToolFault.{ToolFault}
 use Rattle.cq_text.specs.declared.fault.ToolFault.TheVariants.{OutOfMemory, WriteFault}
 use Rattle.cq_names.specs.Names.{Decides}
-use Rattle.cq_names.proofs.EndLemmas.{changed_by, ends_not, ends_refused, kept_or_changed, undone, unsaved}
+use Rattle.cq_names.specs.declared.fault.NameRefusal.{NameRefusal}
+use Rattle.cq_names.proofs.EndLemmas.{changed_by, ends_not, ends_refused, kept_or_changed, minds_passed, minds_still, undone, unsaved}
 use Rattle.cq_names.proofs.naming.change_or_refuse.Goals as goal
 
 pub returns-in_err-refusal-clause-cause : goal.returns-in_err-refusal-clause-cause
@@ -102,3 +106,43 @@ pub returns-in_err-write_file-in-Change-clause-told : goal.returns-in_err-write_
 returns-in_err-write_file-in-Change-clause-told g c =
     let told = c.in_err-write_file-in-Change.ensures in
     passed_on _ _ _ c.from_residual-in_err-write_file-in-Change.ensures.1 (inr (tells_file CONFIG_FILE.now _ told.fault))
+
+pub returns-in_err-refusal-clause-version : goal.returns-in_err-refusal-clause-version
+returns-in_err-refusal-clause-version g c =
+    minds_passed (g.F.Folder.files c.args.folder.now) c.in_err-refusal.field-0.0 c.from_residual.result c.in_err-refusal.ensures.version
+    c.from_residual.ensures.1
+
+pub returns-in-Refuse-clause-version : goal.returns-in-Refuse-clause-version
+returns-in-Refuse-clause-version g c =
+    minds_still (g.F.Folder.files c.args.folder.now) c.in_ok-refusal.field-0 (Ok (Some c.in-Refuse.refusal)) c.in_ok-refusal.ensures.version
+
+pub returns-in_err-write_file-in-Change-clause-version : goal.returns-in_err-write_file-in-Change-clause-version
+returns-in_err-write_file-in-Change-clause-version g c =
+    minds_still (g.F.Folder.files c.args.folder.now) c.in_ok-refusal.field-0 c.from_residual-in_err-write_file-in-Change.result
+    c.in_ok-refusal.ensures.version
+
+pub returns-in_err-print_outside-in-Change-clause-version : goal.returns-in_err-print_outside-in-Change-clause-version
+returns-in_err-print_outside-in-Change-clause-version g c =
+    minds_still (g.F.Folder.files c.args.folder.now) c.in_ok-refusal.field-0 c.from_residual-in_err-print_outside-in-Change.result
+    c.in_ok-refusal.ensures.version
+
+pub returns-in_ok-print_outside-in-Change-clause-version : goal.returns-in_ok-print_outside-in-Change-clause-version
+returns-in_ok-print_outside-in-Change-clause-version g c =
+    let none : Option NameRefusal = None in
+    minds_still (g.F.Folder.files c.args.folder.now) c.in_ok-refusal.field-0 (Ok none) c.in_ok-refusal.ensures.version
+
+pub returns-in_err-refusal-clause-counted : goal.returns-in_err-refusal-clause-counted
+returns-in_err-refusal-clause-counted g c =
+    counts_passed _ _ c.in_err-refusal.field-0.0 c.from_residual.result c.in_err-refusal.ensures.counted c.from_residual.ensures.1
+
+pub returns-in_err-write_file-in-Change-clause-counted : goal.returns-in_err-write_file-in-Change-clause-counted
+returns-in_err-write_file-in-Change-clause-counted g c =
+    counts_from _ (g.F.Folder.failed c.decide.new.folder) _ c.from_residual-in_err-write_file-in-Change.result c.in_ok-refusal.ensures.counted.later
+    (counts_passed _ _ c.in_err-write_file-in-Change.field-0.0 c.from_residual-in_err-write_file-in-Change.result
+    c.in_err-write_file-in-Change.ensures.counted c.from_residual-in_err-write_file-in-Change.ensures.1)
+
+pub returns-in_err-print_outside-in-Change-clause-counted : goal.returns-in_err-print_outside-in-Change-clause-counted
+returns-in_err-print_outside-in-Change-clause-counted g c =
+    counts_other _ _ c.in_err-print_outside-in-Change.field-0.0 c.from_residual-in_err-print_outside-in-Change.result (search rules)
+    (subst (λ (fault : ToolFault). ¬ IsDeviceFault fault) (sym c.in_err-print_outside-in-Change.ensures.fault) (λ device. device))
+    c.from_residual-in_err-print_outside-in-Change.ensures.1
