@@ -1,6 +1,8 @@
-use Rattle.std.proofs.Common.{arith, subst, sym}
-use Rattle.std.proofs.KnownBytes.{Keeps-trans}
-use Rattle.cq_files.proofs.QueueLemmas.{keeps-trans}
+use Rattle.std.proofs.Common.{arith, inr, subst, sym, ◌∙◌}
+use Rattle.std.proofs.KnownBytes.{Keeps-refl, Keeps-trans}
+use Rattle.std.proofs.lemmas.Bool.{false≢true}
+use Rattle.cq_files.proofs.CountLemmas.{counts_from}
+use Rattle.cq_files.proofs.QueueLemmas.{keeps-refl, keeps-trans}
 use Rattle.cq_following.specs.Times.{IsEndOf}
 use Rattle.cq_following.proofs.WaitingLemmas.{nothing_taken}
 use Rattle.cq_following.proofs.taking.take_waiting.Goals as goal
@@ -34,3 +36,53 @@ pub returns-then-is_over-clause-kept : goal.returns-then-is_over-clause-kept
 returns-then-is_over-clause-kept g c =
     λ peeks. keeps-trans (g.F.Folder.files c.args.folder.now) (g.F.Folder.files c.takes.folder) (g.F.Folder.files c.take_by-done.new.folder)
     c.takes.invariant.kept (c.take_by-done.ensures.kept peeks)
+
+pub returns-then-not-is_nothing-clause-last : goal.returns-then-not-is_nothing-clause-last
+returns-then-not-is_nothing-clause-last g c =
+    let done = c.take_by-done.ensures in
+    record {
+      files = g.F.Folder.files c.takes.folder;
+      kept = c.takes.invariant.kept;
+      output = g.W.Write.contents c.takes.output;
+      unwritten = c.takes.invariant.unwritten;
+      last = record { saved = done.saved; took = done.took; cause = done.cause; told = done.told; version = done.version };
+    }
+
+pub returns-then-not-is_nothing-clause-counted : goal.returns-then-not-is_nothing-clause-counted
+returns-then-not-is_nothing-clause-counted g c =
+    counts_from _ (g.F.Folder.failed c.takes.folder) _ c.take_by-done.result c.takes.invariant.later c.take_by-done.ensures.counted
+
+pub returns-then-is_over-clause-last : goal.returns-then-is_over-clause-last
+returns-then-is_over-clause-last g c =
+    let done = c.take_by-done.ensures in
+    record {
+      files = g.F.Folder.files c.takes.folder;
+      kept = c.takes.invariant.kept;
+      output = g.W.Write.contents c.takes.output;
+      unwritten = c.takes.invariant.unwritten;
+      last = record { saved = done.saved; took = done.took; cause = done.cause; told = done.told; version = done.version };
+    }
+
+pub returns-then-is_over-clause-counted : goal.returns-then-is_over-clause-counted
+returns-then-is_over-clause-counted g c =
+    counts_from _ (g.F.Folder.failed c.takes.folder) _ c.take_by-done.result c.takes.invariant.later c.take_by-done.ensures.counted
+
+pub returns-then-not-is_nothing-clause-nothing : goal.returns-then-not-is_nothing-clause-nothing
+returns-then-not-is_nothing-clause-nothing g c =
+    λ is. absurd (false≢true (sym c.if-not-is_nothing.true ∙ c.is_nothing.ensures.1 is))
+
+pub returns-then-is_over-clause-nothing : goal.returns-then-is_over-clause-nothing
+returns-then-is_over-clause-nothing g c =
+    let over = sym c.is_over.ensures ∙ c.if-is_over.true in
+    λ is. inr (over, record { given = c.takes.invariant.given; cause = c.takes.invariant.over over })
+
+pub returns-in_default-clause-last : goal.returns-in_default-clause-last
+returns-in_default-clause-last g c =
+    let done = c.take_by.ensures in
+    record {
+      files = g.F.Folder.files c.args.folder.now;
+      kept = keeps-refl _;
+      output = g.W.Write.contents c.args.output.now;
+      unwritten = Keeps-refl _;
+      last = record { saved = done.saved; took = done.took; cause = done.cause; told = done.told; version = done.version };
+    }
