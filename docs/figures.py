@@ -195,10 +195,10 @@ PARTS = {"other": "ratio", "threads": "ratio"}
 # What is said before a table, with an empty line between.
 BEFORE = {
     "threads": (
-        "**By the number of threads**, in million messages a second: the middle of five turns of `./bench ratio`. Each message counts once\n"
-        "for each tailer that reads it, but in `flow` once. The last columns say how far the turns of each are apart, in percent of the middle\n"
-        "one. Little else ran on the machine, but it is a virtual one, and what its host leaves it differs. The best turn of contended appends\n"
-        "is often one in which a thread was alone for a while:"
+        "**By the number of threads**, in million messages a second: the middle of five turns of `./bench ratio`, each the best of nine\n"
+        "repetitions. Each message counts once for each tailer that reads it, but in `flow` once. The last columns say how far the turns of\n"
+        "each are apart, in percent of the middle one. Nothing else ran on the machine, but it is a virtual one, and its processors are up to a\n"
+        "quarter slower at times:"
     ),
     "queues": (
         "**Queues between threads**, in million messages a second: the best of three turns of `./bench peers`. The last two rows say in\n"
