@@ -4,9 +4,9 @@ use cq_ingest::IngestFault;
 use cq_keeper::KeepFault;
 use cq_live::LiveFault;
 use cq_log_file::OpenFault as PlaceFault;
-use std::alloc::{AllocError, AllocFailed};
+use std::alloc::AllocError;
 
-/// Why the command `log` ended (ours). It prints the text that follows `cq: ` on standard error.
+/// Why the command `log` ended (ours). Its text is what the program prints after `cq: `.
 #[derive(Debug, Drop, thiserror::Error)]
 pub enum ServiceFault {
     /// No queue was opened to stay open.
@@ -52,12 +52,6 @@ impl From<IngestFault> for ServiceFault {
 
 impl From<AllocError> for ServiceFault {
     fn from(_error: AllocError) -> ServiceFault {
-        ServiceFault::OutOfMemory
-    }
-}
-
-impl<T: Drop> From<AllocFailed<T>> for ServiceFault {
-    fn from(_error: AllocFailed<T>) -> ServiceFault {
         ServiceFault::OutOfMemory
     }
 }

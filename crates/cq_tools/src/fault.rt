@@ -6,9 +6,9 @@ use cq_repair::RepairFault;
 use cq_service::ServiceFault;
 use cq_text::ToolFault;
 use cq_trim::TrimFault;
-use std::alloc::{AllocError, AllocFailed};
+use std::alloc::AllocError;
 
-/// Why a start of the program failed (ours). It prints the text that follows `cq: ` on standard error.
+/// Why a start of the program failed (ours). Its text is what the program prints after `cq: `.
 #[derive(Debug, Drop, thiserror::Error)]
 pub(crate) enum StartFault {
     /// The command failed.
@@ -75,12 +75,6 @@ impl From<ServiceFault> for StartFault {
 
 impl From<AllocError> for StartFault {
     fn from(_error: AllocError) -> StartFault {
-        StartFault::Tool(ToolFault::OutOfMemory)
-    }
-}
-
-impl<T: Drop> From<AllocFailed<T>> for StartFault {
-    fn from(_error: AllocFailed<T>) -> StartFault {
         StartFault::Tool(ToolFault::OutOfMemory)
     }
 }
