@@ -15,7 +15,7 @@ use Rattle.cq_model.specs.declared.contents.Contents.{Contents}
 use Rattle.cq_text.specs.Output.{AppendsBeginning}
 use Rattle.cq_text.specs.declared.fault.ToolFault.{ToolFault}
 use Rattle.cq_text.specs.declared.fault.ToolFault.TheVariants.{NoSuchName, OldVersion, OutOfMemory, WriteFault}
-use Rattle.cq_text.proofs.FaultLemmas.{passed_on}
+use Rattle.cq_text.proofs.FaultLemmas.{only_printing, passed_on}
 use Rattle.cq_files.specs.Counted.{CountsFaults}
 use Rattle.cq_files.specs.FolderFaults.{IsQueueFault}
 use Rattle.cq_files.specs.Queue.{CanBeOpened, contents_in}
@@ -34,7 +34,7 @@ use Rattle.cq_commands.specs.declared.taking_by.Took.TheVariants.{Messages}
 use Rattle.cq_commands.proofs.OpeningLemmas.{opened_of}
 use Rattle.cq_writing.proofs.SaverLemmas.{EndsSaving, no_value}
 use Rattle.cq_commands.proofs.TakingByLemmas.{position_of}
-use Rattle.cq_writing.proofs.SavingLemmas.{nothing_saved, only_printing, saved_then_printed}
+use Rattle.cq_writing.proofs.SavingLemmas.{nothing_saved, saved_then_printed}
 
 no_empty_line : (xs ys : List ℕ) (n : ℕ) → 0 < length (xs ++ n ∷ ys)
 no_empty_line [] ys n = omega arith

@@ -1,6 +1,5 @@
 -- Nothing is appended to a closed queue, and its end is final.
-use Rattle.std.proofs.Common.{true, false, Bool, cond, ◌≡◌, ℕ, ◌+◌, ◌*◌, ◌^◌, List, [], ◌∷◌, ◌++◌, length, Option, Some, None, refl, ap, sym, subst, ◌∙◌, arith, append_assoc, length-append}
-use Rattle.std.specs.Str.{bytes_eq}
+use Rattle.std.proofs.Common.{true, ◌≡◌, ℕ, ◌+◌, ◌*◌, ◌^◌, List, [], ◌∷◌, ◌++◌, length, Option, Some, None, refl, ap, sym, subst, ◌∙◌, arith, append_assoc, length-append}
 use Rattle.cq_append.specs.Calls.{begun_at}
 use Rattle.cq_cycle.specs.Index.{cycle_in}
 use Rattle.cq_endpoint.specs.Endings.{HasFinished}
@@ -26,6 +25,7 @@ use Rattle.cq_model.proofs.SeenLemmas.{none_from, stands_below_end}
 use Rattle.cq_model.proofs.Sound.{change_sound, history_sound}
 use Rattle.cq_model.proofs.StayLemmas.{history_keeps}
 use Rattle.cq_model.proofs.TestLemmas.{three_ways}
+use Rattle.cq_model.proofs.LastCalls.{IsIn, cancel, last_call}
 use Rattle.cq_shown.specs.Plans.{opening_of, settings_in}
 use Rattle.cq_shown.specs.declared.plan.Plan.{Plan}
 use Rattle.cq_tail.specs.Tailers.{ReadsNext, TailerFacts}
@@ -36,42 +36,6 @@ use Rattle.cq_words.specs.Steps.{Extends, IsSound as IsSoundView}
 use Rattle.cq_words.specs.Values.{CallerFacts, IsCaller, QueueFacts}
 use Rattle.cq_words.specs.Views.{call, state_seen}
 use Rattle.cq_words.specs.declared.view.View.{View}
-
--- an entry is one of a history
-pub record IsIn (h : List Entry) (e : Entry) : Type 0 where
-  pub before : List Entry
-  pub later : List Entry
-  pub is : h ≡ before ++ e ∷ later
-
-in_later : (f : Entry) (t : List Entry) (e : Entry) → IsIn t e → IsIn (f ∷ t) e
-in_later f t e s = record { before = f ∷ s.before; later = s.later; is = ap (λ (l : List Entry). f ∷ l) s.is }
-
-head_same : (x y : Entry) (xs ys : List Entry) → x ∷ xs ≡ y ∷ ys → x ≡ y
-head_same x y xs ys is = cc
-
-tail_same : (x y : Entry) (xs ys : List Entry) → x ∷ xs ≡ y ∷ ys → xs ≡ ys
-tail_same x y xs ys is = cc
-
-cancel : (xs ys zs : List Entry) → xs ++ ys ≡ xs ++ zs → ys ≡ zs
-cancel [] ys zs is = is
-cancel (x ∷ xs) ys zs is = cancel xs ys zs (tail_same x x (xs ++ ys) (xs ++ zs) is)
-
-last_by : (k : List ℕ) (f : Entry) (t xs : List Entry) (e : Entry) (b : Bool)
-    → ((ys : List Entry) → calls k t ≡ ys ++ e ∷ [] → IsIn t e)
-    → cond b (f ∷ calls k t) (calls k t) ≡ xs ++ e ∷ [] → IsIn (f ∷ t) e
-last_by k f t xs e false ih is = in_later f t e (ih xs is)
-last_by k f t [] e true ih is =
-    record { before = []; later = t; is = ap (λ (x : Entry). x ∷ t) (head_same f e (calls k t) [] is) }
-last_by k f t (y ∷ ys) e true ih is = in_later f t e (ih ys (tail_same f y (calls k t) (ys ++ e ∷ []) is))
-
-none_last : (xs : List Entry) (e : Entry) → [] ≡ xs ++ e ∷ [] → ⊥
-none_last [] e is = let x : [] ≡ e ∷ [] = is in cc
-none_last (y ∷ ys) e is = let x : [] ≡ y ∷ (ys ++ e ∷ []) = is in cc
-
--- the last call of a caller is in the history
-last_call : (k : List ℕ) (h xs : List Entry) (e : Entry) → calls k h ≡ xs ++ e ∷ [] → IsIn h e
-last_call k [] xs e is = absurd (none_last xs e is)
-last_call k (f ∷ t) xs e is = last_by k f t xs e (bytes_eq f.by k) (λ ys same. last_call k t ys e same) is
 
 -- of what a caller saw as it went on, the last of the calls that it added is a part
 added_last : (v w : View) (es : List Entry) (e : Entry) → IsSoundView v → (x : Extends v w (es ++ e ∷ []))

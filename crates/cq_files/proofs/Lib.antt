@@ -1,4 +1,5 @@
 pub mod NameLemmas
+pub mod ImageNames
 pub mod QueueLemmas
 pub mod CauseLemmas
 pub mod OrderLemmas

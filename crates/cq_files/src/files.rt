@@ -20,8 +20,12 @@ use std::io::Write;
 /// The most bytes of a file that a command reads, and of the input that `write` takes.
 pub const MOST_FILE_BYTES: usize = 8_388_608;
 
-/// Begins a command, and returns the names of the folder's files.
-pub(crate) fn listed<F: Folder>(
+/// Begins a command with this access, and returns the names of the folder's files.
+///
+/// Errors:
+/// - `FolderFault`: the folder could not be entered or listed.
+/// - `OutOfMemory`: out of memory.
+pub fn listed<F: Folder>(
     alloc: Global,
     folder: &mut F,
     access: Access,
@@ -60,12 +64,13 @@ pub fn has_name(names: &[String], name: &str) -> bool
     names.iter().any(|listed| listed.as_str() == name)
 }
 
-/// Returns the bytes of a file that was listed. If it is gone since, the error is `FileFault`.
-pub(crate) fn read_file<F: Folder>(
-    alloc: Global,
-    folder: &mut F,
-    name: &str,
-) -> Result<Vec<u8>, ToolFault>
+/// Returns the bytes of a file that was listed.
+///
+/// Errors:
+/// - `FileFault` with that name: the file could not be read, also if it is gone since.
+/// - `FileTooLarge` with that name: it has more than 8,388,608 bytes.
+/// - `OutOfMemory`: out of memory.
+pub fn read_file<F: Folder>(alloc: Global, folder: &mut F, name: &str) -> Result<Vec<u8>, ToolFault>
     requires { IsSome (F.entered folder.old) }
     ensures held { IfOk result (λ bytes. IfSome (F.files folder.old) (λ files. files name.now ≡ Some bytes.items)) }
     ensures small { IfOk result (λ bytes. length bytes.items ≤ MOST_FILE_BYTES) }

@@ -12,7 +12,9 @@
 //! | `save`, `save_files`, `write_file` | save images, some files together, and a file |
 //! | `save_fault` | the error for a file that could not be written |
 //! | `print_outside` | writes the output of a command that has left the folder |
-//! | `has_name`, `MOST_FILE_BYTES` | whether a file has a name, and the limit of a file's bytes |
+//! | `listed`, `read_file`, `read_saved` | enter a folder and list it, read a file, and read `queue.cqc` |
+//! | `has_name`, `is_image_name`, `cycle_of_file` | whether a file is there, may be an image, and of which cycle |
+//! | `MOST_FILE_BYTES` | the limit of a file's bytes |
 //!
 //! What holds of each command here, and of those in `cq_commands`:
 //!
@@ -36,10 +38,15 @@ mod saving;
 
 pub use checking::check;
 pub use dumping::dump;
-pub use files::{MOST_FILE_BYTES, has_name, print_outside, save_fault, save_files, write_file};
+pub use files::{
+    MOST_FILE_BYTES, has_name, listed, print_outside, read_file, save_fault, save_files, write_file,
+};
 pub use initialising::init;
 pub use migrating::migrate;
 pub use openable::can_be_opened;
-pub use opening::{CycleImage, ImageFile, Retain, SavedQueue, SeenMessages, open_queue};
+pub use opening::{
+    CycleImage, ImageFile, Retain, SavedQueue, SeenMessages, cycle_of_file, is_image_name,
+    open_queue, read_saved,
+};
 pub use salvaging::salvage;
 pub use saving::{images_of, save};

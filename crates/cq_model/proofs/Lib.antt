@@ -1,14 +1,17 @@
 pub mod CallLemmas
+pub mod ContentsLemmas
 pub mod CopyLemmas
 pub mod Decided
 pub mod FindLemmas
 pub mod FloorLemmas
 pub mod Grows
 pub mod Inversions
+pub mod LastCalls
 pub mod LaterLemmas
 pub mod Legal
 pub mod ListLemmas
 pub mod NameLemmas
+pub mod NamePlaces
 pub mod OpenLemmas
 pub mod ReplyLemmas
 pub mod Sealing

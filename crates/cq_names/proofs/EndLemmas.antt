@@ -9,13 +9,12 @@ use Rattle.cq_folder.specs.declared.names.TheConstants.{CONFIG_FILE}
 use Rattle.cq_files.specs.Counted.{CountsFaults}
 use Rattle.cq_files.specs.FolderFaults.{IsFileFault, IsQueueFault, IsSaveFault, MindsVersion}
 use Rattle.cq_files.specs.Openable.{HoldOpenable}
-use Rattle.cq_files.specs.Queue.{CanBeOpened, HoldQueue, IsLawfulQueue, contents_from, contents_in, list_in}
+use Rattle.cq_files.specs.Queue.{CanBeOpened, HoldQueue, IsLawfulQueue, list_in}
 use Rattle.cq_files.specs.Saving.{KeepsOrSaves}
 use Rattle.cq_files.specs.declared.opening.SavedQueue.{SavedQueue}
-use Rattle.cq_files.proofs.QueueLemmas.{keeps-trans}
+use Rattle.cq_files.proofs.QueueLemmas.{keeps-trans, whole_contents}
 use Rattle.cq_model.specs.Settings.{Settings}
 use Rattle.cq_model.specs.declared.contents.Contents.{Contents}
-use Rattle.cq_model.specs.declared.contents.CycleList.{CycleList}
 use Rattle.cq_orders.specs.declared.settings.NameChange.{NameChange}
 use Rattle.cq_orders.specs.declared.settings.NameChange.TheVariants as change
 use Rattle.cq_points.specs.Points.{IsPointFault}
@@ -30,10 +29,6 @@ use Rattle.cq_names.specs.declared.deciding.Decision.TheVariants.{Change, Refuse
 use Rattle.cq_names.specs.declared.editing.Plan.{Plan}
 use Rattle.cq_names.specs.declared.fault.NameRefusal.{NameRefusal}
 
--- what is held where all messages are kept
-pub whole : (queue : SavedQueue) → queue.contents.lists ≡ map list_in queue.images.items → queue.contents ≡ contents_in queue
-whole queue lists = ap (λ (ls : List CycleList). contents_from ls queue.contents.positions queue.contents.floor) lists
-
 -- the queue that the files hold cannot be opened
 pub bad_contents : (a : Option Files) (queue : SavedQueue) → IsLawfulQueue queue → IfSome a (HoldQueue queue)
     → queue.contents.lists ≡ map list_in queue.images.items → ¬ CanBeOpened queue.config queue.contents
@@ -45,7 +40,7 @@ bad_contents (Some files) queue lawful held lists bad = inl (
     queue = queue;
     lawful = lawful;
     held = held;
-    bad = λ can. bad (subst (CanBeOpened queue.config) (sym (whole queue lists)) can);
+    bad = λ can. bad (subst (CanBeOpened queue.config) (sym (whole_contents queue lists)) can);
   },
 )
 

@@ -1,9 +1,8 @@
 -- What the folder of a queue holds whose names were changed.
-use Rattle.std.proofs.Common.{◌≡◌, ℕ, Bool, false, List, [], ◌∷◌, length, map, ap, refl, subst, sym, ◌∙◌}
+use Rattle.std.proofs.Common.{◌≡◌, ℕ, Bool, List, [], ◌∷◌, length, map, ap, refl, subst, sym, ◌∙◌}
 use Rattle.std.specs.Prelude.{Contains, IsSome, IsSomeAnd, IsTrue, Option, Some, if◌then◌else◌}
 use Rattle.std.specs.List.{AllByRecursion}
 use Rattle.std.specs.Str.{bytes_eq}
-use Rattle.std.proofs.lemmas.Bool.{false≢true}
 use Rattle.std.proofs.lemmas.List.Elements.{All-contains_itself}
 use Rattle.std.proofs.lemmas.Slice.Eq.{bytes_eq-Decides}
 use Rattle.cq_config_text.specs.ConfigText.{IsTextOf}
@@ -13,6 +12,7 @@ use Rattle.cq_files.specs.Openable.{HoldOpenable}
 use Rattle.cq_files.specs.Queue.{CanBeOpened, HaveEnds, HoldQueue, HoldsImage, IsLawfulImage, ListsImages, contents_from, contents_in, ends_as_image, file_of, list_in}
 use Rattle.cq_files.specs.declared.opening.CycleImage.{CycleImage}
 use Rattle.cq_files.specs.declared.opening.SavedQueue.{SavedQueue}
+use Rattle.cq_files.proofs.ImageNames.{not_config}
 use Rattle.cq_layout.proofs.Each.{each-from_all, each-weaker}
 use Rattle.cq_model.specs.Settings.{IsLawfulSettings, Settings}
 use Rattle.cq_model.specs.declared.contents.Contents.{Contents}
@@ -22,14 +22,6 @@ use Rattle.cq_names.specs.Edits.{Edit, IsEdit, with_names, with_positions}
 use Rattle.cq_names.specs.Left.{IsLeftOf}
 use Rattle.cq_names.specs.Names.{IsChanged}
 use Rattle.cq_names.proofs.LeftLemmas.{contents_left, settings_left}
-
--- the configuration is no image
-no_image : ends_as_image CONFIG_FILE.now ≡ false
-unfolding ends_as_image
-no_image = refl
-
-not_config : (name : List ℕ) → IsTrue (ends_as_image name) → CONFIG_FILE.now ≡ name → ⊥
-not_config name ending alike = false≢true (sym no_image ∙ ap ends_as_image alike ∙ ending)
 
 -- what an image holds has nothing to do with the names
 image_still : (settings : Settings) (names : List (List ℕ)) (image : CycleImage) → IsLawfulImage settings image

@@ -11,9 +11,10 @@ use Rattle.cq_cycle.specs.declared.roll.TheConstants.{LAST_CYCLE}
 use Rattle.cq_files.specs.Queue.{CanBeOpened}
 use Rattle.cq_layout.proofs.Each.{each-all, each-append, each-back, each-from_all, each-front, each-weaker}
 use Rattle.cq_model.specs.Settings.{AreLawfulNames, IsLawfulSettings, IsTailerName, Settings}
-use Rattle.cq_model.specs.States.{IsHeld, end_of, last_cycle}
+use Rattle.cq_model.specs.States.{IsHeld, end_of}
 use Rattle.cq_model.specs.declared.contents.Contents.{Contents}
 use Rattle.cq_model.specs.declared.contents.CycleList.{CycleList}
+use Rattle.cq_model.proofs.ContentsLemmas.{last_low}
 use Rattle.cq_orders.specs.declared.settings.NameChange.{NameChange}
 use Rattle.cq_orders.specs.declared.settings.NameChange.TheVariants as change
 use Rattle.cq_names.specs.Edits.{Edit, IsEdit, IsNewName, with_names, with_positions}
@@ -89,12 +90,6 @@ can_open settings contents names positions (inr lawful) paired reach =
       declared = paired;
       floor = lawful.floor;
     })
-
--- the last of the cycles that a queue may hold is one that a configuration can tell
-last_low : (settings : Settings) (ls : List CycleList) → AllByRecursion (IsHeld settings) ls → last_cycle ls ≤ LAST_CYCLE
-last_low settings [] held = omega arith
-last_low settings (l ∷ []) held = held.0.exists.in_range
-last_low settings (l ∷ k ∷ ls) held = last_low settings (k ∷ ls) held.1
 
 -- the floor of a queue that can be opened is low enough
 pub floor_low : (settings : Settings) (contents : Contents) → CanBeOpened settings contents → contents.floor ≤ LAST_CYCLE

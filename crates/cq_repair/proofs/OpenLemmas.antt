@@ -2,12 +2,11 @@
 use Rattle.std.proofs.Common.{◌≡◌, ◌≢◌, ◌∙◌, ℕ, suc, ◌-◌, ◌<◌, ◌≤◌, Bool, true, false, List, [], ◌∷◌, ◌++◌, All, ap, arith, drop, get_or, inl, inr, length, map, refl, subst, sym}
 use Rattle.std.proofs.Math.Seq.{drop-append_seam}
 use Rattle.std.proofs.lemmas.Bool.{false≢true}
-use Rattle.std.proofs.lemmas.Bool.Decides.{Decides-eqb}
 use Rattle.std.proofs.lemmas.List.{append_cancel_right, length-append, length-map}
 use Rattle.std.proofs.lemmas.List.Elements.{All-contains, All-contains_itself}
-use Rattle.std.proofs.lemmas.Slice.Eq.{bytes_eq-Decides, ends_is}
+use Rattle.std.proofs.lemmas.Slice.Eq.{bytes_eq-Decides}
 use Rattle.std.specs.Cmp.Lexicographic.{pointwise}
-use Rattle.std.specs.List.{AllByRecursion, ends_with}
+use Rattle.std.specs.List.{AllByRecursion}
 use Rattle.std.specs.Prelude.{nat_eq, Contains, IsSome, IsSomeAnd, IsTrue, Option, None, Some, codes, if◌then◌else◌}
 use Rattle.std.specs.Str.{bytes_eq}
 use Rattle.cq_chain.proofs.HeldLemmas.{next_are_held}
@@ -20,6 +19,7 @@ use Rattle.cq_files.specs.Openable.{HoldOpenable}
 use Rattle.cq_files.specs.Queue.{CanBeOpened, HaveEnds, HoldsImage, IsImageFile, IsImageName, IsLawfulImage, ListsImages, contents_from, contents_in, ends_as_image, file_of, list_in}
 use Rattle.cq_files.specs.declared.opening.CycleImage.{CycleImage}
 use Rattle.cq_files.specs.declared.opening.SavedQueue.{SavedQueue}
+use Rattle.cq_files.proofs.ImageNames.{config_ends, image_ends}
 use Rattle.cq_folder.specs.Folder.{Files, NamedFile, after_writes}
 use Rattle.cq_folder.specs.declared.names.TheConstants.{CONFIG_FILE, IMAGE_ENDING}
 use Rattle.cq_image.specs.Image.{AreNext, image_of}
@@ -54,15 +54,6 @@ one_cycle : OneCycle → (settings : Settings) (cycle other : ℕ) (file : List 
 one_cycle paired settings cycle other file one two =
     let same = append_cancel_right one.name two.name IMAGE_ENDING.now (sym one.spelled ∙ two.spelled) in
     paired settings.roll settings.epoch cycle other two.name (subst (IsName settings.roll settings.epoch cycle) same one.named) two.named
-
--- what ends as the name of an image
-image_ends : (settings : Settings) (cycle : ℕ) (file : List ℕ) → IsImageName settings cycle file → IsTrue (ends_as_image file)
-unfolding ends_as_image
-image_ends settings cycle file is = (ends_is Decides-eqb file IMAGE_ENDING.now (ends_with nat_eq file IMAGE_ENDING.now) refl).1 is.name is.spelled
-
-config_ends : ends_as_image CONFIG_FILE.now ≡ false
-unfolding ends_as_image
-config_ends = refl
 
 bad_ends : (file : List ℕ) → ends_as_image (bad_name file) ≡ false
 unfolding ends_as_image

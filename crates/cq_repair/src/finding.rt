@@ -7,10 +7,9 @@ ghost use Rattle.cq_files.specs.Queue.{ends_as_image};
 ghost use Rattle.cq_model.specs.Settings.{texts};
 ghost use Rattle.cq_repair.specs.Found.{HasLater, IsFound, IsLater, IsOldOrUnread, IsPlaced, IsUnplaced};
 
-use crate::reading::{cycle_of_file, listed, read_file, read_saved};
 use cq_config_text::{FolderVersion, SavedConfig};
-use cq_files::has_name;
-use cq_folder::{Access, CONFIG_FILE, Folder, IMAGE_ENDING};
+use cq_files::{cycle_of_file, has_name, is_image_name, listed, read_file, read_saved};
+use cq_folder::{Access, CONFIG_FILE, Folder};
 use cq_model::Config;
 use cq_text::ToolFault;
 use std::alloc::Global;
@@ -90,13 +89,6 @@ fn is_image(names: &[String], file: &str) -> bool
         return false;
     }
     has_name(names, file)
-}
-
-/// Returns whether the name of a file ends as those of images do.
-fn is_image_name(name: &str) -> bool
-    ensures { result ≡ ends_as_image name.now }
-{
-    name.as_bytes().ends_with(IMAGE_ENDING.as_bytes())
 }
 
 /// Returns whether one of these files is named as the image of a later cycle.

@@ -14,7 +14,6 @@ mod finding;
 mod keeping;
 pub mod laws;
 mod planning;
-mod reading;
 mod repairing;
 mod telling;
 

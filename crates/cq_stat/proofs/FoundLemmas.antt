@@ -1,9 +1,10 @@
 -- The first message at or after a place, cycle by cycle.
 use Rattle.std.proofs.Common.{◌≡◌, ℕ, zero, suc, ◌-◌, ◌<◌, ◌≤◌, max, List, [], ◌∷◌, length, arith, refl, ap, sym, ◌∙◌}
-use Rattle.std.specs.Prelude.{Option, None, Some, option_map, slice_get}
+use Rattle.std.specs.Prelude.{Option, Some, option_map, slice_get}
 use Rattle.cq_cycle.specs.Index.{index_of}
 use Rattle.cq_model.specs.Finds.{Placed, first_in, first_or}
 use Rattle.cq_model.specs.declared.contents.CycleList.{CycleList}
+use Rattle.cq_model.proofs.FindLemmas.{missing}
 use Rattle.cq_stat.specs.Facts.{left_in}
 
 -- a message has this place, if the list is long enough
@@ -11,12 +12,6 @@ there : (ms : List (List ℕ)) (k : ℕ) → k < length ms → (m : List ℕ) ×
 there [] k low = absurd (omega (arith, low))
 there (m ∷ ms) zero low = (m, refl)
 there (m ∷ ms) (suc k) low = there ms k (omega (arith, low))
-
--- and none, if it is not
-missing : (ms : List (List ℕ)) (k : ℕ) → length ms ≤ k → slice_get ms k ≡ None
-missing [] k high = refl
-missing (m ∷ ms) zero high = absurd (omega (arith, high))
-missing (m ∷ ms) (suc k) high = missing ms k (omega (arith, high))
 
 -- the first message is in the first of these cycles
 pub found_here : (l : CycleList) (ls all : List CycleList) (p : ℕ) → 0 < left_in p l → first_in (l ∷ ls) p ≡ first_in all p

@@ -1,13 +1,13 @@
 -- A folder's queue of which something is said.
-use Rattle.std.proofs.Common.{◌≡◌, ap, inl, inr, map, refl, subst, sym, ◌∙◌}
-use Rattle.std.specs.Prelude.{List, ℕ, Bool, Err, IfErr, IfSome, None, Ok, Option, Result, Some}
+use Rattle.std.proofs.Common.{◌≡◌, inl, inr, map, refl, subst, sym, ◌∙◌}
+use Rattle.std.specs.Prelude.{List, ℕ, Bool, IfSome, None, Option, Some}
 use Rattle.cq_folder.specs.Folder.{Files}
 use Rattle.cq_files.specs.declared.opening.SavedQueue.{SavedQueue}
 use Rattle.cq_files.specs.FolderFaults.{IsQueueFault}
 use Rattle.cq_files.specs.Openable.{IsOpenFault}
-use Rattle.cq_files.specs.Queue.{CanBeOpened, HoldQueue, IsLawfulQueue, contents_from, contents_in, list_in}
+use Rattle.cq_files.specs.Queue.{CanBeOpened, HoldQueue, IsLawfulQueue, list_in}
+use Rattle.cq_files.proofs.QueueLemmas.{whole_contents}
 use Rattle.cq_model.specs.declared.contents.Contents.{Contents}
-use Rattle.cq_model.specs.declared.contents.CycleList.{CycleList}
 use Rattle.cq_text.specs.declared.fault.ToolFault.{ToolFault}
 use Rattle.cq_text.specs.declared.fault.ToolFault.TheVariants.{BadContents, WriteFault}
 use Rattle.cq_stat.specs.declared.facts.QueueStat.{QueueStat}
@@ -15,10 +15,6 @@ use Rattle.cq_stat.specs.Facts.{IsStat}
 use Rattle.cq_stat.specs.StatFaults.{IsStatFault}
 use Rattle.cq_stat.specs.StatJson.{text_of}
 use Rattle.cq_stat.specs.StatOut.{IsFoundIn, IsStatOut}
-
--- what is held where all messages are kept
-whole : (queue : SavedQueue) → queue.contents.lists ≡ map list_in queue.images.items → queue.contents ≡ contents_in queue
-whole queue lists = ap (λ (ls : List CycleList). contents_from ls queue.contents.positions queue.contents.floor) lists
 
 -- the queue that the files hold cannot be opened
 pub bad_contents : (a : Option Files) (queue : SavedQueue) → IsLawfulQueue queue → IfSome a (HoldQueue queue)
@@ -31,7 +27,7 @@ bad_contents (Some files) queue lawful held lists bad = inl (
     queue = queue;
     lawful = lawful;
     held = held;
-    bad = λ can. bad (subst (CanBeOpened queue.config) (sym (whole queue lists)) can);
+    bad = λ can. bad (subst (CanBeOpened queue.config) (sym (whole_contents queue lists)) can);
   },
 )
 
@@ -48,8 +44,8 @@ found_in a queue stat lawful held lists can is = record {
   queue = queue;
   lawful = lawful;
   held = held;
-  openable = subst (CanBeOpened queue.config) (whole queue lists) can;
-  is = subst (λ (contents : Contents). IsStat queue.config contents stat) (whole queue lists) is;
+  openable = subst (CanBeOpened queue.config) (whole_contents queue lists) can;
+  is = subst (λ (contents : Contents). IsStat queue.config contents stat) (whole_contents queue lists) is;
 }
 
 -- the text of what is said
@@ -68,9 +64,3 @@ pub not_written : (json : Bool) (a : Option Files) (text : List ℕ) → IsStatO
     → IfSome a (λ files. IsStatFault json files WriteFault)
 not_written json None text out = tt
 not_written json (Some files) text out = inr (refl, (text, out))
-
--- what holds where the writer fails holds of the one fault that printing has
-pub only_printing : {T : Type 0} (result : Result T ToolFault) (P : ToolFault → Type 0) → P WriteFault
-    → IfErr result (λ fault. fault ≡ WriteFault) → IfErr result P
-only_printing (Ok value) P holds is = tt
-only_printing (Err fault) P holds is = subst P (sym is) holds

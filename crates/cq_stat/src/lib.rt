@@ -7,7 +7,6 @@
 //! | `QueueStat`, `CycleStat`, `CycleFacts`, `CycleState`, `NameStat` | what is said |
 //! | `text_of` | a `QueueStat` as text: lines, or JSON |
 //! | `messages_left` | how many messages are left for a name |
-//! | `last_cycle` | the last of some cycles |
 #![tactic(auto)]
 
 mod cycles;
@@ -18,7 +17,6 @@ mod names;
 mod printing;
 mod telling;
 
-pub use cycles::last_cycle;
 pub use facts::{CycleFacts, CycleStat, CycleState, NameStat, QueueStat};
 pub use names::messages_left;
 pub use printing::{stat, text_of};

@@ -19,6 +19,7 @@ use Rattle.cq_files.specs.Openable.{HoldOpenable}
 use Rattle.cq_files.specs.Queue.{CanBeOpened, HaveEnds, HoldQueue, HoldsImage, IsImageFile, IsLawfulImage, IsLawfulQueue, ListsImages, contents_from, contents_in, ends_as_image, file_of, list_in, name_cmp}
 use Rattle.cq_files.specs.declared.opening.CycleImage.{CycleImage}
 use Rattle.cq_files.specs.declared.opening.SavedQueue.{SavedQueue}
+use Rattle.cq_files.proofs.ImageNames.{not_config}
 use Rattle.cq_layout.proofs.Each.{each-all, each-filter, each-from_all, each-weaker}
 use Rattle.cq_model.specs.Settings.{IsLawfulSettings, Settings}
 use Rattle.cq_model.specs.States.{last_cycle}
@@ -176,14 +177,6 @@ apart settings f (a ∷ images) b all one high = by (nat_lt a.file.cycle f) refl
         (λ alike. let cycle = one_cycle settings a b all.0 one alike in omega (arith, low, high, cycle), more)
     by false is more =
         subst (λ (c : Bool). Apart (map file_of (cond c (a ∷ rest) rest))) (sym is) more
-
--- the configuration is no image
-no_image : ends_as_image CONFIG_FILE.now ≡ false
-unfolding ends_as_image
-no_image = refl
-
-not_config : (name : List ℕ) → IsTrue (ends_as_image name) → CONFIG_FILE.now ≡ name → ⊥
-not_config name ending alike = false≢true (sym no_image ∙ ap ends_as_image alike ∙ ending)
 
 -- of an image that is kept the folder has what it had
 module _ (f : ℕ) (queue : SavedQueue) (before after : Files) (changes : List NamedFile) (lawful : IsLawfulQueue queue)

@@ -1,6 +1,6 @@
 -- What is left of the cycles of a queue.
-use Rattle.std.proofs.Common.{◌≡◌, ℕ, zero, suc, ◌+◌, ◌-◌, ◌*◌, ◌<◌, ◌≤◌, ◌++◌, ◌^◌, List, [], ◌∷◌, length, filter, cond, Bool, true, false, not, arith, refl, ap, subst, sym, ◌∙◌}
-use Rattle.std.specs.Prelude.{All, Option, None, nat_le, nat_lt, slice_get}
+use Rattle.std.proofs.Common.{◌≡◌, ℕ, ◌+◌, ◌-◌, ◌*◌, ◌<◌, ◌≤◌, ◌++◌, ◌^◌, List, [], ◌∷◌, length, filter, cond, Bool, true, false, not, arith, refl, ap, subst, sym, ◌∙◌}
+use Rattle.std.specs.Prelude.{All, Option, nat_le, nat_lt, slice_get}
 use Rattle.std.specs.List.{AllByRecursion}
 use Rattle.std.proofs.lemmas.Bool.{ltb-false}
 use Rattle.std.proofs.lemmas.List.Elements.{filter-append}
@@ -15,6 +15,7 @@ use Rattle.cq_model.specs.States.{AreLawfulContents, IsHeld, Rises, end_of, last
 use Rattle.cq_model.specs.declared.contents.Contents.{Contents}
 use Rattle.cq_model.specs.declared.contents.CycleList.{CycleList}
 use Rattle.cq_model.proofs.TestLemmas.{is_le, is_not_le, lt_is, not_le}
+use Rattle.cq_model.proofs.FindLemmas.{missing}
 use Rattle.cq_stat.specs.Facts.{left_from, with_floor}
 use Rattle.cq_stat.specs.Readable.{indexed, indexed_from, readable}
 use Rattle.cq_trim.specs.Trimmed.{kept_lists, removed_lists, trimmed}
@@ -150,12 +151,6 @@ same_read f (l ∷ ls) few = by (nat_le f l.cycle) refl (same_read f ls few.1)
         ∙ ap (λ (xs : List Placed). xs ++ from_floor f (indexed ls))
         (sym (none_from f l.cycle 0 l.messages (not_le f l.cycle is) (omega (arith, here_few))))
         ∙ sym (split ls)
-
--- no message has this place
-missing : (ms : List (List ℕ)) (k : ℕ) → length ms ≤ k → slice_get ms k ≡ None
-missing [] k high = refl
-missing (m ∷ ms) zero high = absurd (omega (arith, high))
-missing (m ∷ ms) (suc k) high = missing ms k (omega (arith, high))
 
 same_first : (f p : ℕ) (ls : List CycleList) → AllByRecursion IsFew ls → index_of f 0 ≤ p → first_in (kept_lists f ls) p ≡ first_in ls p
 same_first f p [] few high = refl

@@ -1,6 +1,5 @@
 -- What is decided of a queue that is opened.
-use Rattle.std.proofs.Common.{◌≡◌, ◌≢◌, ◌≤◌, ℕ, List, [], ◌∷◌, ap, arith, inl, inr, map, max, min, subst, sym}
-use Rattle.std.specs.List.{AllByRecursion}
+use Rattle.std.proofs.Common.{◌≡◌, ◌≢◌, ◌≤◌, ℕ, List, arith, inl, inr, map, max, min, subst, sym}
 use Rattle.std.specs.Prelude.{Option, None, Some, IfErr, IfOk, IfSome, IsErrAnd, Result, Ok, Err, option_map, string_bytes}
 use Rattle.cq_config_text.specs.declared.version.FolderVersion.TheVariants as version
 use Rattle.cq_cycle.specs.declared.roll.TheConstants.{LAST_CYCLE}
@@ -9,12 +8,14 @@ use Rattle.cq_files.proofs.CauseLemmas.{MindsFault}
 use Rattle.cq_files.specs.Counted.{CountsFaults}
 use Rattle.cq_files.specs.FolderFaults.{HasVersion, IsQueueFault, MindsVersion}
 use Rattle.cq_files.specs.Openable.{IsOpenFault}
-use Rattle.cq_files.specs.Queue.{CanBeOpened, HoldQueue, IsLawfulQueue, contents_from, contents_in, list_in}
+use Rattle.cq_files.specs.Queue.{CanBeOpened, HoldQueue, IsLawfulQueue, contents_in, list_in}
 use Rattle.cq_files.specs.declared.opening.SavedQueue.{SavedQueue}
+use Rattle.cq_files.proofs.QueueLemmas.{whole_contents}
 use Rattle.cq_model.specs.Settings.{Settings}
-use Rattle.cq_model.specs.States.{IsHeld, last_cycle}
+use Rattle.cq_model.specs.States.{last_cycle}
 use Rattle.cq_model.specs.declared.contents.Contents.{Contents}
 use Rattle.cq_model.specs.declared.contents.CycleList.{CycleList}
+use Rattle.cq_model.proofs.ContentsLemmas.{last_low}
 use Rattle.cq_orders.specs.declared.settings.TrimSettings.{TrimSettings}
 use Rattle.cq_text.specs.Faults.{IsDeviceFault}
 use Rattle.cq_text.specs.declared.fault.ToolFault.{ToolFault}
@@ -23,16 +24,6 @@ use Rattle.cq_stat.proofs.OpenLemmas.{bad_contents}
 use Rattle.cq_trim.specs.Floors.{IsBeforeFault, raised_floor}
 use Rattle.cq_trim.specs.Plans.{Decides, IsDecision, IsDecisionFault, IsUndecided}
 use Rattle.cq_trim.specs.declared.planning.Decision.{Decision}
-
--- what is held where all messages are kept
-whole : (queue : SavedQueue) → queue.contents.lists ≡ map list_in queue.images.items → queue.contents ≡ contents_in queue
-whole queue lists = ap (λ (ls : List CycleList). contents_from ls queue.contents.positions queue.contents.floor) lists
-
--- the last of the cycles that a queue may hold is one that a configuration can tell
-last_low : (settings : Settings) (ls : List CycleList) → AllByRecursion (IsHeld settings) ls → last_cycle ls ≤ LAST_CYCLE
-last_low settings [] held = omega arith
-last_low settings (l ∷ []) held = held.0.exists.in_range
-last_low settings (l ∷ k ∷ ls) held = last_low settings (k ∷ ls) held.1
 
 -- a floor that rises in a queue that can be opened is low enough
 pub floor_low : (settings : Settings) (contents : Contents) (cycle : ℕ) → CanBeOpened settings contents
@@ -79,7 +70,7 @@ module _ (a : Option Files) (wanted : TrimSettings) (queue : SavedQueue) (result
     (held : IfSome a (HoldQueue queue)) (lists : queue.contents.lists ≡ map list_in queue.images.items)
     (can : CanBeOpened queue.config queue.contents) where
   can_whole : CanBeOpened queue.config (contents_in queue)
-  can_whole = subst (CanBeOpened queue.config) (whole queue lists) can
+  can_whole = subst (CanBeOpened queue.config) (whole_contents queue lists) can
 
   pub decided : IfOk result (IsDecision wanted queue.config queue.contents queue.images.items) → IfOk result (Decides wanted a)
   decided is = by result is
@@ -90,7 +81,7 @@ module _ (a : Option Files) (wanted : TrimSettings) (queue : SavedQueue) (result
         lawful = lawful;
         held = held;
         openable = can_whole;
-        decided = subst (λ (contents : Contents). IsDecision wanted queue.config contents queue.images.items decision) (whole queue lists) is;
+        decided = subst (λ (contents : Contents). IsDecision wanted queue.config contents queue.images.items decision) (whole_contents queue lists) is;
       }
       by (Err fault) is = tt
 

@@ -4,9 +4,8 @@ ghost use Rattle.std.specs.Prelude.{◌≡◌, ◌≤◌, IfErr, IfOk, IfSome, M
 ghost use Rattle.cq_trim.specs.Floors.{IsBefore, IsTrimFloor, IsBeforeFault, first_kept, keeps_from, raised_floor};
 
 use crate::words::cycle_meant;
-use cq_model::{Config, Contents, CycleList};
+use cq_model::{Config, Contents, CycleList, last_cycle};
 use cq_orders::TrimSettings;
-use cq_stat::last_cycle;
 use cq_text::ToolFault;
 
 /// Returns the floor that the queue gets: it never falls, and is never above the last cycle.

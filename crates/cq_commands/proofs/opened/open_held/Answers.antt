@@ -2,7 +2,8 @@ use Rattle.std.proofs.Common.{inr}
 use Rattle.std.specs.Prelude.{IfSome}
 use Rattle.cq_commands.specs.QueueFaults.{IsOpenFault}
 use Rattle.cq_text.proofs.FaultLemmas.{passed_on}
-use Rattle.cq_commands.proofs.OpeningLemmas.{not_opened, opened_from, whole_contents}
+use Rattle.cq_files.proofs.QueueLemmas.{whole_contents}
+use Rattle.cq_commands.proofs.OpeningLemmas.{not_opened, opened_from}
 use Rattle.cq_commands.proofs.opened.open_held.Goals as goal
 
 pub returns-in_err-check_contents-clause-cause : goal.returns-in_err-check_contents-clause-cause

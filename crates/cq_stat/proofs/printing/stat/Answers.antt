@@ -1,8 +1,8 @@
 use Rattle.std.proofs.lemmas.Result.{on_ok_weaker}
 use Rattle.cq_text.proofs.OutputLemmas.{cut_short}
-use Rattle.cq_text.proofs.FaultLemmas.{passed_on}
+use Rattle.cq_text.proofs.FaultLemmas.{only_printing, passed_on}
 use Rattle.cq_stat.specs.StatOut.{IsStatOut}
-use Rattle.cq_stat.proofs.OpenLemmas.{not_said, not_written, only_printing, stat_out}
+use Rattle.cq_stat.proofs.OpenLemmas.{not_said, not_written, stat_out}
 use Rattle.cq_stat.proofs.printing.stat.Given as given
 use Rattle.cq_stat.proofs.printing.stat.Goals as goal
 use Rattle.cq_stat.proofs.printing.stat.Goals.{After-as_bytes}

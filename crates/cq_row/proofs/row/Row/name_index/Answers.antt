@@ -1,6 +1,6 @@
 use Rattle.std.proofs.Common.{ℕ, List, ap, arith, below_more, slice_get, string_bytes, sym, ◌∙◌, ◌≡◌}
 use Rattle.cq_model.specs.Settings.{Settings, texts}
-use Rattle.cq_row.proofs.Names.{name_else, name_here, name_nowhere}
+use Rattle.cq_model.proofs.NamePlaces.{name_else, name_here, name_nowhere}
 use Rattle.cq_row.proofs.row.Row.name_index.Goals as goal
 use Rattle.cq_row.proofs.row.Row.name_index.Goals.{After-names-names}
 
