@@ -1,20 +1,34 @@
 #!/usr/bin/env python3
-"""Draws the groups of crates, which MAP.md has, as docs/pictures/crates.svg.
+"""Draws the groups of crates, which MAP.md has, as docs/pictures/crates.svg, and writes the index of names at the end of MAP.md.
 
     docs/crates.py [--check]
 
 With --check nothing is written. What is wrong is printed: a crate of crates.txt that is in no group or in several, a name in a group
-that is no crate, and a picture that is not the one that would be drawn. The last line is `N wrong`, and the status is 1 if there is any.
+that is no crate, a picture that is not the one that would be drawn, and an index that is not the one that would be written. The last
+line is `N wrong`, and the status is 1 if there is any.
 """
 
 import collections
+import functools
 import pathlib
 import re
 import sys
+import textwrap
 
 TOP = pathlib.Path(__file__).resolve().parent.parent
 MAP = TOP / "docs" / "MAP.md"
 PICTURE = TOP / "docs" / "pictures" / "crates.svg"
+
+# The index of names is between these lines of MAP.md. A name that this number of crates declare is left out of it. A word that is no
+# declared name is in it if one file alone has it, on at least this number of lines. No line is longer than this, in letters.
+FIRST, LAST = "<!-- names: made by docs/crates.py -->", "<!-- end of the names -->"
+CRATES, LINES, LONGEST = 3, 2, 130
+
+ITEM = re.compile(r'\s*(?:pub(?:\(crate\))? )?(?:(?:const|unsafe|extern "C") )*(fn|struct|enum|trait|type|const|static) (\w+)')
+VARIANT = re.compile(r"    ([A-Z]\w*)(?:[({,]| [{=]|$)")
+DEFINITION = re.compile(r"(?:(?:abbrev|unfoldable) )?pub (?:(?:record|data) )?(\w+)\b")
+QUOTED = re.compile(r'\'(?:[^\'\\\n]|\\[^\'\n]+)\'|"(?:[^"\\]|\\.)*"', re.S)
+IMPORT = re.compile(r"\s*(?:ghost )?(?:pub(?:\(crate\))? )?(?:use|mod)\b")
 
 # What is said of each group next to its name.
 SAYS = {
@@ -164,15 +178,138 @@ def picture():
     return HEADER.format(wide=WIDE, high=layout.bottom + HIGH) + "\n" + "\n".join([*drawn, *lines, "</svg>", ""])
 
 
+def code_of(path):
+    """Returns the lines of a file that are neither comments nor imports."""
+    lines = path.read_text(encoding="utf-8").splitlines()
+    return [it for it in lines if not it.lstrip().startswith("//") and not IMPORT.match(it)]
+
+
+@functools.cache
+def declared(path):
+    """Returns the names of a file's types, their variants, constants and functions but tests, in their order."""
+    names, is_test, in_enum = [], False, False
+    for line in code_of(path):
+        item = ITEM.match(line)
+        if in_enum:
+            names += VARIANT.findall(line)
+            in_enum = not line.startswith("}")
+        elif item and not is_test:
+            names.append(item[2])
+        if item:
+            in_enum = item[1] == "enum" and not line.endswith("}")
+            is_test = False
+        is_test = is_test or line.strip() == "#[test]"
+    return list(dict.fromkeys(names))
+
+
+@functools.cache
+def defined(path):
+    """Returns the names of the definitions of a file of contracts, in their order."""
+    found = map(DEFINITION.match, path.read_text(encoding="utf-8").splitlines())
+    return list(dict.fromkeys(it[1] for it in found if it and it[1] not in ("mod", "use")))
+
+
+@functools.cache
+def words_of(path):
+    """Counts on how many lines of a file's code each word is, but for texts and letters."""
+    lines = QUOTED.sub('""', "\n".join(code_of(path))).split("\n")
+    return collections.Counter(word for it in lines for word in set(re.findall(r"(?<![\w'])[A-Za-z]\w+", it)))
+
+
+def named():
+    """Returns the names that the entry of each crate gives for each file of it, and those that it gives for the crate, as for None."""
+    text = MAP.read_text(encoding="utf-8").partition("\n## Crates\n")[2].partition("\n### Crates with ")[0]
+    found = {}
+    for entry in re.findall(r"^- `\w+`:.*(?:\n  .*)*", text, re.M):
+        names, files, end = collections.defaultdict(set), [None], 0
+        found[re.match(r"- `(\w+)`", entry)[1]] = names
+        for quoted in re.finditer(r"`([^`]+)`", entry):
+            if quoted[1].endswith(".rt"):
+                is_more = entry[end : quoted.start()] == ", " and files[-1]
+                files = [*(files if is_more else []), pathlib.Path(quoted[1]).name]
+                end = quoted.end()
+            elif len(files) == 1:
+                names[files[0]].update(re.findall(r"\w+", quoted[1]))
+    return found
+
+
+class Names:
+    """The names of all crates, and where they are."""
+
+    def __init__(self):
+        self.sources = {it: sorted((TOP / "crates" / it / "src").rglob("*.rt")) for names in groups().values() for it in names}
+        self.specs = {it: sorted((TOP / "crates" / it / "specs").glob("*.antt")) for it in self.sources}
+        self.named, self.crates = named(), collections.defaultdict(set)
+        # In how many files a word is of which it is no declared name.
+        self.uses = collections.Counter()
+        for crate in self.sources:
+            for path in self.sources[crate]:
+                self.uses.update(words_of(path).keys() - set(declared(path)))
+            for name in self.declared_in(crate):
+                self.crates[name].add(crate)
+
+    def declared_in(self, crate):
+        """Yields what the files of a crate declare and define."""
+        yield from (name for path in self.sources[crate] for name in declared(path))
+        yield from (name for path in self.specs[crate] for name in defined(path))
+
+    def is_left_out(self, crate, file, name):
+        """Whether a name is left out: the crate's entry has it for this file or for the crate, or too many crates declare it."""
+        return len(self.crates.get(name, ())) >= CRATES or name in self.named[crate][file] | self.named[crate][None]
+
+    def of_source(self, crate, path):
+        """Returns the names of a file, and then in brackets the words that no other file has, but for those that declare them."""
+        listed = [it for it in declared(path) if not self.is_left_out(crate, path.name, it)]
+        alone = [
+            it
+            for it, count in words_of(path).items()
+            if self.uses[it] == 1 and (count >= LINES or it in self.crates) and it not in declared(path)
+        ]
+        alone = sorted(it for it in alone if not self.is_left_out(crate, path.name, it))
+        return " ".join([", ".join(listed), *([f"({', '.join(alone)})"] if alone else [])]).strip()
+
+    def of_specs(self, crate, path):
+        """Returns the definitions of a file of contracts that several files of code cite."""
+        said = set().union(*self.named[crate].values())
+        return ", ".join(it for it in defined(path) if self.uses[it] > 1 and not self.is_left_out(crate, path.name, it) and it not in said)
+
+    def of_crate(self, crate):
+        """Returns the lines of a crate, or none if its entry has all names."""
+        parts = [f"{path.name}: {self.of_source(crate, path)}" for path in self.sources[crate]]
+        parts += [f"{path.name}: {self.of_specs(crate, path)}" for path in self.specs[crate]]
+        text = "; ".join(it for it in parts if not it.endswith(": "))
+        wrap = functools.partial(textwrap.wrap, width=LONGEST, subsequent_indent="  ", break_long_words=False, break_on_hyphens=False)
+        return wrap(f"{crate}  {text}") if text else []
+
+
+def index():
+    """Returns the index of names, with the lines around it."""
+    names = Names()
+    lines = [line for crate in names.sources for line in names.of_crate(crate)]
+    return "\n".join([FIRST, "```", *lines, "```", LAST, ""])
+
+
+def with_index(text):
+    """Returns the text of MAP.md with the index in its place."""
+    before, first, rest = text.partition(FIRST)
+    after = rest.partition(LAST + "\n")[2]
+    return before + index() + after if first else text.rstrip("\n") + "\n\n" + index()
+
+
 def main():
     if sys.argv[1:] not in ([], ["--check"]):
         print(__doc__.strip(), file=sys.stderr)
         return 2
     drawn, wrong = picture(), list(misplaced())
+    text = MAP.read_text(encoding="utf-8")
     if not sys.argv[1:]:
         PICTURE.write_text(drawn, encoding="utf-8")
-    elif not PICTURE.exists() or PICTURE.read_text(encoding="utf-8") != drawn:
-        wrong.append("docs/pictures/crates.svg is not that of MAP.md: docs/crates.py draws it")
+        MAP.write_text(with_index(text), encoding="utf-8")
+    else:
+        if not PICTURE.exists() or PICTURE.read_text(encoding="utf-8") != drawn:
+            wrong.append("docs/pictures/crates.svg is not that of MAP.md: docs/crates.py draws it")
+        if with_index(text) != text:
+            wrong.append("the index of names in docs/MAP.md is not that of the sources: docs/crates.py writes it")
     for line in wrong:
         print(line)
     print(f"{len(wrong)} wrong")
