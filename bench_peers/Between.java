@@ -16,6 +16,9 @@ final class Between {
 
         /** What a thread receives by. Each gets each message that is sent from now on. */
         Receiver receiver();
+
+        /** Lets go of what it holds besides memory. Nothing is sent or received any more. */
+        default void close() throws Exception {}
     }
 
     /** What a thread receives by. */
@@ -119,7 +122,9 @@ final class Between {
         }
         if (senders == 0) sendAll(queue, message, all);
         for (int i = 0; i < senders; i++) jobs.add(() -> sendAll(queue, message, each));
-        return nanosOf(jobs);
+        long nanos = nanosOf(jobs);
+        queue.close();
+        return nanos;
     }
 
     private void printLine(String name, int bytes, String threads, double value, String unit) {
@@ -164,6 +169,7 @@ final class Between {
             }
         };
         nanosOf(List.of(send, receive));
+        queue.close();
         long[] times = new long[PINGS];
         for (int i = 0; i < PINGS; i++) times[i] = came[i] - sent[i];
         Arrays.sort(times);

@@ -143,8 +143,8 @@ BETWEEN = [
 
 # The queues between threads: names in a file, and in a text.
 QUEUES = {
-    "cq": "Queue", "disruptor": "Disruptor", "crossbeam": "crossbeam", "mpsc": "mpsc", "moodycamel": "moodycamel",
-    "mutex": "mutex", "pipe": "pipe",
+    "cq": "Queue", "chronicle": "Chronicle", "disruptor": "Disruptor", "crossbeam": "crossbeam", "mpsc": "mpsc",
+    "moodycamel": "moodycamel", "mutex": "mutex", "pipe": "pipe",
 }  # fmt: skip
 
 

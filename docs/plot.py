@@ -19,7 +19,7 @@ DOCS = pathlib.Path(__file__).resolve().parent
 COLORS = {
     "queue": ("#0969da", "#58a6ff"), "hand": ("#6e7781", "#9da7b1"), "disruptor": ("#bc4c00", "#f0883e"),
     "crossbeam": ("#1a7f37", "#3fb950"), "mpsc": ("#8250df", "#bc8cff"), "moodycamel": ("#bf3989", "#f778ba"),
-    "mutex": ("#9a6700", "#d29922"), "pipe": ("#57606a", "#8b949e"),
+    "mutex": ("#9a6700", "#d29922"), "pipe": ("#57606a", "#8b949e"), "chronicle": ("#cf222e", "#ff7b72"),
 }  # fmt: skip
 
 STYLE = """text { font: 13px system-ui, -apple-system, "Segoe UI", Roboto, sans-serif; fill: #57606a; }
