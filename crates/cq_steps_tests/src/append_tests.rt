@@ -1,11 +1,9 @@
 //! Appenders that are lost between any two steps of an append.
-use crate::queues::{
-    Call, Lost, Measures, Outcome, assert_none, layout_of, push_missed_lost, steps_to_stand,
-};
+use crate::queues::{Call, Lost, Measures, Outcome, layout_of, push_missed_lost, steps_to_stand};
 use cq_chain::message_length;
+use cq_fixtures::expect_text;
 use cq_layout::store_size;
 use std::alloc::{AllocError, Global};
-use std::process::Abort;
 use std::test::Fail;
 
 /// An append, at each of whose steps in turn its caller is lost.
@@ -55,10 +53,9 @@ fn missed_of(alloc: Global, append: &Append<'_>) -> Result<String, Fail> {
     Ok(missed)
 }
 
-/// Loses the caller after each number of steps, and compares the results.
-fn assert_append(rt: &impl Abort, alloc: Global, append: &Append<'_>) -> Result<(), Fail> {
-    assert_none(rt, missed_of(alloc, append)?.as_str());
-    Ok(())
+/// Loses the caller after each number of steps. Fails if a result is not the wanted one.
+fn expect_append(alloc: Global, append: &Append<'_>) -> Result<(), Fail> {
+    expect_text(missed_of(alloc, append)?, "")
 }
 
 static FIRST: Append<'static> = Append {
@@ -71,7 +68,7 @@ static FIRST: Append<'static> = Append {
 
 #[test]
 fn an_appender_of_the_first_message_is_lost(rt: HostRuntime) -> Result<(), Fail> {
-    assert_append(&rt, rt.alloc(), &FIRST)
+    expect_append(rt.alloc(), &FIRST)
 }
 
 static BEHIND_A_TABLE: Append<'static> = Append {
@@ -84,7 +81,7 @@ static BEHIND_A_TABLE: Append<'static> = Append {
 
 #[test]
 fn an_appender_behind_a_full_table_is_lost(rt: HostRuntime) -> Result<(), Fail> {
-    assert_append(&rt, rt.alloc(), &BEHIND_A_TABLE)
+    expect_append(rt.alloc(), &BEHIND_A_TABLE)
 }
 
 static OF_LARGER_TABLES: Append<'static> = Append {
@@ -97,7 +94,7 @@ static OF_LARGER_TABLES: Append<'static> = Append {
 
 #[test]
 fn an_appender_that_owes_three_records_is_lost(rt: HostRuntime) -> Result<(), Fail> {
-    assert_append(&rt, rt.alloc(), &OF_LARGER_TABLES)
+    expect_append(rt.alloc(), &OF_LARGER_TABLES)
 }
 
 /// How many messages are there before, how many cells the store record has together with the message that fills the
@@ -119,13 +116,7 @@ fn text_of(alloc: Global, cells: u32) -> Result<String, AllocError> {
 }
 
 /// Loses the caller in an append after this many messages, which fills the cycle.
-fn assert_filled(
-    rt: &impl Abort,
-    alloc: Global,
-    count: u32,
-    text: &str,
-    begins: &str,
-) -> Result<(), Fail> {
+fn expect_filled(alloc: Global, count: u32, text: &str, begins: &str) -> Result<(), Fail> {
     let before = format!(in alloc; "{begins}] at [0], {count}")?;
     let behind = format!(in alloc; "{begins}{text};] at [0], CycleFull")?;
     let append = Append {
@@ -135,15 +126,20 @@ fn assert_filled(
         before: before.as_str(),
         behind: behind.as_str(),
     };
-    assert_append(rt, alloc, &append)
+    expect_append(alloc, &append)
+}
+
+/// Loses the caller in appends that fill the cycle.
+fn expect_each_filled(alloc: Global) -> Result<(), Fail> {
+    let store = store_size(layout_of(alloc, (64, 8, 1))?);
+    for (count, cells, begins) in &FILLED {
+        let text = text_of(alloc, cells.saturating_sub(store))?;
+        expect_filled(alloc, *count, text.as_str(), begins)?;
+    }
+    Ok(())
 }
 
 #[test]
 fn an_appender_that_fills_the_cycle_is_lost(rt: HostRuntime) -> Result<(), Fail> {
-    let store = store_size(layout_of(rt.alloc(), (64, 8, 1))?);
-    for (count, cells, begins) in &FILLED {
-        let text = text_of(rt.alloc(), cells.saturating_sub(store))?;
-        assert_filled(&rt, rt.alloc(), *count, text.as_str(), begins)?;
-    }
-    Ok(())
+    expect_each_filled(rt.alloc())
 }

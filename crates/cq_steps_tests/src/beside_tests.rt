@@ -9,15 +9,16 @@ ghost use Rattle.cq_words.specs.Values.{IsOf};
 use crate::looking::look;
 use crate::publishing::publish;
 use crate::queues::{
-    Call, Loss, Measures, append_first, assert_none, layout_of, left_text, lose, new_queue,
-    push_at, push_rest, steps_to_stand,
+    Call, Loss, Measures, append_first, layout_of, left_text, lose, new_queue, push_at, push_rest,
+    steps_to_stand,
 };
 use crate::reading::{load_first, tell};
 use crate::steps::Steps;
 use crate::writing::write;
 use cq_cycle::Index;
-use cq_fixtures::{DAY, push_missed};
+use cq_fixtures::{DAY, expect_text, push_missed};
 use cq_layout::Layout;
+use cq_shown::Stopped;
 use cq_tail::Tailer;
 use cq_walks::{MessagePlace, Trail, behind};
 use cq_words::{Caller, Queue};
@@ -262,13 +263,19 @@ fn push_beside(
     }
 }
 
-/// The same in a new queue, and then what is left.
-fn told_text(alloc: Global, case: Case) -> Result<String, Fail> {
+/// The same in a new queue, which is then stopped.
+fn stopped_beside(alloc: Global, case: Case, out: &mut String) -> Result<Stopped, Fail> {
     let (queue, mut writer) = new_queue(alloc, MEASURES)?;
     let other = queue.split(&mut writer);
+    push_beside(alloc, &queue, &mut writer, case, out)?;
+    Ok(queue.stop(other))
+}
+
+/// The same, and then what is left.
+fn told_text(alloc: Global, case: Case) -> Result<String, Fail> {
     let mut told = String::new(alloc);
-    push_beside(alloc, &queue, &mut writer, case, &mut told)?;
-    told.push_str(left_text(alloc, MEASURES, &queue.stop(other))?.as_str())?;
+    let stopped = stopped_beside(alloc, case, &mut told)?;
+    told.push_str(left_text(alloc, MEASURES, &stopped)?.as_str())?;
     Ok(told)
 }
 
@@ -365,7 +372,7 @@ fn missed_beside(alloc: Global, count: u32, beside: &Beside) -> Result<String, F
 #[test]
 fn others_go_on_in_the_middle_of_their_calls(rt: HostRuntime) -> Result<(), Fail> {
     for beside in &BESIDE {
-        assert_none(&rt, missed_beside(rt.alloc(), 8, beside)?.as_str());
+        expect_text(missed_beside(rt.alloc(), 8, beside)?, "")?;
     }
     Ok(())
 }
@@ -373,7 +380,7 @@ fn others_go_on_in_the_middle_of_their_calls(rt: HostRuntime) -> Result<(), Fail
 #[test]
 fn others_go_on_where_no_message_stands(rt: HostRuntime) -> Result<(), Fail> {
     for beside in &BESIDE_FIRST {
-        assert_none(&rt, missed_beside(rt.alloc(), 0, beside)?.as_str());
+        expect_text(missed_beside(rt.alloc(), 0, beside)?, "")?;
     }
     Ok(())
 }

@@ -5,7 +5,7 @@ ghost use Rattle.cq_words.specs.Rule.{first_mark};
 ghost use Rattle.cq_words.specs.Values.{IsOf};
 
 use crate::first::claim_first;
-use cq_fixtures::{contents_text, small_config};
+use cq_fixtures::{contents_text, expect, expect_text, small_config};
 use cq_shown::recover;
 use cq_words::{Caller, Queue};
 use std::alloc::Global;
@@ -42,19 +42,26 @@ fn found_by_two<R: Threads + Sync>(
     )
 }
 
-/// Whether just one of two threads won the header of a new queue, and the other one found it working.
-fn is_won_once<R: Threads + Sync>(rt: &R, alloc: Global) -> Result<bool, Fail> {
+/// The same in a new queue.
+fn found_in_new<R: Threads + Sync>(
+    rt: &R,
+    alloc: Global,
+) -> Result<(Option<u32>, Option<u32>), Fail> {
     let (queue, mut caller) = Queue::create(alloc, small_config(alloc, 1)?, 0)?;
     let one = queue.split(&mut caller);
     let two = queue.split(&mut caller);
-    let found = found_by_two(rt, &queue, one, two);
-    Ok(found == (Some(0), Some(WORKING)) || found == (Some(WORKING), Some(0)))
+    Ok(found_by_two(rt, &queue, one, two))
+}
+
+/// Whether just one of two threads won the header, and the other one found it working.
+fn is_won_once(found: (Option<u32>, Option<u32>)) -> bool {
+    found == (Some(0), Some(WORKING)) || found == (Some(WORKING), Some(0))
 }
 
 /// Whether that holds for this many new queues.
 fn are_won_once<R: Threads + Sync>(rt: &R, alloc: Global, count: u32) -> Result<bool, Fail> {
     for _ in 0..count {
-        if !is_won_once(rt, alloc)? {
+        if !is_won_once(found_in_new(rt, alloc)?) {
             return Ok(false);
         }
     }
@@ -63,8 +70,10 @@ fn are_won_once<R: Threads + Sync>(rt: &R, alloc: Global, count: u32) -> Result<
 
 #[test]
 fn one_of_two_threads_wins_a_header(rt: HostRuntime) -> Result<(), Fail> {
-    assert!(rt; are_won_once(&rt, rt.alloc(), 200)?);
-    Ok(())
+    expect(
+        are_won_once(&rt, rt.alloc(), 200)?,
+        "each header is won once",
+    )
 }
 
 /// What a child finds that is split off in a claim of its parent, and what the parent finds once it has given that up.
@@ -90,8 +99,10 @@ fn split_in_a_claim(alloc: Global) -> Result<(Option<u32>, Option<u32>), Fail> {
 
 #[test]
 fn a_child_split_in_a_claim_has_none(rt: HostRuntime) -> Result<(), Fail> {
-    assert_eq!(rt; split_in_a_claim(rt.alloc())?, (Some(WORKING), Some(0)));
-    Ok(())
+    expect(
+        split_in_a_claim(rt.alloc())? == (Some(WORKING), Some(0)),
+        "a child finds the header working, and its parent finds 0",
+    )
 }
 
 /// The contents of a queue of which a caller was dropped in a claim, as another one stopped it that had made no step.
@@ -105,7 +116,5 @@ fn stopped_in_a_claim(alloc: Global) -> Result<String, Fail> {
 
 #[test]
 fn a_message_that_was_begun_is_in_no_list(rt: HostRuntime) -> Result<(), Fail> {
-    let text = stopped_in_a_claim(rt.alloc())?;
-    assert_eq!(rt; text.as_str(), "0[] at [0]");
-    Ok(())
+    expect_text(stopped_in_a_claim(rt.alloc())?, "0[] at [0]")
 }

@@ -112,72 +112,96 @@ impl Many {
     }
 }
 
-/// The most steps of a read by index of a new queue.
-fn most_read_steps(alloc: Global) -> Result<u64, Fail> {
-    Many::new(alloc)?.most_read_steps(alloc)
+/// What is counted of a queue of many messages.
+#[derive(Clone, Copy)]
+enum Reads {
+    /// The most steps of a read by index here and there, each by a new caller.
+    ByIndex,
+    /// The most steps of one of these reads forwards, each by the caller that read the message before it.
+    Forwards(&'static [u32]),
+    /// The steps of reads of all messages forwards, each after a look at the message.
+    WithLooks,
+    /// The steps of reads of all messages backwards.
+    Backwards,
+}
+
+/// Fails if these are more steps than this.
+fn expect_steps(steps: u64, most: u64) -> Result<(), Fail> {
+    if steps <= most {
+        return Ok(());
+    }
+    Err(Fail::new(format_args!("{steps} steps in place of {most}")))
+}
+
+impl Many {
+    /// The steps of these reads.
+    fn steps_of(&mut self, alloc: Global, reads: Reads) -> Result<u64, Fail> {
+        match reads {
+            Reads::ByIndex => self.most_read_steps(alloc),
+            Reads::Forwards(wanted) => self.most_forward_steps(alloc, wanted),
+            Reads::WithLooks => self.steps_with_looks(alloc),
+            Reads::Backwards => self.all_backward_steps(alloc),
+        }
+    }
+
+    /// Fails if these reads take more steps than this.
+    fn expect_reads(&mut self, alloc: Global, reads: Reads, most: u64) -> Result<(), Fail> {
+        expect_steps(self.steps_of(alloc, reads)?, most)
+    }
+}
+
+/// Fails if these reads of a new queue take more steps than this.
+fn expect_new_reads(alloc: Global, reads: Reads, most: u64) -> Result<(), Fail> {
+    Many::new(alloc)?.expect_reads(alloc, reads, most)
 }
 
 #[test]
 fn a_read_by_index_takes_few_steps(rt: HostRuntime) -> Result<(), Fail> {
-    assert!(rt; most_read_steps(rt.alloc())? <= 11 + u64::from(SPACING));
-    Ok(())
-}
-
-/// The most steps of one of these reads forwards of a new queue.
-fn most_forward_steps(alloc: Global, wanted: &[u32]) -> Result<u64, Fail> {
-    Many::new(alloc)?.most_forward_steps(alloc, wanted)
+    expect_new_reads(rt.alloc(), Reads::ByIndex, 11 + u64::from(SPACING))
 }
 
 #[test]
 fn a_read_behind_the_last_one_takes_one_step(rt: HostRuntime) -> Result<(), Fail> {
-    let wanted = [1, 2, 16, 4_095, 4_097, 12_345, 29_999];
-    assert!(rt; most_forward_steps(rt.alloc(), &wanted)? <= 1);
-    Ok(())
+    let wanted = Reads::Forwards(&[1, 2, 16, 4_095, 4_097, 12_345, 29_999]);
+    expect_new_reads(rt.alloc(), wanted, 1)
 }
 
 #[test]
 fn a_read_over_an_index_table_takes_three_steps(rt: HostRuntime) -> Result<(), Fail> {
     // An index table comes before each 4,096th message.
-    assert!(rt; most_forward_steps(rt.alloc(), &[4_096, 8_192, 28_672])? <= 3);
-    Ok(())
-}
-
-/// The steps of reads of all messages of a new queue forwards, each after a look at the message.
-fn steps_with_looks_of_new(alloc: Global) -> Result<u64, Fail> {
-    Many::new(alloc)?.steps_with_looks(alloc)
+    expect_new_reads(rt.alloc(), Reads::Forwards(&[4_096, 8_192, 28_672]), 3)
 }
 
 #[test]
 fn a_look_before_a_read_takes_one_step_more(rt: HostRuntime) -> Result<(), Fail> {
     // A few more are for the first message, and for those after an index table.
-    assert!(rt; steps_with_looks_of_new(rt.alloc())? <= u64::from(2 * COUNT + 64));
-    Ok(())
-}
-
-/// The steps of reads of all messages of a new queue backwards.
-fn all_backward_steps(alloc: Global) -> Result<u64, Fail> {
-    Many::new(alloc)?.all_backward_steps(alloc)
+    expect_new_reads(rt.alloc(), Reads::WithLooks, u64::from(2 * COUNT + 64))
 }
 
 #[test]
 fn reads_backwards_look_at_one_header_a_message(rt: HostRuntime) -> Result<(), Fail> {
     // In each block of 64 messages the slot's cycle, the write position and two entries are loaded too.
-    assert!(rt; all_backward_steps(rt.alloc())? <= u64::from(COUNT + 4 * (COUNT / 64 + 2)));
-    Ok(())
+    expect_new_reads(
+        rt.alloc(),
+        Reads::Backwards,
+        u64::from(COUNT + 4 * (COUNT / 64 + 2)),
+    )
 }
 
-/// The same of a queue that is opened again.
-fn all_backward_steps_without_hints(alloc: Global) -> Result<u64, Fail> {
-    Many::reopened(alloc)?.all_backward_steps(alloc)
+/// Fails if these reads of a queue that is opened again take more steps than this.
+fn expect_reopened_reads(alloc: Global, reads: Reads, most: u64) -> Result<(), Fail> {
+    Many::reopened(alloc)?.expect_reads(alloc, reads, most)
 }
 
 #[test]
 fn reads_backwards_without_hints_look_at_two_headers_a_message(
     rt: HostRuntime,
 ) -> Result<(), Fail> {
-    let steps = all_backward_steps_without_hints(rt.alloc())?;
-    assert!(rt; steps <= u64::from(2 * COUNT + COUNT / 64));
-    Ok(())
+    expect_reopened_reads(
+        rt.alloc(),
+        Reads::Backwards,
+        u64::from(2 * COUNT + COUNT / 64),
+    )
 }
 
 /// Returns the steps of this many appends to a new queue by one caller.
@@ -186,28 +210,28 @@ fn append_steps(alloc: Global, count: u32) -> Result<u64, Fail> {
     Ok(steps.saturating_add(2 * u64::from(count)))
 }
 
-/// The most steps of an append of one of these messages, each by the caller that appended the one before it.
-fn most_append_steps(alloc: Global, sequences: &[u32]) -> Result<u64, Fail> {
-    let mut most = 0;
+/// Fails if an append of one of these messages takes more steps than this, each by the caller that appended the one before
+/// it.
+fn expect_appends(alloc: Global, sequences: &[u32], most: u64) -> Result<(), Fail> {
     for sequence in sequences {
         let before = append_steps(alloc, *sequence)?;
         let with = append_steps(alloc, sequence.saturating_add(1))?;
-        most = most.max(with.saturating_sub(before));
+        expect_steps(with.saturating_sub(before), most)?;
     }
-    Ok(most)
+    Ok(())
 }
+
+/// Messages right behind others.
+static BEHIND_OTHERS: [u32; 10] = [1, 2, 15, 16, 17, 4_095, 4_097, 4_112, 29_984, 29_999];
 
 #[test]
 fn an_append_behind_the_last_one_takes_five_steps(rt: HostRuntime) -> Result<(), Fail> {
-    let sequences = [1, 2, 15, 16, 17, 4_095, 4_097, 4_112, 29_984, 29_999];
-    assert!(rt; most_append_steps(rt.alloc(), &sequences)? <= 5);
-    Ok(())
+    expect_appends(rt.alloc(), &BEHIND_OTHERS, 5)
 }
 
 #[test]
 fn an_append_behind_a_new_table_takes_six_steps(rt: HostRuntime) -> Result<(), Fail> {
-    assert!(rt; most_append_steps(rt.alloc(), &[4_096, 8_192])? <= 6);
-    Ok(())
+    expect_appends(rt.alloc(), &[4_096, 8_192], 6)
 }
 
 impl Many {
@@ -218,20 +242,25 @@ impl Many {
     }
 }
 
-/// The most steps of an append of one of these messages, each by a new caller.
-fn most_new_append_steps(alloc: Global, sequences: &[u32]) -> Result<u64, Fail> {
-    let mut most = 0;
-    for sequence in sequences {
-        most = most.max(Many::of(alloc, *sequence)?.new_append_steps()?);
-    }
-    Ok(most)
+/// The steps of an append of this message by a new caller.
+fn new_append_steps(alloc: Global, sequence: u32) -> Result<u64, Fail> {
+    Many::of(alloc, sequence)?.new_append_steps()
 }
+
+/// Fails if an append of one of these messages takes more steps than this, each by a new caller.
+fn expect_new_appends(alloc: Global, sequences: &[u32], most: u64) -> Result<(), Fail> {
+    for sequence in sequences {
+        expect_steps(new_append_steps(alloc, *sequence)?, most)?;
+    }
+    Ok(())
+}
+
+/// Messages that new callers append.
+static BY_NEW_CALLERS: [u32; 9] = [2, 15, 16, 17, 4_095, 4_097, 4_112, 29_984, 29_999];
 
 /// Three of them find the place, if there is more than one message.
 #[test]
 fn an_append_by_a_new_caller_takes_eight_steps(rt: HostRuntime) -> Result<(), Fail> {
-    let sequences = [2, 15, 16, 17, 4_095, 4_097, 4_112, 29_984, 29_999];
-    assert!(rt; most_new_append_steps(rt.alloc(), &sequences)? <= 8);
-    assert!(rt; most_new_append_steps(rt.alloc(), &[2, 15, 17, 4_095, 4_097, 29_999])? <= 6);
-    Ok(())
+    expect_new_appends(rt.alloc(), &BY_NEW_CALLERS, 8)?;
+    expect_new_appends(rt.alloc(), &[2, 15, 17, 4_095, 4_097, 29_999], 6)
 }

@@ -63,12 +63,20 @@ impl Model for Many {
     ghost invariant = { λ m. IsOf m.queue m.caller };
 }
 
+/// A queue to which this many messages were appended by a caller, its only one.
+fn filled(queue: Queue, caller: Caller, count: u32) -> Result<Many, Fail>
+    requires of { IsOf queue caller }
+    requires idle { caller.view.claim ≡ None }
+{
+    let caller = append_all(&queue, caller, count)?;
+    Ok(Many { queue, caller })
+}
+
 impl Many {
     /// A new queue to which this many messages were appended.
     pub fn of(alloc: Global, count: u32) -> Result<Many, Fail> {
         let (queue, caller) = new_queue(alloc)?;
-        let caller = append_all(&queue, caller, count)?;
-        Ok(Many { queue, caller })
+        filled(queue, caller, count)
     }
 
     /// A new queue to which all messages were appended.
@@ -76,10 +84,15 @@ impl Many {
         Many::of(alloc, COUNT)
     }
 
-    /// The same, stopped and opened again: no message has an entry, and there is no write position.
+    /// What the queue holds once it is stopped.
+    fn into_contents(self, alloc: Global) -> Result<Contents, Fail> {
+        let Many { queue, caller } = self;
+        Ok(recover(alloc, &queue.stop(caller))?)
+    }
+
+    /// A new queue of all messages, stopped and opened again: no message has an entry, and there is no write position.
     pub fn reopened(alloc: Global) -> Result<Many, Fail> {
-        let Many { queue, caller } = Many::new(alloc)?;
-        let contents = recover(alloc, &queue.stop(caller))?;
+        let contents = Many::new(alloc)?.into_contents(alloc)?;
         Many::held(alloc, config(alloc)?, &contents, 0)
     }
 
@@ -91,7 +104,6 @@ impl Many {
         count: u32,
     ) -> Result<Many, Fail> {
         let (queue, caller) = Queue::reopen(alloc, config, contents)?;
-        let caller = append_all(&queue, caller, count)?;
-        Ok(Many { queue, caller })
+        filled(queue, caller, count)
     }
 }

@@ -2,11 +2,10 @@
 ghost use Rattle.std.specs.Prelude.{◌≡◌, None};
 ghost use Rattle.cq_words.specs.Values.{IsOf};
 
-use crate::queues::{
-    Call, Lost, Measures, Outcome, assert_none, left_text, new_queue, push_missed_lost,
-};
+use crate::queues::{Call, Lost, Measures, Outcome, left_text, new_queue, push_missed_lost};
 use cq_append::{Appender, NoRoom, Writing};
-use cq_fixtures::push_missed;
+use cq_fixtures::{expect_text, push_missed};
+use cq_shown::Stopped;
 use cq_words::{Caller, Queue};
 use std::alloc::Global;
 use std::test::Fail;
@@ -46,12 +45,18 @@ fn put_behind(queue: &Queue, caller: Caller, bytes: &[u8], size: usize) -> Resul
     Ok(put_part(queue, appender, bytes, size)?)
 }
 
-/// What is left of a queue whose appender was lost once these bytes of a message after "a" were put, in pieces of this size.
-fn left_of_parts(alloc: Global, bytes: &[u8], size: usize) -> Result<String, Fail> {
+/// A queue that was stopped once an appender was lost that had put these bytes of a message after "a", in pieces of this size.
+fn stopped_in_parts(alloc: Global, bytes: &[u8], size: usize) -> Result<Stopped, Fail> {
     let (queue, mut caller) = new_queue(alloc, MEASURES)?;
     let other = queue.split(&mut caller);
     put_behind(&queue, caller, bytes, size)?;
-    left_text(alloc, MEASURES, &queue.stop(other))
+    Ok(queue.stop(other))
+}
+
+/// What is left of it.
+fn left_of_parts(alloc: Global, bytes: &[u8], size: usize) -> Result<String, Fail> {
+    let stopped = stopped_in_parts(alloc, bytes, size)?;
+    left_text(alloc, MEASURES, &stopped)
 }
 
 /// Returns what differs from what is wanted, if the appender is lost after each number of bytes.
@@ -70,7 +75,7 @@ static SIZES: [usize; 3] = [1, 3, 12];
 #[test]
 fn a_message_of_which_a_part_is_put_is_lost(rt: HostRuntime) -> Result<(), Fail> {
     for size in &SIZES {
-        assert_none(&rt, missed_parts(rt.alloc(), *size)?.as_str());
+        expect_text(missed_parts(rt.alloc(), *size)?, "")?;
     }
     Ok(())
 }
@@ -94,15 +99,20 @@ fn missed_of(alloc: Global, lost: &Lost<'_>, all: u32, left: &str) -> Result<Str
     Ok(missed)
 }
 
-#[test]
-fn an_appender_that_gives_a_message_up_is_lost(rt: HostRuntime) -> Result<(), Fail> {
+/// Loses the caller as it gives up each of these messages.
+fn expect_given_up(alloc: Global) -> Result<(), Fail> {
     for (count, text, steps, left) in &GIVEN_UP {
         let lost = Lost {
             measures: MEASURES,
             count: *count,
             call: Call::GiveUp(text),
         };
-        assert_none(&rt, missed_of(rt.alloc(), &lost, *steps, left)?.as_str());
+        expect_text(missed_of(alloc, &lost, *steps, left)?, "")?;
     }
     Ok(())
+}
+
+#[test]
+fn an_appender_that_gives_a_message_up_is_lost(rt: HostRuntime) -> Result<(), Fail> {
+    expect_given_up(rt.alloc())
 }

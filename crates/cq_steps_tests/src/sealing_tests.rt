@@ -2,9 +2,10 @@
 ghost use Rattle.std.specs.Prelude.{◌≡◌, None};
 ghost use Rattle.cq_words.specs.Values.{IsOf};
 
-use crate::queues::{Call, Loss, Measures, append_first, assert_none, left_text, lose, new_queue};
+use crate::queues::{Call, Loss, Measures, append_first, left_text, lose, new_queue};
 use cq_append::Appender;
-use cq_fixtures::{DAY, index_text, number_text, push_missed};
+use cq_fixtures::{DAY, expect_text, index_text, number_text, push_missed};
+use cq_shown::Stopped;
 use cq_words::{Caller, Queue};
 use std::alloc::Global;
 use std::test::Fail;
@@ -60,43 +61,95 @@ fn seal(queue: &Queue, other: &mut Caller) -> bool
     }
 }
 
-/// What a new caller is answered that appends and advances.
-fn answers_text(alloc: Global, queue: &Queue, other: &mut Caller) -> Result<String, Fail>
+/// Adds what an append of "x" at a moment returns.
+fn push_append(
+    alloc: Global,
+    queue: &Queue,
+    appender: &mut Appender,
+    moment: u64,
+    out: &mut String,
+) -> Result<(), Fail>
+    requires of { IsOf queue.now appender.old }
+    ensures of { IsOf queue.now appender.new }
+{
+    let answer = index_text(alloc, &appender.append(queue, moment, b"x"))?;
+    Ok(write!(out, ", {answer}")?)
+}
+
+/// Adds what an advance to cycle 5 returns.
+fn push_advance(
+    alloc: Global,
+    queue: &Queue,
+    appender: &mut Appender,
+    out: &mut String,
+) -> Result<(), Fail>
+    requires of { IsOf queue.now appender.old }
+{
+    let advanced = appender.advance(queue, 5 * DAY).map(u64::from);
+    let answer = number_text(alloc, "cycle ", &advanced)?;
+    Ok(write!(out, ", {answer}")?)
+}
+
+/// Adds what an appender is answered that appends to the cycles 0, 5 and 9, and then advances.
+fn push_answers(
+    alloc: Global,
+    queue: &Queue,
+    appender: &mut Appender,
+    out: &mut String,
+) -> Result<(), Fail>
+    requires of { IsOf queue.now appender.old }
+{
+    push_append(alloc, queue, appender, 0, out)?;
+    push_append(alloc, queue, appender, 5 * DAY, out)?;
+    push_append(alloc, queue, appender, 9 * DAY, out)?;
+    push_advance(alloc, queue, appender, out)
+}
+
+/// Adds the cycle of the second slot, whether the queue is sealed, and what a new caller is answered then.
+fn push_sealed(
+    alloc: Global,
+    queue: &Queue,
+    other: &mut Caller,
+    out: &mut String,
+) -> Result<(), Fail>
     requires of { IsOf queue.now other.old }
     ensures of { IsOf queue.now other.new }
 {
+    let next = next_cycle(queue, other);
+    let sealed = if seal(queue, other) { "sealed" } else { "open" };
+    write!(out, "{next:?}, {sealed}")?;
     let mut appender = Appender::new(queue.split(other));
-    let first = index_text(alloc, &appender.append(queue, 0, b"x"))?;
-    let reserved = index_text(alloc, &appender.append(queue, 5 * DAY, b"x"))?;
-    let later = index_text(alloc, &appender.append(queue, 9 * DAY, b"x"))?;
-    let advanced = appender.advance(queue, 5 * DAY).map(u64::from);
-    let advanced = number_text(alloc, "cycle ", &advanced)?;
-    Ok(format!(in alloc; "{first}, {reserved}, {later}, {advanced}")?)
+    push_answers(alloc, queue, &mut appender, out)
+}
+
+/// Adds what others are answered in a new queue, which is then stopped.
+fn stopped_sealed(alloc: Global, steps: u32, out: &mut String) -> Result<Stopped, Fail> {
+    let (queue, mut lost) = new_queue(alloc, MEASURES)?;
+    let mut other = queue.split(&mut lost);
+    lose_advance(&queue, &mut lost, steps);
+    push_sealed(alloc, &queue, &mut other, out)?;
+    Ok(queue.stop(other))
 }
 
 /// What others are answered, and what is left.
 fn row_text(alloc: Global, steps: u32) -> Result<String, Fail> {
-    let (queue, mut lost) = new_queue(alloc, MEASURES)?;
-    let mut other = queue.split(&mut lost);
-    lose_advance(&queue, &mut lost, steps);
-    let next = next_cycle(&queue, &mut other);
-    let sealed = if seal(&queue, &mut other) {
-        "sealed"
-    } else {
-        "open"
-    };
-    let answers = answers_text(alloc, &queue, &mut other)?;
-    let left = left_text(alloc, MEASURES, &queue.stop(other))?;
-    Ok(format!(in alloc; "{next:?}, {sealed}, {answers}; {left}")?)
+    let mut text = String::new(alloc);
+    let stopped = stopped_sealed(alloc, steps, &mut text)?;
+    write!(text, "; {}", left_text(alloc, MEASURES, &stopped)?)?;
+    Ok(text)
+}
+
+/// Returns the rows that differ from what is wanted.
+fn missed_rows(alloc: Global) -> Result<String, Fail> {
+    let mut missed = String::new(alloc);
+    for (row, (steps, want)) in ROWS.iter().enumerate() {
+        let text = row_text(alloc, *steps)?;
+        push_missed(alloc, &mut missed, row, text.as_str(), want)?;
+    }
+    Ok(missed)
 }
 
 #[test]
 fn a_queue_with_a_reservation_is_sealed(rt: HostRuntime) -> Result<(), Fail> {
-    let mut missed = String::new(rt.alloc());
-    for (row, (steps, want)) in ROWS.iter().enumerate() {
-        let text = row_text(rt.alloc(), *steps)?;
-        push_missed(rt.alloc(), &mut missed, row, text.as_str(), want)?;
-    }
-    assert_none(&rt, missed.as_str());
-    Ok(())
+    expect_text(missed_rows(rt.alloc())?, "")
 }
