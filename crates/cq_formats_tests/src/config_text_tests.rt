@@ -49,13 +49,14 @@ fn is_written_again(alloc: Global, text: &str, saved: &SavedConfig) -> Result<bo
 /// Fails if a text is not written again from what it says, or if that is not what is wanted.
 fn expect_saved(alloc: Global, text: &str, saved: &SavedConfig, want: &str) -> Result<(), Fail> {
     expect(is_written_again(alloc, text, saved)?, text)?;
+    expect_text(saved_text(alloc, saved)?, want)
+}
+
+/// What a text says: the settings, the positions and the floor.
+fn saved_text(alloc: Global, saved: &SavedConfig) -> Result<String, AllocError> {
     let settings = settings_text(alloc, &saved.config)?;
-    let floor = saved.floor;
-    let said = format!(in alloc;
-        "{settings} at {:?} from {floor}",
-        saved.positions.as_slice()
-    )?;
-    expect_text(said, want)
+    let (positions, floor) = (saved.positions.as_slice(), saved.floor);
+    format!(in alloc; "{settings} at {positions:?} from {floor}")
 }
 
 /// Reads a text, and fails as `expect_saved` does.
@@ -89,12 +90,17 @@ static TEXTS: [(&str, &str); 4] = [
     ),
 ];
 
-#[test]
-fn a_text_is_read_and_written_again(rt: HostRuntime) -> Result<(), Fail> {
-    for &(text, want) in &TEXTS {
-        expect_read(rt.alloc(), text, want)?;
+/// Reads the texts of a table, and fails at the first that says something else than the table wants.
+fn expect_each_read(alloc: Global, table: &[(&str, &str)]) -> Result<(), Fail> {
+    for (text, want) in table {
+        expect_read(alloc, text, want)?;
     }
     Ok(())
+}
+
+#[test]
+fn a_text_is_read_and_written_again(rt: HostRuntime) -> Result<(), Fail> {
+    expect_each_read(rt.alloc(), &TEXTS)
 }
 
 /// Texts, each with what reading it returns.
@@ -323,10 +329,15 @@ static NAMES: [(u8, &str, &str); 5] = [
     (27, "", "BadConfig"),
 ];
 
-#[test]
-fn names_have_limits(rt: HostRuntime) -> Result<(), Fail> {
-    for &(count, letters, want) in &NAMES {
-        expect_text(answer_of_names(rt.alloc(), count, letters)?, want)?;
+/// Reads the names of a table, and fails at the first that returns something else than the table wants.
+fn expect_names(alloc: Global, table: &[(u8, &str, &str)]) -> Result<(), Fail> {
+    for (count, letters, want) in table {
+        expect_text(answer_of_names(alloc, *count, letters)?, want)?;
     }
     Ok(())
+}
+
+#[test]
+fn names_have_limits(rt: HostRuntime) -> Result<(), Fail> {
+    expect_names(rt.alloc(), &NAMES)
 }

@@ -3,6 +3,7 @@
 ghost use Rattle.std.specs.Prelude.{◌≡◌, IsSome, Some};
 
 use crate::noted_folder::NotedFolder;
+use crate::settings::names_of;
 use cq_fixtures::{expect, expect_text};
 use cq_folder::{Access, FailingFolder, Folder, FolderFault, MemoryFolder, NewFile};
 use std::alloc::{AllocError, Global};
@@ -83,10 +84,15 @@ static READS: [(&str, usize, &str); 5] = [
 /// a file that is not there.
 fn expect_two_files(alloc: Global, folder: &mut MemoryFolder) -> Result<(), Fail> {
     write_two_files(alloc, folder)?;
-    folder.begin(alloc, Access::Shared)?;
-    expect_text(names_text(alloc, folder)?, "a b ")?;
+    expect_names(alloc, folder)?;
     expect_reads(alloc, folder)?;
     expect(folder.failures() == 1, "one call fails")
+}
+
+/// Fails if a folder lists other names than those of the two files.
+fn expect_names(alloc: Global, folder: &mut MemoryFolder) -> Result<(), Fail> {
+    folder.begin(alloc, Access::Shared)?;
+    expect_text(names_text(alloc, folder)?, "a b ")
 }
 
 /// Fails if reads of those two files return other than wanted.
@@ -101,9 +107,14 @@ fn expect_reads(alloc: Global, folder: &mut MemoryFolder) -> Result<(), Fail> {
 /// Fails as `expect_two_files` does, and if there is a file without a name.
 fn expect_no_more_files(alloc: Global, folder: &mut MemoryFolder) -> Result<(), Fail> {
     expect_two_files(alloc, folder)?;
-    folder.begin(alloc, Access::Shared)?;
-    expect_text(read_text(alloc, folder, "", 9)?, "Device")?;
+    expect_no_file(alloc, folder)?;
     expect(folder.failures() == 2, "a read of no file is counted")
+}
+
+/// Fails if there is a file without a name.
+fn expect_no_file(alloc: Global, folder: &mut MemoryFolder) -> Result<(), Fail> {
+    folder.begin(alloc, Access::Shared)?;
+    expect_text(read_text(alloc, folder, "", 9)?, "Device")
 }
 
 #[test]
@@ -148,10 +159,7 @@ pub fn save_and_remove<F: Folder>(
     ensures { F.entered folder.new ≡ F.entered folder.old }
 {
     let changes = changes(alloc, files)?;
-    let mut names = Vec::new(alloc);
-    for &name in removed {
-        names.push(String::from_str(alloc, name)?)?;
-    }
+    let names = names_of(alloc, removed)?;
     Ok(folder.save_and_remove(changes.as_slice(), names.as_slice()))
 }
 
@@ -164,9 +172,13 @@ fn calls_text(
     let mut text = String::new(alloc);
     push_calls(alloc, folder, &mut text)?;
     folder.end();
-    let failures = folder.failures();
-    write!(text, "{failures} failed")?;
+    push_failures(folder.failures(), &mut text)?;
     Ok(text)
+}
+
+/// Adds to a text how many calls failed.
+fn push_failures(failures: u64, text: &mut String) -> Result<(), AllocError> {
+    write!(text, "{failures} failed")
 }
 
 /// Adds to a text what entering a folder returns, and what the calls of a command return that has entered.
@@ -191,15 +203,34 @@ fn push_calls_within<F: Folder>(
 ) -> Result<(), AllocError>
     requires { F.entered folder.old ≡ Some Access.Alone }
 {
-    let names = list(alloc, folder);
-    let write = folder.write("a", b"new".as_slice());
+    push_answer(text, list(alloc, folder))?;
+    push_answer(text, folder.write("a", b"new".as_slice()))?;
+    push_read(alloc, folder, text)?;
+    push_answer(text, save(alloc, folder, SAVED)?)?;
+    push_answer(text, save_and_remove(alloc, folder, KEPT, REMOVED)?)
+}
+
+/// The files that are saved, each with its text.
+const SAVED: &[(&str, &str)] = &[("b", "1"), ("c", "2")];
+
+/// The files that are saved while others are removed.
+const KEPT: &[(&str, &str)] = &[("d", "3"), ("c", "4")];
+
+/// The files that are removed then.
+const REMOVED: &[&str] = &["c", "e"];
+
+/// Adds to a text what a call returned.
+fn push_answer(text: &mut String, answer: Result<(), FolderFault>) -> Result<(), AllocError> {
+    write!(text, "{answer:?}, ")
+}
+
+/// Adds to a text what reading a file without bytes returns.
+fn push_read<F: Folder>(alloc: Global, folder: &mut F, text: &mut String) -> Result<(), AllocError>
+    requires { IsSome (F.entered folder.old) }
+    ensures { F.entered folder.new ≡ F.entered folder.old }
+{
     let read = read_text(alloc, folder, "b", 0)?;
-    let saved = save(alloc, folder, &[("b", "1"), ("c", "2")])?;
-    let removed = save_and_remove(alloc, folder, &[("d", "3"), ("c", "4")], &["c", "e"])?;
-    write!(
-        text,
-        "{names:?}, {write:?}, {read}, {saved:?}, {removed:?}, "
-    )
+    write!(text, "{read}, ")
 }
 
 /// Lists the names of the files, and lets them go.
@@ -214,11 +245,25 @@ fn list<F: Folder>(alloc: Global, folder: &mut F) -> Result<(), FolderFault>
 /// What the files `a`, `b`, `c` and `d` hold, as text.
 fn four_text(alloc: Global, folder: &mut NotedFolder) -> Result<String, Fail> {
     folder.begin(alloc, Access::Shared)?;
-    let a = read_text(alloc, folder, "a", 3)?;
-    let b = read_text(alloc, folder, "b", 3)?;
-    let c = read_text(alloc, folder, "c", 3)?;
-    let d = read_text(alloc, folder, "d", 3)?;
-    Ok(format!(in alloc; "{a} {b} {c} {d}")?)
+    let mut text = read_text(alloc, folder, "a", 3)?;
+    push_text(alloc, folder, "b", &mut text)?;
+    push_text(alloc, folder, "c", &mut text)?;
+    push_text(alloc, folder, "d", &mut text)?;
+    Ok(text)
+}
+
+/// Adds a space and what a file holds to a text.
+fn push_text<F: Folder>(
+    alloc: Global,
+    folder: &mut F,
+    name: &str,
+    text: &mut String,
+) -> Result<(), AllocError>
+    requires { IsSome (F.entered folder.old) }
+    ensures { F.entered folder.new ≡ F.entered folder.old }
+{
+    let held = read_text(alloc, folder, name, 3)?;
+    write!(text, " {held}")
 }
 
 /// Fails if the calls of a folder return other than wanted, or if its files then hold something else.

@@ -7,7 +7,7 @@ use cq_fixtures::{expect_text, push_missed};
 use cq_folder::{Access, Folder, FolderFault};
 use cq_real_folder::RealFolder;
 use std::alloc::{AllocError, Global};
-use std::fs::{File, OpenFile, TryLockError};
+use std::fs::{DirEntry, File, OpenFile, TryLockError};
 use std::rt::Files;
 use std::test::Fail;
 use std::{env, fs, process};
@@ -209,9 +209,14 @@ fn lock(rt: &HostRuntime, path: &str, name: &str) -> Result<String, Fail> {
 
 /// Whether a file may be read alone, as text.
 fn is_locked(rt: &HostRuntime, path: &str, name: &str) -> Result<String, Fail> {
-    let file = within(rt.alloc(), path, name)?;
-    let is_locked = fs::metadata(rt, file.as_str())?.permissions().readonly();
+    let is_locked = is_readonly(rt, path, name)?;
     Ok(format!(in rt.alloc(); "{is_locked}")?)
+}
+
+/// Whether a file may be read alone.
+fn is_readonly(rt: &HostRuntime, path: &str, name: &str) -> Result<bool, Fail> {
+    let file = within(rt.alloc(), path, name)?;
+    Ok(fs::metadata(rt, file.as_str())?.permissions().readonly())
 }
 
 /// Puts this many empty files with long names.
@@ -235,9 +240,14 @@ fn tried(rt: &HostRuntime, path: &str, access: Access) -> Result<String, Fail> {
         Access::Shared => folder.try_lock_shared(),
         Access::Alone => folder.try_lock(),
     };
+    tried_text(rt.alloc(), tried)
+}
+
+/// What came of trying to lock a folder: "free" or "held".
+fn tried_text(alloc: Global, tried: Result<(), TryLockError>) -> Result<String, Fail> {
     match tried {
-        Ok(()) => Ok(String::from_str(rt.alloc(), "free")?),
-        Err(TryLockError::WouldBlock) => Ok(String::from_str(rt.alloc(), "held")?),
+        Ok(()) => Ok(String::from_str(alloc, "free")?),
+        Err(TryLockError::WouldBlock) => Ok(String::from_str(alloc, "held")?),
         Err(TryLockError::Error(error)) => Err(Fail::from(error)),
     }
 }
@@ -261,14 +271,33 @@ fn said_alone(
         return outside(alloc);
     };
     match *step {
-        Step::Save(files) => answer(alloc, save(alloc, folder, files)?),
-        Step::SaveAndRemove(files, removed) => {
-            answer(alloc, save_and_remove(alloc, folder, files, removed)?)
-        }
+        Step::Save(files) => saved(alloc, folder, files),
+        Step::SaveAndRemove(files, removed) => saved_and_removed(alloc, folder, files, removed),
         Step::RemoveMany(count) => remove_many(alloc, folder, count),
         Step::Write(name, text) => answer(alloc, folder.write(name, text.as_bytes())),
         _ => Err(Fail::new("no such step")),
     }
+}
+
+/// What saving files together returns, as text.
+fn saved<F: Folder>(alloc: Global, folder: &mut F, files: &[(&str, &str)]) -> Result<String, Fail>
+    requires { F.entered folder.old ≡ Some Access.Alone }
+{
+    let done = save(alloc, folder, files)?;
+    answer(alloc, done)
+}
+
+/// What saving files together and removing others returns, as text.
+fn saved_and_removed<F: Folder>(
+    alloc: Global,
+    folder: &mut F,
+    files: &[(&str, &str)],
+    removed: &[&str],
+) -> Result<String, Fail>
+    requires { F.entered folder.old ≡ Some Access.Alone }
+{
+    let done = save_and_remove(alloc, folder, files, removed)?;
+    answer(alloc, done)
 }
 
 /// Removes this many files, each with a name of 244 bytes.
@@ -292,11 +321,26 @@ fn said_inside(
         return outside(alloc);
     };
     match *step {
-        Step::Count => Ok(format!(in alloc; "{}", folder.names(alloc)?.len())?),
+        Step::Count => count_text(alloc, folder),
         Step::Names => Ok(names_text(alloc, folder)?),
         Step::Read(name) => text_of(alloc, folder, name),
         _ => Err(Fail::new("no such step")),
     }
+}
+
+/// How many names there are.
+fn count_of<F: Folder>(alloc: Global, folder: &mut F) -> Result<usize, FolderFault>
+    requires { IsSome (F.entered folder.old) }
+{
+    Ok(folder.names(alloc)?.len())
+}
+
+/// How many names there are, as text.
+fn count_text<F: Folder>(alloc: Global, folder: &mut F) -> Result<String, Fail>
+    requires { IsSome (F.entered folder.old) }
+{
+    let count = count_of(alloc, folder)?;
+    Ok(format!(in alloc; "{count}")?)
 }
 
 /// The text of a file, or the fault of its read.
@@ -319,9 +363,14 @@ fn listed(rt: &HostRuntime, path: &str) -> Result<String, Fail> {
 /// Adds the names that the system lists to others.
 fn push_names(rt: &HostRuntime, path: &str, names: &mut Vec<String>) -> Result<(), Fail> {
     for entry in fs::read_dir(rt, path)? {
-        names.push(String::from_str(rt.alloc(), entry?.file_name())?)?;
+        names.push(name_of(rt.alloc(), &entry?)?)?;
     }
     Ok(())
+}
+
+/// The name of what the system lists, in memory of its own.
+fn name_of(alloc: Global, entry: &DirEntry) -> Result<String, AllocError> {
+    String::from_str(alloc, entry.file_name())
 }
 
 /// A write replaces a file, and what an older write of this process left.

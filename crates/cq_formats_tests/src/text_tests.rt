@@ -22,6 +22,11 @@ fn texts<T: Display>(alloc: Global, values: &[T]) -> Result<String, AllocError> 
     Ok(text)
 }
 
+/// Fails if values have other texts, with a semicolon after each.
+fn expect_texts<T: Display>(alloc: Global, values: &[T], want: &str) -> Result<(), Fail> {
+    expect_text(texts(alloc, values)?, want)
+}
+
 /// A fault of each kind of an image.
 static IMAGE_FAULTS: [ImageFault; 8] = [
     ImageFault {
@@ -100,8 +105,8 @@ const KINDS_TEXT: &str = "Cut at 100; BadHeader at 100; Unfinished at 100; Wrong
 
 #[test]
 fn faults_of_images_have_their_texts(rt: HostRuntime) -> Result<(), Fail> {
-    expect_text(texts(rt.alloc(), &IMAGE_FAULTS)?, KINDS_TEXT)?;
-    expect_text(texts(rt.alloc(), &READ_FAULTS)?, KINDS_TEXT)
+    expect_texts(rt.alloc(), &IMAGE_FAULTS, KINDS_TEXT)?;
+    expect_texts(rt.alloc(), &READ_FAULTS, KINDS_TEXT)
 }
 
 /// What each fault that has one text alone prints, and then the rolls.
@@ -151,17 +156,20 @@ static CREATE_ERRORS: [CreateError; 3] = [
 #[test]
 fn faults_and_refusals_have_their_texts(rt: HostRuntime) -> Result<(), Fail> {
     let alloc = rt.alloc();
-    expect_text(texts(alloc, &NAME_FAULTS)?, "BadName; want of memory; ")?;
-    expect_text(
-        texts(alloc, &CONFIG_FAULTS)?,
+    expect_texts(alloc, &NAME_FAULTS, "BadName; want of memory; ")?;
+    expect_texts(
+        alloc,
+        &CONFIG_FAULTS,
         "want of memory; line 3; BadShape; BadConfig; ",
     )?;
-    expect_text(
-        texts(alloc, &REFUSALS)?,
+    expect_texts(
+        alloc,
+        &REFUSALS,
         "BadRoom; BadMoment; Busy; NoCycleLeft; CycleFull; ",
     )?;
-    expect_text(
-        texts(alloc, &CREATE_ERRORS)?,
+    expect_texts(
+        alloc,
+        &CREATE_ERRORS,
         "BadMoment; BadContents; OutOfMemory; ",
     )
 }
@@ -178,20 +186,24 @@ const DUMP_OF_VERSION_2: &str = "00000000 40000024 store 2 0 8 1 64 0 86400000\n
 /// The text of the records of an image of cycle 0 with 64 cells, in a queue whose cycles are days, or the fault.
 fn dumped(alloc: Global, bytes: &[u8]) -> Result<String, Fail> {
     match dump_text(alloc, 0, Shape::new(64, 8, 1)?, Roll::Daily, 0, bytes) {
-        Ok(text) => Ok(String::from_str(alloc, str::from_utf8(text.as_slice())?)?),
+        Ok(text) => text_of(alloc, text.as_slice()),
         Err(fault) => Ok(format!(in alloc; "{fault}")?),
     }
 }
 
+/// Bytes as text, in memory of its own.
+fn text_of(alloc: Global, bytes: &[u8]) -> Result<String, Fail> {
+    Ok(String::from_str(alloc, str::from_utf8(bytes)?)?)
+}
+
+/// Fails if the records of an image have another text.
+fn expect_dump(alloc: Global, bytes: &[u8], want: &str) -> Result<(), Fail> {
+    expect_text(dumped(alloc, bytes)?, want)
+}
+
 #[test]
 fn the_records_of_either_version_are_printed(rt: HostRuntime) -> Result<(), Fail> {
-    let table: [(&[u8], &str); 3] = [
-        (&HELLO, DUMP),
-        (&HELLO_OF_VERSION_2, DUMP_OF_VERSION_2),
-        (&HELLO[..110], "Cut at 100"),
-    ];
-    for &(bytes, want) in &table {
-        expect_text(dumped(rt.alloc(), bytes)?, want)?;
-    }
-    Ok(())
+    expect_dump(rt.alloc(), &HELLO, DUMP)?;
+    expect_dump(rt.alloc(), &HELLO_OF_VERSION_2, DUMP_OF_VERSION_2)?;
+    expect_dump(rt.alloc(), &HELLO[..110], "Cut at 100")
 }
