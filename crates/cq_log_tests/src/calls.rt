@@ -77,6 +77,12 @@ pub fn after_calls(
     }
 }
 
+/// Makes such a log, and the calls. Returns the file.
+pub fn file_after(alloc: Global, failing: u64, calls: &[Call]) -> Result<TornFile, DeviceFault> {
+    let (file, _answers) = after_calls(alloc, failing, calls)?;
+    Ok(file)
+}
+
 /// Returns the writes and syncs of a file as text: the offset and the number of bytes of a write.
 pub fn changes_text(alloc: Global, file: &TornFile) -> Result<String, AllocError> {
     let mut text = String::new(alloc);

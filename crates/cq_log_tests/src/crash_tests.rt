@@ -1,7 +1,8 @@
 //! What is read after a crash at each moment, whatever it made of what was not synced.
-use crate::calls::{Call, after_calls};
+use crate::calls::{Call, file_after};
+use crate::expecting::{expect, expect_frames};
 use crate::{Ruin, TornFile};
-use cq_log::read_frames;
+use cq_log::{DeviceFault, read_frames};
 use std::alloc::{AllocError, Global};
 use std::test::Fail;
 
@@ -185,16 +186,43 @@ fn counts_left(alloc: Global, file: &TornFile, run: &Run) -> Result<Option<Count
     Ok(are_first.then_some(counts))
 }
 
+/// Fails unless a run leaves these numbers of frames at this moment, and gives what it leaves.
+fn expect_counts(counts: Option<Counts>, want: Counts, failing: u64) -> Result<(), Fail> {
+    if counts == Some(want) {
+        return Ok(());
+    }
+    Err(Fail::new(format_args!("at {failing}: {counts:?}")))
+}
+
+/// Fails unless this number of frames is read of a file without a crash, and crashes leave these numbers.
+fn expect_left(
+    alloc: Global,
+    run: &Run,
+    file: &TornFile,
+    moment: &(u64, usize, usize, usize),
+) -> Result<(), Fail> {
+    let &(failing, read, least, greatest) = moment;
+    let count = count_in(alloc, file.bytes(), run.calls)?;
+    expect_frames(count, read, failing)?;
+    let counts = counts_left(alloc, file, run)?;
+    expect_counts(counts, Counts { least, greatest }, failing)
+}
+
+/// Makes the calls of a run up to a moment.
+fn expect_moment(
+    alloc: Global,
+    run: &Run,
+    moment: &(u64, usize, usize, usize),
+) -> Result<(), Fail> {
+    let file = file_after(alloc, moment.0, run.calls)?;
+    expect_left(alloc, run, &file, moment)
+}
+
 #[test]
 fn a_crash_leaves_whole_frames(rt: HostRuntime) -> Result<(), Fail> {
-    let alloc = rt.alloc();
     for run in &RUNS {
-        for &(failing, read, least, greatest) in run.moments {
-            let (file, _answers) = after_calls(alloc, failing, run.calls)?;
-            let count = count_in(alloc, file.bytes(), run.calls)?;
-            assert_eq!(rt; count, Some(read), "at {failing}");
-            let counts = counts_left(alloc, &file, run)?;
-            assert_eq!(rt; counts, Some(Counts { least, greatest }), "at {failing}");
+        for moment in run.moments {
+            expect_moment(rt.alloc(), run, moment)?;
         }
     }
     Ok(())
@@ -231,23 +259,33 @@ fn with_garbage(alloc: Global, bytes: &[u8], garbage: &[u8]) -> Result<Vec<u8>, 
     Ok(left)
 }
 
+/// Fails unless one frame is read of that log, wherever it is cut past the first gate.
+fn expect_one_of_cut(alloc: Global, bytes: &[u8]) -> Result<(), Fail> {
+    for end in 7..=8210usize {
+        expect_frames(count_of(alloc, bytes, end, &TWICE)?, 1, end as u64)?;
+    }
+    Ok(())
+}
+
+/// Returns the number of frames of that log with garbage in it; `None` if its length or its frames are others.
+fn count_with(alloc: Global, bytes: &[u8], garbage: &[u8]) -> Result<Option<usize>, AllocError> {
+    let left = with_garbage(alloc, bytes, garbage)?;
+    count_of(alloc, &left, 8210, &TWICE)
+}
+
+/// Fails unless one frame is read of that log, whatever is in the second growth.
+fn expect_one_with_garbage(alloc: Global, bytes: &[u8]) -> Result<(), Fail> {
+    for (i, garbage) in GARBAGE.iter().enumerate() {
+        expect_frames(count_with(alloc, bytes, garbage)?, 1, i as u64)?;
+    }
+    Ok(())
+}
+
 #[test]
 fn what_a_growth_leaves_is_not_read(rt: HostRuntime) -> Result<(), Fail> {
     let alloc = rt.alloc();
-    let (file, _answers) = after_calls(alloc, 0, &TWICE)?;
-    assert_eq!(rt; file.bytes().len(), 8210);
-    for end in 7..=8210usize {
-        let count = count_of(alloc, file.bytes(), end, &TWICE)?;
-        assert_eq!(rt; count, Some(1), "of {end} bytes");
-    }
-    for garbage in &GARBAGE {
-        let left = with_garbage(alloc, file.bytes(), garbage)?;
-        assert_eq!(rt; left.len(), 8210);
-        assert_eq!(rt;
-            count_in(alloc, &left, &TWICE)?,
-            Some(1),
-            "with {garbage:?}"
-        );
-    }
-    Ok(())
+    let file = file_after(alloc, 0, &TWICE)?;
+    expect(file.bytes().len() == 8210, "as long", 8210)?;
+    expect_one_of_cut(alloc, file.bytes())?;
+    expect_one_with_garbage(alloc, file.bytes())
 }

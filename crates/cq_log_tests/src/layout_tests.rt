@@ -1,5 +1,8 @@
 //! The bytes of small logs, and the calls that are made of the file.
-use crate::calls::{Call, after_calls, changes_text};
+use crate::calls::{Call, after_calls, changes_text, file_after};
+use crate::expecting::{expect, expect_text};
+use cq_log::DeviceFault;
+use std::alloc::Global;
 use std::test::Fail;
 
 /// Calls, the bytes of the blocks after them, and the number of zeros that follow.
@@ -40,12 +43,22 @@ fn has_layout(file: &[u8], bytes: &[u8], zeros: usize) -> bool {
     }
 }
 
+/// Returns whether a file has such a layout after the calls.
+fn is_laid_out(
+    alloc: Global,
+    calls: &[Call],
+    bytes: &[u8],
+    zeros: usize,
+) -> Result<bool, DeviceFault> {
+    let file = file_after(alloc, 0, calls)?;
+    Ok(has_layout(file.bytes(), bytes, zeros))
+}
+
 #[test]
 fn logs_have_these_bytes(rt: HostRuntime) -> Result<(), Fail> {
-    let alloc = rt.alloc();
     for (i, &(calls, bytes, zeros)) in LAYOUTS.iter().enumerate() {
-        let (file, _answers) = after_calls(alloc, 0, calls)?;
-        assert!(rt; has_layout(file.bytes(), bytes, zeros), "at {i}");
+        let is_laid_out = is_laid_out(rt.alloc(), calls, bytes, zeros)?;
+        expect(is_laid_out, "these bytes", i as u64)?;
     }
     Ok(())
 }
@@ -74,12 +87,23 @@ static GROWTHS: [(&[Call], &str); 4] = [
     ),
 ];
 
+/// Makes the calls with a file of which the call with this number fails. Returns the answers and the calls of the file as text.
+fn said_of(alloc: Global, failing: u64, calls: &[Call]) -> Result<(String, String), DeviceFault> {
+    let (file, answers) = after_calls(alloc, failing, calls)?;
+    let changes = changes_text(alloc, &file)?;
+    Ok((answers, changes))
+}
+
+/// Fails unless the calls give these writes and syncs.
+fn expect_changes(alloc: Global, calls: &[Call], want: &str, place: u64) -> Result<(), Fail> {
+    let (_answers, changes) = said_of(alloc, 0, calls)?;
+    expect_text(changes.as_str(), want, place)
+}
+
 #[test]
 fn a_file_grows_ahead_of_its_blocks(rt: HostRuntime) -> Result<(), Fail> {
-    let alloc = rt.alloc();
     for (i, &(calls, changes)) in GROWTHS.iter().enumerate() {
-        let (file, _answers) = after_calls(alloc, 0, calls)?;
-        assert_eq!(rt; changes_text(alloc, &file)?.as_str(), changes, "at {i}");
+        expect_changes(rt.alloc(), calls, changes, i as u64)?;
     }
     Ok(())
 }
@@ -92,20 +116,30 @@ static THREE: [Call; 4] = [
     Call::Settle,
 ];
 
-#[test]
-fn each_frame_is_synced_once(rt: HostRuntime) -> Result<(), Fail> {
-    let alloc = rt.alloc();
-    let (file, answers) = after_calls(alloc, 0, &THREE)?;
-    assert_eq!(rt; answers.as_str(), "ok ok ok ok ");
-    assert_eq!(rt;
-        changes_text(alloc, &file)?.as_str(),
-        "0+1 sync 1+4 5+2 7+1 8+4096 sync 0+1 8+4 12+0 12+1 sync 7+1 13+4 17+3 20+1 sync 12+1 sync "
-    );
-    Ok(())
+/// The number of the call of the file that fails, or 0; the answers; the calls of the file.
+type Stop = (u64, &'static str, &'static str);
+
+/// Fails unless three frames give these answers and calls of the file.
+fn expect_stop(alloc: Global, stop: &Stop) -> Result<(), Fail> {
+    let (answers, changes) = said_of(alloc, stop.0, &THREE)?;
+    expect_text(answers.as_str(), stop.1, stop.0)?;
+    expect_text(changes.as_str(), stop.2, stop.0)
 }
 
-/// The number of the call of the file that fails, the answers, and the calls of the file: none is made after it.
-static STOPS: [(u64, &str, &str); 10] = [
+/// No call fails.
+static NO_STOP: Stop = (
+    0,
+    "ok ok ok ok ",
+    "0+1 sync 1+4 5+2 7+1 8+4096 sync 0+1 8+4 12+0 12+1 sync 7+1 13+4 17+3 20+1 sync 12+1 sync ",
+);
+
+#[test]
+fn each_frame_is_synced_once(rt: HostRuntime) -> Result<(), Fail> {
+    expect_stop(rt.alloc(), &NO_STOP)
+}
+
+/// No call of the file is made after the one that fails.
+static STOPS: [Stop; 10] = [
     (1, "Failed", "0+1 "),
     (2, "Failed", "0+1 "),
     (
@@ -152,15 +186,8 @@ static STOPS: [(u64, &str, &str); 10] = [
 
 #[test]
 fn logs_stop_at_the_first_fault(rt: HostRuntime) -> Result<(), Fail> {
-    let alloc = rt.alloc();
-    for &(failing, wanted, changes) in &STOPS {
-        let (file, answers) = after_calls(alloc, failing, &THREE)?;
-        assert_eq!(rt; answers.as_str(), wanted, "at {failing}");
-        assert_eq!(rt;
-            changes_text(alloc, &file)?.as_str(),
-            changes,
-            "at {failing}"
-        );
+    for stop in &STOPS {
+        expect_stop(rt.alloc(), stop)?;
     }
     Ok(())
 }

@@ -8,6 +8,8 @@ mod calls;
 #[cfg(test)]
 mod crash_tests;
 #[cfg(test)]
+mod expecting;
+#[cfg(test)]
 mod file_tests;
 #[cfg(test)]
 mod layout_tests;

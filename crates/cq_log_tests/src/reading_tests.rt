@@ -1,4 +1,5 @@
 //! The frames that are read out of bytes, and where reading stops.
+use crate::expecting::expect_text;
 use cq_log::{Frames, read_frames};
 use std::alloc::{AllocError, Global};
 use std::test::Fail;
@@ -15,6 +16,12 @@ fn frames_text(alloc: Global, bytes: &[u8]) -> Result<String, AllocError> {
     }
     write!(text, "{end}")?;
     Ok(text)
+}
+
+/// Fails unless these bytes have these frames.
+fn expect_read(alloc: Global, bytes: &[u8], want: &str, place: u64) -> Result<(), Fail> {
+    let text = frames_text(alloc, bytes)?;
+    expect_text(text.as_str(), want, place)
 }
 
 /// Bytes, and their frames.
@@ -34,9 +41,8 @@ static FRAMES: [(&[u8], &str); 11] = [
 
 #[test]
 fn bytes_have_these_frames(rt: HostRuntime) -> Result<(), Fail> {
-    let alloc = rt.alloc();
     for (i, (bytes, frames)) in FRAMES.iter().enumerate() {
-        assert_eq!(rt; frames_text(alloc, bytes)?.as_str(), *frames, "at {i}");
+        expect_read(rt.alloc(), bytes, frames, i as u64)?;
     }
     Ok(())
 }
@@ -58,24 +64,17 @@ fn frames_before(end: usize) -> &'static str {
 
 #[test]
 fn logs_are_read_that_are_cut_anywhere(rt: HostRuntime) -> Result<(), Fail> {
-    let alloc = rt.alloc();
     for end in 0..=LOG.len() {
-        assert_eq!(rt;
-            frames_text(alloc, &LOG[..end])?.as_str(),
-            frames_before(end),
-            "at {end}"
-        );
+        expect_read(rt.alloc(), &LOG[..end], frames_before(end), end as u64)?;
     }
     Ok(())
 }
 
 #[test]
 fn a_gate_is_open_only_as_1(rt: HostRuntime) -> Result<(), Fail> {
-    let alloc = rt.alloc();
     for gate in 0..=255u8 {
-        let wanted = if gate == 1 { "a|6" } else { "0" };
-        let bytes = [gate, 1, 0, 0, 0, 97];
-        assert_eq!(rt; frames_text(alloc, &bytes)?.as_str(), wanted, "at {gate}");
+        let want = if gate == 1 { "a|6" } else { "0" };
+        expect_read(rt.alloc(), &[gate, 1, 0, 0, 0, 97], want, gate.into())?;
     }
     Ok(())
 }
