@@ -148,6 +148,12 @@ QUEUES = {
 }  # fmt: skip
 
 
+def queues_in(figures):
+    """The queues between threads of which there are figures, by their names in a file: their names in a text."""
+    measured = {impl for part, impl, *_ in figures.rates if part == "queues"}
+    return {impl: name for impl, name in QUEUES.items() if impl in measured}
+
+
 def cell_of(own, value, is_time):
     """A figure, and how many times as fast as ours it is."""
     if value is None:
@@ -158,9 +164,10 @@ def cell_of(own, value, is_time):
 
 def queues_table(figures):
     """Queues between threads: million messages a second, or nanoseconds of a ping, and how many times as fast as ours that is."""
-    rows = [["Case", "Bytes", "Threads", *QUEUES.values()]]
+    queues = queues_in(figures)
+    rows = [["Case", "Bytes", "Threads", *queues.values()]]
     for case, payload, threads in BETWEEN:
-        own, *others = (figures.best("queues", impl, case, payload, threads) for impl in QUEUES)
+        own, *others = (figures.best("queues", impl, case, payload, threads) for impl in queues)
         is_time = case.startswith("ping")
         cells = [cell_of(own, value, is_time) for value in others]
         rows.append([f"`{case}`", f"{payload:,}", threads.replace("to", " to "), cell_of(None, own, is_time).removesuffix(" (-)"), *cells])

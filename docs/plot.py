@@ -11,7 +11,7 @@ import pathlib
 import sys
 from html import escape
 
-from figures import COMMANDS, QUEUES, Figures
+from figures import COMMANDS, Figures, queues_in
 
 DOCS = pathlib.Path(__file__).resolve().parent
 
@@ -238,7 +238,7 @@ def queues(figures, case, payload, threads):
     """A series for each queue between threads, with a value for each of these."""
     return [
         Series(name, "queue" if impl == "cq" else impl, [in_millions(figures.best("queues", impl, case, payload, one)) for one in threads])
-        for impl, name in QUEUES.items()
+        for impl, name in queues_in(figures).items()
     ]
 
 
@@ -284,7 +284,7 @@ def draw_flow(figures):
 def draw_ping(figures):
     rows = [
         (name, "queue" if impl == "cq" else impl, [figures.best("queues", impl, case, 64, "1to1") for case in ("ping_p50", "ping_p99")])
-        for impl, name in QUEUES.items()
+        for impl, name in queues_in(figures).items()
     ]
     return spans(figures, "From an append to its read by another thread", "nanoseconds: half of them (dot), 99 of 100 (bar)", rows)
 
