@@ -27,6 +27,8 @@ mod plain_cycle_tests;
 #[cfg(test)]
 mod real_folder_tests;
 #[cfg(test)]
+mod real_steps;
+#[cfg(test)]
 mod salvage_tests;
 #[cfg(test)]
 mod settings;
