@@ -2,7 +2,7 @@
 ghost use Rattle.std.specs.Prelude.{◌≡◌, [], IfOk, None};
 ghost use Rattle.cq_log.specs.Device.{Overwrites};
 
-use crate::expecting::{expect, expect_frames, expect_text};
+use crate::expecting::{expect_at, expect_frames, expect_text_at};
 use crate::{Ruin, TornFile};
 use cq_log::{Device, DeviceFault, Log, read_frames};
 use std::alloc::{AllocError, Global};
@@ -47,7 +47,7 @@ fn synced_file(alloc: Global, bytes: &[u8]) -> Result<TornFile, DeviceFault>
 /// Fails unless a crash leaves this of a file for each of those.
 fn expect_left(alloc: Global, file: &TornFile, want: &str, place: u64) -> Result<(), Fail> {
     let left = left_text(alloc, file, &RUINS)?;
-    expect_text(left.as_str(), want, place)
+    expect_text_at(left.as_str(), want, place)
 }
 
 #[test]
@@ -57,7 +57,7 @@ fn a_crash_leaves_any_part_of_a_write(rt: HostRuntime) -> Result<(), Fail> {
     expect_left(alloc, &file, "abcd|abcd|abcd|abcd|abcd|abcd|", 0)?;
     file.write_at(3, b"EF")?;
     let is_written = file.read(alloc)?.as_slice() == b"abcEF".as_slice();
-    expect(is_written, "written", 1)?;
+    expect_at(is_written, "written", 1)?;
     expect_left(alloc, &file, "abcEF|abcd|abcE|abcxx|abcEx|abcE\0|", 1)
 }
 
@@ -74,7 +74,7 @@ fn a_used_file_gets_a_new_log(rt: HostRuntime) -> Result<(), Fail> {
     expect_left(alloc, &file, "|old|o|xxx||o\0d|", 0)?;
     file.sync()?;
     match Log::create(file) {
-        Ok(log) => expect(is_settled_with(&log, &[0]), "a new log", 0),
+        Ok(log) => expect_at(is_settled_with(&log, &[0]), "a new log", 0),
         Err(error) => Err(Fail::from(error.fault)),
     }
 }

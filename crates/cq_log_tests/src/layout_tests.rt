@@ -1,6 +1,6 @@
 //! The bytes of small logs, and the calls that are made of the file.
 use crate::calls::{Call, after_calls, changes_text, file_after};
-use crate::expecting::{expect, expect_text};
+use crate::expecting::{expect_at, expect_text_at};
 use cq_log::DeviceFault;
 use std::alloc::Global;
 use std::test::Fail;
@@ -58,7 +58,7 @@ fn is_laid_out(
 fn logs_have_these_bytes(rt: HostRuntime) -> Result<(), Fail> {
     for (i, &(calls, bytes, zeros)) in LAYOUTS.iter().enumerate() {
         let is_laid_out = is_laid_out(rt.alloc(), calls, bytes, zeros)?;
-        expect(is_laid_out, "these bytes", i as u64)?;
+        expect_at(is_laid_out, "these bytes", i as u64)?;
     }
     Ok(())
 }
@@ -97,7 +97,7 @@ fn said_of(alloc: Global, failing: u64, calls: &[Call]) -> Result<(String, Strin
 /// Fails unless the calls give these writes and syncs.
 fn expect_changes(alloc: Global, calls: &[Call], want: &str, place: u64) -> Result<(), Fail> {
     let (_answers, changes) = said_of(alloc, 0, calls)?;
-    expect_text(changes.as_str(), want, place)
+    expect_text_at(changes.as_str(), want, place)
 }
 
 #[test]
@@ -122,8 +122,8 @@ type Stop = (u64, &'static str, &'static str);
 /// Fails unless three frames give these answers and calls of the file.
 fn expect_stop(alloc: Global, stop: &Stop) -> Result<(), Fail> {
     let (answers, changes) = said_of(alloc, stop.0, &THREE)?;
-    expect_text(answers.as_str(), stop.1, stop.0)?;
-    expect_text(changes.as_str(), stop.2, stop.0)
+    expect_text_at(answers.as_str(), stop.1, stop.0)?;
+    expect_text_at(changes.as_str(), stop.2, stop.0)
 }
 
 /// No call fails.

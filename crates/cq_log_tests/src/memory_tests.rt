@@ -1,5 +1,5 @@
 //! Frames that are read although memory is refused: the call that is refused for it is made again.
-use crate::expecting::expect;
+use crate::expecting::expect_at;
 use cq_log::{Frames, read_frames};
 use std::alloc::{AllocError, Global};
 use std::test::Fail;
@@ -35,6 +35,6 @@ fn are_those(frames: &[Vec<u8>]) -> bool {
 #[test]
 fn frames_are_all_read_or_none(rt: HostRuntime) -> Result<(), Fail> {
     let Frames { frames, end } = read_again(rt.alloc(), &LOG)?;
-    expect(are_those(&frames), "all frames", 0)?;
-    expect(end == 18, "the end of the blocks", end as u64)
+    expect_at(are_those(&frames), "all frames", 0)?;
+    expect_at(end == 18, "the end of the blocks", end as u64)
 }

@@ -1,5 +1,5 @@
 //! The frames that are read out of bytes, and where reading stops.
-use crate::expecting::expect_text;
+use crate::expecting::expect_text_at;
 use cq_log::{Frames, read_frames};
 use std::alloc::{AllocError, Global};
 use std::test::Fail;
@@ -21,7 +21,7 @@ fn frames_text(alloc: Global, bytes: &[u8]) -> Result<String, AllocError> {
 /// Fails unless these bytes have these frames.
 fn expect_read(alloc: Global, bytes: &[u8], want: &str, place: u64) -> Result<(), Fail> {
     let text = frames_text(alloc, bytes)?;
-    expect_text(text.as_str(), want, place)
+    expect_text_at(text.as_str(), want, place)
 }
 
 /// Bytes, and their frames.

@@ -71,7 +71,7 @@ fn opened(alloc: Global, contents: &Contents) -> Result<Many, Fail> {
     Many::held(alloc, config, contents, 1)
 }
 
-/// The same of a queue that is opened again.
+/// Fails if walks in a queue that is opened again begin elsewhere.
 fn expect_opened_starts(
     alloc: Global,
     contents: &Contents,
@@ -80,7 +80,7 @@ fn expect_opened_starts(
     opened(alloc, contents)?.expect_starts(rows)
 }
 
-/// Walks in a queue that is opened again with three messages.
+/// Walks in a queue that is opened again with three messages, after which one is appended.
 static BEHIND_THREE: [(u32, u32); 5] = [(0, 0), (1, 0), (2, 0), (3, 3), (4, 3)];
 
 #[test]
