@@ -10,7 +10,7 @@ import java.util.concurrent.atomic.AtomicInteger;
 /** What the Java peers between threads have in common: the cases, the threads and the clock, as in between.hpp. */
 final class Between {
     /** A queue between threads. */
-    interface Queue {
+    interface Queue extends AutoCloseable {
         /** Sends a message. */
         void send(byte[] message);
 
@@ -18,6 +18,7 @@ final class Between {
         Receiver receiver();
 
         /** Lets go of what it holds besides memory. Nothing is sent or received any more. */
+        @Override
         default void close() throws Exception {}
     }
 
@@ -114,17 +115,16 @@ final class Between {
         int each = messagesOf(bytes) / Math.max(1, senders);
         int all = each * Math.max(1, senders);
         byte[] message = message(bytes);
-        Queue queue = maker.make(bytes, all, senders > 1);
-        List<Job> jobs = new ArrayList<>();
-        for (int i = 0; i < receivers; i++) {
-            Receiver receiver = queue.receiver();
-            jobs.add(() -> receiveAll(receiver, new byte[bytes], all));
+        try (Queue queue = maker.make(bytes, all, senders > 1)) {
+            List<Job> jobs = new ArrayList<>();
+            for (int i = 0; i < receivers; i++) {
+                Receiver receiver = queue.receiver();
+                jobs.add(() -> receiveAll(receiver, new byte[bytes], all));
+            }
+            if (senders == 0) sendAll(queue, message, all);
+            for (int i = 0; i < senders; i++) jobs.add(() -> sendAll(queue, message, each));
+            return nanosOf(jobs);
         }
-        if (senders == 0) sendAll(queue, message, all);
-        for (int i = 0; i < senders; i++) jobs.add(() -> sendAll(queue, message, each));
-        long nanos = nanosOf(jobs);
-        queue.close();
-        return nanos;
     }
 
     private void printLine(String name, int bytes, String threads, double value, String unit) {
@@ -147,29 +147,29 @@ final class Between {
 
     /** How long each message was on its way, in nanoseconds. Each is sent once the one before it was received. */
     private long[] pingTimes(int bytes) throws Exception {
-        Queue queue = maker.make(bytes, PINGS, false);
-        Receiver receiver = queue.receiver();
-        AtomicInteger received = new AtomicInteger();
         long[] sent = new long[PINGS];
         long[] came = new long[PINGS];
-        byte[] message = message(bytes);
-        Job send = () -> {
-            for (int i = 0; i < PINGS; i++) {
-                while (received.get() < i) Thread.onSpinWait();
-                sent[i] = System.nanoTime();
-                queue.send(message);
-            }
-        };
-        Job receive = () -> {
-            byte[] into = new byte[bytes];
-            for (int i = 0; i < PINGS; i++) {
-                receiveAll(receiver, into, 1);
-                came[i] = System.nanoTime();
-                received.incrementAndGet();
-            }
-        };
-        nanosOf(List.of(send, receive));
-        queue.close();
+        try (Queue queue = maker.make(bytes, PINGS, false)) {
+            Receiver receiver = queue.receiver();
+            AtomicInteger received = new AtomicInteger();
+            byte[] message = message(bytes);
+            Job send = () -> {
+                for (int i = 0; i < PINGS; i++) {
+                    while (received.get() < i) Thread.onSpinWait();
+                    sent[i] = System.nanoTime();
+                    queue.send(message);
+                }
+            };
+            Job receive = () -> {
+                byte[] into = new byte[bytes];
+                for (int i = 0; i < PINGS; i++) {
+                    receiveAll(receiver, into, 1);
+                    came[i] = System.nanoTime();
+                    received.incrementAndGet();
+                }
+            };
+            nanosOf(List.of(send, receive));
+        }
         long[] times = new long[PINGS];
         for (int i = 0; i < PINGS; i++) times[i] = came[i] - sent[i];
         Arrays.sort(times);

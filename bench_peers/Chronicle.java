@@ -17,7 +17,7 @@ import net.openhft.chronicle.ExcerptTailer;
  *
  * <p>One sender appends to an IndexedChronicle, which may have one, and several to a VanillaChronicle, in which each has a file of
  * its own. The files are mapped into memory, in a new folder of /dev/shm where there is one, so that no disk takes part. The version
- * with one file for all senders, whose format the queue follows, is in Debian as an alpha alone.
+ * with one file for all senders, whose headers the queue has too, is in Debian as an alpha alone.
  *
  * <p>It promises that each receiver gets each message, in one order for all, also in another process, and that messages stay until
  * their files are deleted. Nothing is synced, as by default.

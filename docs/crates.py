@@ -24,11 +24,11 @@ PICTURE = TOP / "docs" / "pictures" / "crates.svg"
 FIRST, LAST = "<!-- names: made by docs/crates.py -->", "<!-- end of the names -->"
 CRATES, LINES, LONGEST = 3, 2, 130
 
-ITEM = re.compile(r'\s*(?:pub(?:\(crate\))? )?(?:(?:const|unsafe|extern "C") )*(fn|struct|enum|trait|type|const|static) (\w+)')
+ITEM = re.compile(r'\s*(?:pub(?:\((?:crate|super)\))? )?(?:(?:const|unsafe|extern "C") )*(fn|struct|enum|trait|type|const|static) (\w+)')
 VARIANT = re.compile(r"    ([A-Z]\w*)(?:[({,]| [{=]|$)")
 DEFINITION = re.compile(r"(?:(?:abbrev|unfoldable) )?pub (?:(?:record|data) )?(\w+)\b")
 QUOTED = re.compile(r'\'(?:[^\'\\\n]|\\[^\'\n]+)\'|"(?:[^"\\]|\\.)*"', re.S)
-IMPORT = re.compile(r"\s*(?:ghost )?(?:pub(?:\(crate\))? )?(?:use|mod)\b")
+IMPORT = re.compile(r"\s*(?:ghost )?(?:pub(?:\((?:crate|super)\))? )?(?:use|mod)\b")
 
 # What is said of each group next to its name.
 SAYS = {
@@ -179,9 +179,15 @@ def picture():
 
 
 def code_of(path):
-    """Returns the lines of a file that are neither comments nor imports."""
-    lines = path.read_text(encoding="utf-8").splitlines()
-    return [it for it in lines if not it.lstrip().startswith("//") and not IMPORT.match(it)]
+    """Returns the lines of a file that are neither comments nor of imports, and of attributes only those of tests."""
+    lines, is_import = [], False
+    for line in path.read_text(encoding="utf-8").splitlines():
+        is_import = is_import or IMPORT.match(line) is not None
+        is_code = line.strip() == "#[test]" or not line.lstrip().startswith(("//", "#[", "#!["))
+        if is_code and not is_import:
+            lines.append(line)
+        is_import = is_import and ";" not in line
+    return lines
 
 
 @functools.cache

@@ -149,8 +149,8 @@ QUEUES = {
 
 
 def queues_in(figures):
-    """The queues between threads of which there are figures, by their names in a file: their names in a text."""
-    measured = {impl for part, impl, *_ in figures.rates if part == "queues"}
+    """Ours, and the other queues between threads of which there are figures: their names in a text, by those in a file."""
+    measured = {"cq"} | {impl for part, impl, *_ in figures.rates if part == "queues"}
     return {impl: name for impl, name in QUEUES.items() if impl in measured}
 
 
