@@ -1,11 +1,9 @@
 //! Queues in which no cycle has begun, and which begin one.
-use crate::folders::{bytes_of, images_text, make, put_log};
-use crate::life::{opened, opened_at, opened_text, stored_at};
+use crate::folders::{bytes_of, expect_images, expect_images_of, make, put_log};
+use crate::life::{fault_at, open_at, opened_at, said_at, stored_at};
 use crate::torn_place::Matter;
 use cq_fixtures::{DAY, expect, expect_answer, expect_text};
 use cq_folder::{CONFIG_FILE, FailingFolder, Folder, LOG_FILE, MemoryFolder};
-use cq_live::{Live, LiveFault};
-use cq_log_tests::TornFile;
 use std::alloc::{AllocError, Global};
 use std::test::Fail;
 
@@ -85,22 +83,34 @@ fn folder_with(
     Ok(folder)
 }
 
-/// Opens the queue of a folder at a moment. Returns what that says.
-fn said_at(alloc: Global, folder: &mut MemoryFolder, moment: u64) -> Result<String, Fail> {
-    let mut live = opened_at(alloc, folder, Matter::Nothing, moment)?;
-    opened_text(alloc, live.turns, &mut live.endpoint)
+/// Opens the queue of a folder in cycle 2. Fails if that does not say what is wanted.
+fn expect_said(
+    alloc: Global,
+    folder: &mut MemoryFolder,
+    number: usize,
+    want: &str,
+) -> Result<(), Fail> {
+    let said = said_at(alloc, folder, NOW)?;
+    expect_answer("said", number, said.as_str(), want)
 }
 
-/// Opens the queue of a row in cycle 2, and again at a moment in no cycle, which is not used.
+/// Opens the queue of a folder in cycle 2, and again at a moment in no cycle, which is not used.
+fn expect_begun_in(
+    alloc: Global,
+    folder: &mut MemoryFolder,
+    number: usize,
+    row: &Row,
+) -> Result<(), Fail> {
+    expect_said(alloc, folder, number, row.1)?;
+    expect_images_of(alloc, folder, number, row.2)?;
+    open_at(alloc, folder, u64::MAX)?;
+    expect_images_of(alloc, folder, number, row.2)
+}
+
+/// The same in the folder of a row.
 fn expect_begun(alloc: Global, number: usize, row: &Row) -> Result<(), Fail> {
     let mut folder = folder_with(alloc, row.0)?;
-    let said = said_at(alloc, &mut folder, NOW)?;
-    expect_answer("said", number, said.as_str(), row.1)?;
-    let images = images_text(alloc, &mut folder)?;
-    expect_answer("images", number, images.as_str(), row.2)?;
-    let _again = opened(alloc, &mut folder, Matter::Nothing)?;
-    let images = images_text(alloc, &mut folder)?;
-    expect_answer("images again", number, images.as_str(), row.2)
+    expect_begun_in(alloc, &mut folder, number, row)
 }
 
 /// Where no cycle has begun, neither in the images nor in the log, that of the moment begins.
@@ -119,39 +129,47 @@ fn live_once(alloc: Global, folder: &mut MemoryFolder) -> Result<(), Fail> {
     put_log(alloc, folder, &log)
 }
 
+/// Opens such a queue, which ends without a close, and then again in another cycle.
+fn expect_survived(alloc: Global, folder: &mut MemoryFolder) -> Result<(), Fail> {
+    live_once(alloc, folder)?;
+    expect_text(
+        said_at(alloc, folder, 9 * DAY)?,
+        "1 turns: 8589934592 a, none",
+    )?;
+    expect_images(alloc, folder, "2[a;] at [0]")
+}
+
 /// What came to the first cycle is there after a crash.
 #[test]
 fn the_first_cycle_survives_a_crash(rt: HostRuntime) -> Result<(), Fail> {
-    let alloc = rt.alloc();
-    let mut folder = folder_without_a_cycle(alloc)?;
-    live_once(alloc, &mut folder)?;
-    let said = said_at(alloc, &mut folder, 9 * DAY)?;
-    expect_text(said, "1 turns: 8589934592 a, none")?;
-    expect_text(images_text(alloc, &mut folder)?, "2[a;] at [0]")
+    let mut folder = folder_without_a_cycle(rt.alloc())?;
+    expect_survived(rt.alloc(), &mut folder)
 }
 
-/// Why an opening fails.
-fn fault_text(alloc: Global, opened: &Result<Live<TornFile>, LiveFault>) -> Result<String, Fail> {
-    match opened {
-        Ok(_) => Err(Fail::new(format_args!("no fault"))),
-        Err(fault) => Ok(format!(in alloc; "{fault}")?),
-    }
-}
+static IN_NO_CYCLE: &str =
+    "the time of this machine's clock lies in no cycle of this queue: set the clock, or choose another epoch";
 
-/// Opens the queue of a folder at a moment in no cycle. No file changes.
+/// Opens the queue of a folder at a moment in no cycle, whose images hold none.
 fn expect_bad_moment(alloc: Global, folder: &mut MemoryFolder) -> Result<(), Fail> {
-    let log = bytes_of(alloc, folder, LOG_FILE)?;
-    let fault = fault_text(alloc, &opened(alloc, folder, Matter::Nothing))?;
     expect_text(
-        fault,
-        "the time of this machine's clock lies in no cycle of this queue: set the clock, or choose another epoch",
+        fault_at(alloc, folder, Matter::Nothing, u64::MAX)?,
+        IN_NO_CYCLE,
     )?;
     expect(folder.access().is_none(), "the folder is left")?;
-    expect_text(images_text(alloc, folder)?, "at [0]")?;
-    expect(
-        bytes_of(alloc, folder, LOG_FILE)?.as_slice() == log.as_slice(),
-        "the log is as it was",
-    )
+    expect_images(alloc, folder, "at [0]")
+}
+
+/// Fails unless the log of a folder has these bytes.
+fn expect_log(alloc: Global, folder: &mut MemoryFolder, log: &[u8]) -> Result<(), Fail> {
+    let bytes = bytes_of(alloc, folder, LOG_FILE)?;
+    expect(bytes.as_slice() == log, "the log is as it was")
+}
+
+/// Opens the queue of a folder at such a moment. No file changes.
+fn expect_unchanged(alloc: Global, folder: &mut MemoryFolder) -> Result<(), Fail> {
+    let log = bytes_of(alloc, folder, LOG_FILE)?;
+    expect_bad_moment(alloc, folder)?;
+    expect_log(alloc, folder, &log)
 }
 
 /// A moment in no cycle begins none.
@@ -159,23 +177,35 @@ fn expect_bad_moment(alloc: Global, folder: &mut MemoryFolder) -> Result<(), Fai
 fn a_moment_in_no_cycle_is_refused(rt: HostRuntime) -> Result<(), Fail> {
     let alloc = rt.alloc();
     let mut folder = folder_with(alloc, Some(&[b""]))?;
-    expect_bad_moment(alloc, &mut folder)?;
-    let said = said_at(alloc, &mut folder, NOW)?;
-    expect_text(said, "1 turns: none, none")
+    expect_unchanged(alloc, &mut folder)?;
+    expect_text(said_at(alloc, &mut folder, NOW)?, "1 turns: none, none")
 }
 
-/// The fault of an opening at which the call of the folder with this number fails, and the folder then. Where the call is a save, it is
-/// done nevertheless, or it is not.
-fn failed(alloc: Global, number: u64, done: bool) -> Result<(String, MemoryFolder), Fail> {
+/// A folder with the empty log of a queue without a cycle, of which the call with this number fails. Where the call is a save, it is done
+/// nevertheless, or it is not.
+fn failing_folder(
+    alloc: Global,
+    number: u64,
+    done: bool,
+) -> Result<FailingFolder<MemoryFolder>, Fail> {
     let folder = folder_with(alloc, Some(&[]))?;
-    let mut failing = if done {
-        FailingFolder::written(folder, number)
+    if done {
+        Ok(FailingFolder::written(folder, number))
     } else {
-        FailingFolder::new(folder, number)
-    };
-    let opened = opened_at(alloc, &mut failing, Matter::Nothing, NOW);
-    let fault = fault_text(alloc, &opened)?;
-    Ok((fault, failing.into_inner()))
+        Ok(FailingFolder::new(folder, number))
+    }
+}
+
+/// Opens the queue of a folder that fails. Fails if that does not end with this fault. Gives the folder back.
+fn failed(
+    alloc: Global,
+    folder: FailingFolder<MemoryFolder>,
+    want: &str,
+) -> Result<MemoryFolder, Fail> {
+    let mut failing = folder;
+    let fault = fault_at(alloc, &mut failing, Matter::Nothing, NOW)?;
+    expect_text(fault, want)?;
+    Ok(failing.into_inner())
 }
 
 /// The calls of the folder: what the fault is if it fails, what the images hold then, and after a next opening in cycle 3.
@@ -195,13 +225,23 @@ static CALLS: [(u64, bool, &str, &str, &str); 7] = [
     ),
 ];
 
+/// Opens the queue of a folder in cycle 3. Fails unless the images hold this before and after it.
+fn expect_next(
+    alloc: Global,
+    folder: &mut MemoryFolder,
+    before: &str,
+    after: &str,
+) -> Result<(), Fail> {
+    expect_images(alloc, folder, before)?;
+    open_at(alloc, folder, 3 * DAY)?;
+    expect_images(alloc, folder, after)
+}
+
 /// Opens a queue whose folder fails, and then again.
 fn expect_failure(alloc: Global, call: &(u64, bool, &str, &str, &str)) -> Result<(), Fail> {
-    let (fault, mut folder) = failed(alloc, call.0, call.1)?;
-    expect_text(fault, call.2)?;
-    expect_text(images_text(alloc, &mut folder)?, call.3)?;
-    let _again = opened_at(alloc, &mut folder, Matter::Nothing, 3 * DAY)?;
-    expect_text(images_text(alloc, &mut folder)?, call.4)
+    let failing = failing_folder(alloc, call.0, call.1)?;
+    let mut folder = failed(alloc, failing, call.2)?;
+    expect_next(alloc, &mut folder, call.3, call.4)
 }
 
 /// The first cycle is saved with the empty log, or not at all.

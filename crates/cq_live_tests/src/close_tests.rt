@@ -1,5 +1,5 @@
 //! Queues that are closed, and what they leave.
-use crate::folders::{images_text, put_log};
+use crate::folders::{expect_images, put_log};
 use crate::life::{expect_turns, folder_with_a, opened, stored};
 use crate::torn_place::Matter;
 use cq_fixtures::{contents_text, expect, expect_text};
@@ -70,7 +70,7 @@ fn expect_closing(
 ) -> Result<(), Fail> {
     expect_text(closing_text(alloc, live, folder)?, said)?;
     expect(folder.access().is_none(), "the folder is left")?;
-    expect_text(images_text(alloc, folder)?, images)
+    expect_images(alloc, folder, images)
 }
 
 /// A queue that was closed is in the images, and a second opening plays no turn.
@@ -89,19 +89,16 @@ fn a_queue_that_was_closed_is_in_the_images(rt: HostRuntime) -> Result<(), Fail>
     expect_turns(alloc, &mut folder, 0)
 }
 
+static STOPPED: &str =
+    "kept to 2: the log has stopped: the file could not be read, written, cut or synced. Open it again, and read what is stored";
+
 /// A fault of the log gives the queue back, and no file changed.
 #[test]
 fn a_fault_of_the_log_gives_the_queue_back(rt: HostRuntime) -> Result<(), Fail> {
     let alloc = rt.alloc();
     let mut folder = folder_with_a(alloc)?;
     let live = live_with_more(alloc, &mut folder, 16)?;
-    expect_closing(
-        alloc,
-        live,
-        &mut folder,
-        "kept to 2: the log has stopped: the file could not be read, written, cut or synced. Open it again, and read what is stored",
-        "0[a;] at [0]",
-    )
+    expect_closing(alloc, live, &mut folder, STOPPED, "0[a;] at [0]")
 }
 
 /// Closes a queue in a folder of which the first call fails. Gives the folder back.
@@ -130,6 +127,6 @@ fn folder_not_closed(alloc: Global) -> Result<MemoryFolder, Fail> {
 fn a_fault_of_the_folder_leaves_the_log(rt: HostRuntime) -> Result<(), Fail> {
     let alloc = rt.alloc();
     let mut folder = folder_not_closed(alloc)?;
-    expect_text(images_text(alloc, &mut folder)?, "0[a;] at [0]")?;
+    expect_images(alloc, &mut folder, "0[a;] at [0]")?;
     expect_turns(alloc, &mut folder, 1)
 }

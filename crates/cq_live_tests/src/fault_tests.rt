@@ -1,11 +1,9 @@
 //! Queues that are not opened, and what is left of the files.
-use crate::folders::{images_text, put_log};
-use crate::life::{expect_turns, folder_with_a, opened, stored};
+use crate::folders::{expect_images, expect_images_of, put_log};
+use crate::life::{expect_turns, fault_at, folder_with_a, opened, stored};
 use crate::torn_place::Matter;
 use cq_fixtures::{expect, expect_answer, expect_text};
 use cq_folder::{Folder, MemoryFolder};
-use cq_live::{Live, LiveFault};
-use cq_log_tests::TornFile;
 use std::alloc::Global;
 use std::test::Fail;
 
@@ -83,25 +81,9 @@ static ROWS: [Row; 17] = [
     (Matter::Failing(9), UNBEGUN, FOLDED, 0),
 ];
 
-/// Why an opening failed.
-fn not_opened_text(
-    alloc: Global,
-    opened: &Result<Live<TornFile>, LiveFault>,
-) -> Result<String, Fail> {
-    match opened {
-        Ok(_) => Err(Fail::new(format_args!("no fault"))),
-        Err(fault) => Ok(format!(in alloc; "{fault}")?),
-    }
-}
-
-/// Why an opening fails.
-fn opening_text(alloc: Global, folder: &mut MemoryFolder, matter: Matter) -> Result<String, Fail> {
-    not_opened_text(alloc, &opened(alloc, folder, matter))
-}
-
 /// The fault of an opening. The folder is left then.
 fn fault_text(alloc: Global, folder: &mut MemoryFolder, matter: Matter) -> Result<String, Fail> {
-    let fault = opening_text(alloc, folder, matter)?;
+    let fault = fault_at(alloc, folder, matter, u64::MAX)?;
     expect(folder.access().is_none(), "the folder is left")?;
     Ok(fault)
 }
@@ -118,6 +100,17 @@ fn log_of_one_turn(alloc: Global) -> Result<Vec<u8>, Fail> {
     log_in(alloc, &mut folder)
 }
 
+/// Opens a queue, which fails with the fault of a row.
+fn expect_row_fault(
+    alloc: Global,
+    folder: &mut MemoryFolder,
+    number: usize,
+    row: &Row,
+) -> Result<(), Fail> {
+    let fault = fault_text(alloc, folder, row.0)?;
+    expect_answer("fault", number, fault.as_str(), row.1)
+}
+
 /// Opens a queue with such a log, which fails, and then again.
 fn expect_fault(
     alloc: Global,
@@ -125,10 +118,8 @@ fn expect_fault(
     number: usize,
     row: &Row,
 ) -> Result<(), Fail> {
-    let fault = fault_text(alloc, folder, row.0)?;
-    expect_answer("fault", number, fault.as_str(), row.1)?;
-    let images = images_text(alloc, folder)?;
-    expect_answer("images", number, images.as_str(), row.2)?;
+    expect_row_fault(alloc, folder, number, row)?;
+    expect_images_of(alloc, folder, number, row.2)?;
     expect_turns(alloc, folder, row.3)
 }
 
@@ -154,14 +145,13 @@ fn expect_refused(alloc: Global, folder: &mut MemoryFolder, want: &str) -> Resul
     expect_text(fault_text(alloc, folder, Matter::Nothing)?, want)
 }
 
+static NO_LOG: &str =
+    "the file is no log of a queue: read the log with the version that wrote it, or move it away to open the images alone";
+
 /// Opens the queue of a folder whose log is at fault. The images are as they were.
 fn expect_left(alloc: Global, folder: &mut MemoryFolder) -> Result<(), Fail> {
-    expect_refused(
-        alloc,
-        folder,
-        "the file is no log of a queue: read the log with the version that wrote it, or move it away to open the images alone",
-    )?;
-    expect_text(images_text(alloc, folder)?, KEPT)
+    expect_refused(alloc, folder, NO_LOG)?;
+    expect_images(alloc, folder, KEPT)
 }
 
 /// A log at fault is not folded.

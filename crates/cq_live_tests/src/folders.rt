@@ -1,8 +1,8 @@
 //! Folders of queues, and what they hold.
 use cq_commands::{InitSettings, init, take, write};
 use cq_files::{Retain, open_queue};
-use cq_fixtures::contents_text;
-use cq_folder::{Access, Folder, LOG_FILE};
+use cq_fixtures::{contents_text, expect_answer, expect_text};
+use cq_folder::{Access, Folder, LOG_FILE, MemoryFolder};
 use std::alloc::Global;
 use std::test::Fail;
 
@@ -60,6 +60,26 @@ pub(crate) fn images_text<F: Folder>(alloc: Global, folder: &mut F) -> Result<St
     let queue = open_queue(alloc, folder, Access::Shared, Retain::All)?;
     folder.end();
     contents_text(alloc, &queue.contents)
+}
+
+/// Fails unless the images of a folder hold this.
+pub(crate) fn expect_images<F: Folder>(
+    alloc: Global,
+    folder: &mut F,
+    want: &str,
+) -> Result<(), Fail> {
+    expect_text(images_text(alloc, folder)?, want)
+}
+
+/// Fails unless the images of a folder hold this in the row with this number.
+pub(crate) fn expect_images_of(
+    alloc: Global,
+    folder: &mut MemoryFolder,
+    number: usize,
+    want: &str,
+) -> Result<(), Fail> {
+    let images = images_text(alloc, folder)?;
+    expect_answer("images", number, images.as_str(), want)
 }
 
 /// Puts a log with these bytes into a folder.

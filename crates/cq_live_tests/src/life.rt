@@ -8,6 +8,7 @@ use cq_kept::KeptQueue;
 use cq_live::{Live, LiveFault, open};
 use cq_log_tests::TornFile;
 use std::alloc::Global;
+use std::fmt::Display;
 use std::test::Fail;
 
 /// A folder with a queue that holds the message "a".
@@ -48,6 +49,40 @@ pub(crate) fn expect_turns(
         return Ok(());
     }
     Err(Fail::new(format_args!("not {turns} turns")))
+}
+
+/// What an opening of the queue of a folder at a moment says. Nothing is the matter with the place of its log.
+pub(crate) fn said_at(
+    alloc: Global,
+    folder: &mut MemoryFolder,
+    moment: u64,
+) -> Result<String, Fail> {
+    let mut live = opened_at(alloc, folder, Matter::Nothing, moment)?;
+    opened_text(alloc, live.turns, &mut live.endpoint)
+}
+
+/// Opens the queue of a folder at a moment, and lets it end without a close.
+pub(crate) fn open_at(alloc: Global, folder: &mut MemoryFolder, moment: u64) -> Result<(), Fail> {
+    let _live = opened_at(alloc, folder, Matter::Nothing, moment)?;
+    Ok(())
+}
+
+/// Gives a fault as text.
+fn fault_text<E: Display + Drop>(alloc: Global, fault: E) -> Result<String, Fail> {
+    Ok(format!(in alloc; "{fault}")?)
+}
+
+/// Why an opening at a moment fails.
+pub(crate) fn fault_at<F: Folder>(
+    alloc: Global,
+    folder: &mut F,
+    matter: Matter,
+    moment: u64,
+) -> Result<String, Fail> {
+    match opened_at(alloc, folder, matter, moment).err() {
+        Some(fault) => fault_text(alloc, fault),
+        None => Err(Fail::new(format_args!("no fault"))),
+    }
 }
 
 /// What "reader" takes.

@@ -1,5 +1,5 @@
 //! What a queue goes on from that is opened in a folder.
-use crate::folders::{images_text, put_log};
+use crate::folders::{expect_images, put_log};
 use crate::life::{folder_with_a, opened, opened_text, stored};
 use crate::torn_place::Matter;
 use cq_fixtures::expect_text;
@@ -45,7 +45,7 @@ fn live_once(alloc: Global, folder: &mut MemoryFolder, want: &str) -> Result<(),
 fn expect_lives(alloc: Global, folder: &mut MemoryFolder) -> Result<(), Fail> {
     for (said, images) in &LIVES {
         live_once(alloc, folder, said)?;
-        expect_text(images_text(alloc, folder)?, images)?;
+        expect_images(alloc, folder, images)?;
     }
     Ok(())
 }

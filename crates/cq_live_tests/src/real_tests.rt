@@ -32,9 +32,11 @@ fn log_path(alloc: Global, path: &str) -> Result<String, Fail> {
     Ok(format!(in alloc; "{path}/queue.log")?)
 }
 
-/// Whether an opening found the queue in use.
-fn found_in_use(opened: &Result<Live<LogFile>, LiveFault>) -> bool {
-    matches!(opened, Err(LiveFault::InUse))
+/// Whether an opening failed since the queue is in use.
+fn is_of_use(fault: Option<LiveFault>) -> bool {
+    let is_of_use = matches!(fault, Some(LiveFault::InUse));
+    drop(fault);
+    is_of_use
 }
 
 /// Whether the queue of a folder is not opened, since it is in use.
@@ -42,7 +44,7 @@ fn is_in_use(rt: &HostRuntime, path: &str) -> Result<bool, Fail> {
     let log = log_path(rt.alloc(), path)?;
     let mut folder = folder_at(rt, path)?;
     let mut place = SystemPlace::new(rt, log);
-    Ok(found_in_use(&open(rt.alloc(), &mut folder, &mut place, 0)))
+    Ok(is_of_use(open(rt.alloc(), &mut folder, &mut place, 0).err()))
 }
 
 /// Fails if an opening does not say what is wanted.
@@ -63,18 +65,28 @@ fn images_at(rt: &HostRuntime, path: &str) -> Result<String, Fail> {
     images_text(rt.alloc(), &mut folder)
 }
 
+/// Fails unless the images of a folder hold this.
+fn expect_images_at(rt: &HostRuntime, path: &str, want: &str) -> Result<(), Fail> {
+    expect_text(images_at(rt, path)?, want)
+}
+
 /// The bytes of the log in a folder.
 fn log_at(rt: &HostRuntime, path: &str) -> Result<Vec<u8>, Fail> {
     let log = log_path(rt.alloc(), path)?;
     Ok(fs::read(rt, log.as_str())?)
 }
 
+/// Opens a folder whose queue is live: it is in use, and the images do not change.
+fn expect_same_images(rt: &HostRuntime, path: &str) -> Result<(), Fail> {
+    let images = images_at(rt, path)?;
+    expect(is_in_use(rt, path)?, "the queue is in use")?;
+    expect_images_at(rt, path, images.as_str())
+}
+
 /// Opens a folder whose queue is live: it is in use, and no file changes.
 fn expect_in_use(rt: &HostRuntime, path: &str) -> Result<(), Fail> {
-    let images = images_at(rt, path)?;
     let log = log_at(rt, path)?;
-    expect(is_in_use(rt, path)?, "the queue is in use")?;
-    expect_text(images_at(rt, path)?, images.as_str())?;
+    expect_same_images(rt, path)?;
     expect(
         log_at(rt, path)?.as_slice() == log.as_slice(),
         "the log is as it was",
@@ -170,7 +182,7 @@ fn expect_appended(rt: &HostRuntime, path: &str) -> Result<(), Fail> {
 fn expect_lives(rt: &HostRuntime, path: &str) -> Result<(), Fail> {
     crash(rt, path)?;
     go_on(rt, path)?;
-    expect_text(images_at(rt, path)?, "0[a;b;d;] at [2]")?;
+    expect_images_at(rt, path, "0[a;b;d;] at [2]")?;
     expect_appended(rt, path)
 }
 
@@ -197,7 +209,7 @@ fn expect_first(rt: &HostRuntime, path: &str) -> Result<(), Fail> {
         "the message is the first of cycle 2",
     )?;
     expect_opened(rt, path, "1 turns: 8589934592 a, none")?;
-    expect_text(images_at(rt, path)?, "2[a;] at [0]")
+    expect_images_at(rt, path, "2[a;] at [0]")
 }
 
 #[test]
@@ -209,40 +221,82 @@ fn a_queue_begins_live(rt: HostRuntime) -> Result<(), Fail> {
     Ok(())
 }
 
-/// Makes a checkpoint of a live queue in its folder. Both logs are locked when the new one is opened, and then the old one is free.
-fn checkpointed(
+/// The place of the log of a folder, which looks at the locks.
+fn watched_place<'a>(rt: &'a HostRuntime, path: &str) -> Result<WatchedPlace<'a>, Fail> {
+    let inner = SystemPlace::new(rt, log_path(rt.alloc(), path)?);
+    let log = log_path(rt.alloc(), path)?;
+    Ok(WatchedPlace::new(rt, log, inner)?)
+}
+
+/// Makes a checkpoint of a queue in its folder, with this place of the log.
+fn kept_in(
+    rt: &HostRuntime,
+    path: &str,
+    place: &mut WatchedPlace,
+    kept: KeptQueue<LogFile>,
+) -> Result<KeptQueue<LogFile>, Fail> {
+    let mut folder = folder_at(rt, path)?;
+    match checkpoint(rt.alloc(), &mut folder, place, kept) {
+        Ok(kept) => Ok(kept),
+        Err(_) => Err(Fail::new(format_args!("no checkpoint"))),
+    }
+}
+
+/// Fails unless both logs were locked when the new one was opened, and the old one is free now.
+fn expect_locks(place: &mut WatchedPlace) -> Result<(), Fail> {
+    expect(place.both_locked, "both logs are locked")?;
+    expect(place.is_old_free(), "the old log is free then")
+}
+
+/// Makes a checkpoint of a queue in its folder. Both logs are locked when the new one is opened, and then the old one is free.
+fn kept_through(
     rt: &HostRuntime,
     path: &str,
     kept: KeptQueue<LogFile>,
 ) -> Result<KeptQueue<LogFile>, Fail> {
-    let alloc = rt.alloc();
-    let mut folder = folder_at(rt, path)?;
-    let inner = SystemPlace::new(rt, log_path(alloc, path)?);
-    let mut place = WatchedPlace::new(rt, log_path(alloc, path)?, inner)?;
-    let Ok(kept) = checkpoint(alloc, &mut folder, &mut place, kept) else {
-        return Err(Fail::new(format_args!("no checkpoint")));
-    };
-    expect(place.both_locked, "both logs are locked")?;
-    expect(place.is_old_free(), "the old log is free then")?;
+    let mut place = watched_place(rt, path)?;
+    let kept = kept_in(rt, path, &mut place, kept)?;
+    expect_locks(&mut place)?;
     Ok(kept)
+}
+
+/// The same with a live queue.
+fn checkpointed(rt: &HostRuntime, path: &str, live: Live<LogFile>) -> Result<Live<LogFile>, Fail> {
+    let Live {
+        kept,
+        endpoint,
+        turns,
+    } = live;
+    let kept = kept_through(rt, path, kept)?;
+    Ok(Live {
+        kept,
+        endpoint,
+        turns,
+    })
+}
+
+/// A live queue with a message that came to it.
+fn live_with_b(rt: &HostRuntime, path: &str) -> Result<Live<LogFile>, Fail> {
+    let mut live = opened(rt, path, 0)?;
+    live.endpoint.append(0, b"b")?;
+    Ok(live)
+}
+
+/// What a queue does after a checkpoint: it stores a message, and another one comes.
+fn live_after(rt: &HostRuntime, path: &str, live: &mut Live<LogFile>) -> Result<(), Fail> {
+    expect_images_at(rt, path, "0[a;b;] at [0]")?;
+    expect_in_use(rt, path)?;
+    put(rt.alloc(), live, b"c")?;
+    live.kept.settle()?;
+    live.endpoint.append(0, b"d")?;
+    Ok(())
 }
 
 /// A live queue with a message that came before a checkpoint, and one that is stored after it. It ends without a close.
 fn live_through(rt: &HostRuntime, path: &str) -> Result<(), Fail> {
-    let Live {
-        kept,
-        mut endpoint,
-        turns: _,
-    } = opened(rt, path, 0)?;
-    endpoint.append(0, b"b")?;
-    let mut kept = checkpointed(rt, path, kept)?;
-    expect_text(images_at(rt, path)?, "0[a;b;] at [0]")?;
-    expect_in_use(rt, path)?;
-    endpoint.append(0, b"c")?;
-    kept.turn(rt.alloc())?;
-    kept.settle()?;
-    endpoint.append(0, b"d")?;
-    Ok(())
+    let live = live_with_b(rt, path)?;
+    let mut live = checkpointed(rt, path, live)?;
+    live_after(rt, path, &mut live)
 }
 
 #[test]
@@ -251,7 +305,7 @@ fn a_live_queue_is_checkpointed(rt: HostRuntime) -> Result<(), Fail> {
     make_with_a(&rt, path.as_str())?;
     live_through(&rt, path.as_str())?;
     expect_opened(&rt, path.as_str(), "1 turns: 0 a, 1 b")?;
-    expect_text(images_at(&rt, path.as_str())?, "0[a;b;c;] at [0]")?;
+    expect_images_at(&rt, path.as_str(), "0[a;b;c;] at [0]")?;
     fs::remove_dir_all(&rt, path.as_str())?;
     Ok(())
 }
@@ -288,6 +342,12 @@ fn crash_with(rt: &HostRuntime, path: &str, survives: Survives) -> Result<(), Fa
     }
 }
 
+/// Fails unless the log of a folder begins with this byte.
+fn expect_first_byte(rt: &HostRuntime, path: &str, first: u8) -> Result<(), Fail> {
+    let log = log_at(rt, path)?;
+    expect(log.first() == Some(&first), "the kind of the log")
+}
+
 /// Chooses what the log of a folder survives, and opens it after a crash.
 fn expect_choice(
     rt: &HostRuntime,
@@ -297,12 +357,9 @@ fn expect_choice(
     let &(survives, first, said, images) = choice;
     make_with_a(rt, path)?;
     crash_with(rt, path, survives)?;
-    expect(
-        log_at(rt, path)?.first() == Some(&first),
-        "the kind of the log",
-    )?;
+    expect_first_byte(rt, path, first)?;
     expect_opened(rt, path, said)?;
-    expect_text(images_at(rt, path)?, images)
+    expect_images_at(rt, path, images)
 }
 
 #[test]

@@ -46,14 +46,13 @@ fn refusal_text(rt: &HostRuntime, path: &str) -> Result<String, Fail> {
     }
 }
 
+/// The messages "a" and "b", as lines.
+static LINES: &str = "0000000000000000 a\n0000000000000001 b\n";
+
+static IN_USE: &str = "a queue is live in this folder: wait until it is closed, or close it";
+
 /// The queue of the folder is live, and has stored "a" and "b": both are read, and a command that may write is refused.
 pub(crate) fn expect_seen(rt: &HostRuntime, path: &str) -> Result<(), Fail> {
-    expect_text(
-        read_text(rt, path)?,
-        "0000000000000000 a\n0000000000000001 b\n",
-    )?;
-    expect_text(
-        refusal_text(rt, path)?,
-        "a queue is live in this folder: wait until it is closed, or close it",
-    )
+    expect_text(read_text(rt, path)?, LINES)?;
+    expect_text(refusal_text(rt, path)?, IN_USE)
 }
