@@ -51,22 +51,38 @@ fn kept(alloc: Global, life: &mut Opened<TornFile>) -> Result<(String, String), 
     Ok((format!(in alloc; "{turn} {settle}")?, read))
 }
 
+/// Opens a queue that holds what the images do.
+fn opened_with_images(
+    alloc: Global,
+    failing: u64,
+) -> Result<Result<Opened<TornFile>, NotOpened<TornFile>>, Fail> {
+    let images = images(alloc)?;
+    opened(alloc, &images, failing)
+}
+
 /// Opens a queue, and makes those calls if it is opened. Returns the answers, and what a read of the log gives then.
 fn answers(alloc: Global, failing: u64) -> Result<(String, String), Fail> {
-    match &mut opened(alloc, &images(alloc)?, failing)? {
-        Err(error) => refused(alloc, error),
-        Ok(life) => kept(alloc, life),
+    match opened_with_images(alloc, failing)? {
+        Err(error) => refused(alloc, &error),
+        Ok(life) => {
+            let mut life = life;
+            kept(alloc, &mut life)
+        }
     }
+}
+
+/// Fails unless this is answered and read where the write or sync with this number fails.
+fn expect_fault(alloc: Global, number: usize, row: &(u64, &str, &str)) -> Result<(), Fail> {
+    let (answers, read) = answers(alloc, row.0)?;
+    expect_answer("answers", number, answers.as_str(), row.1)?;
+    expect_answer("read", number, read.as_str(), row.2)
 }
 
 /// A device that fails ends the opening or the log, and what was stored is read.
 #[test]
 fn a_fault_of_the_device_loses_nothing_stored(rt: HostRuntime) -> Result<(), Fail> {
-    let alloc = rt.alloc();
-    for (i, &(failing, want, want_read)) in FAULTS.iter().enumerate() {
-        let (answers, read) = answers(alloc, failing)?;
-        expect_answer("answers", i, answers.as_str(), want)?;
-        expect_answer("read", i, read.as_str(), want_read)?;
+    for (i, row) in FAULTS.iter().enumerate() {
+        expect_fault(rt.alloc(), i, row)?;
     }
     Ok(())
 }

@@ -74,24 +74,38 @@ fn said_next(rt: &HostRuntime, contents: &Contents, path: &str) -> Result<String
     said(rt.alloc(), &mut life.endpoint)
 }
 
+/// Fails unless a queue that holds these contents, with its log in another file, says what is wanted.
+fn expect_next(rt: &HostRuntime, folder: &str, contents: &Contents) -> Result<(), Fail> {
+    let next = format!(in rt.alloc(); "{folder}/next.log")?;
+    expect_text(
+        said_next(rt, contents, next.as_str())?,
+        "21474836483, 21474836482 d",
+    )
+}
+
+/// Fails unless the log in a file gives what was stored. A queue goes on with that.
+fn expect_found(rt: &HostRuntime, folder: &str, path: &str) -> Result<(), Fail> {
+    let contents = found(rt, path)?;
+    expect_text(
+        contents_text(rt.alloc(), &contents)?,
+        "5[ab;c;d;] at [21474836482]",
+    )?;
+    expect_next(rt, folder, &contents)
+}
+
+/// Makes the first calls of a queue with a log in a folder, and goes on with what the log gives.
+fn expect_lives(rt: &HostRuntime, folder: &str) -> Result<(), Fail> {
+    let path = format!(in rt.alloc(); "{folder}/queue.log")?;
+    make_first(rt, path.as_str())?;
+    expect_found(rt, folder, path.as_str())
+}
+
 /// What was stored in a file is there when its queue was dropped, and a queue that is opened with it goes on. What was put and not
 /// stored is not there.
 #[test]
 fn a_queue_goes_on_from_its_file(rt: HostRuntime) -> Result<(), Fail> {
-    let alloc = rt.alloc();
     let folder = new_folder(&rt)?;
-    let path = format!(in alloc; "{folder}/queue.log")?;
-    make_first(&rt, path.as_str())?;
-    let contents = found(&rt, path.as_str())?;
-    expect_text(
-        contents_text(alloc, &contents)?,
-        "5[ab;c;d;] at [21474836482]",
-    )?;
-    let next = format!(in alloc; "{folder}/next.log")?;
-    expect_text(
-        said_next(&rt, &contents, next.as_str())?,
-        "21474836483, 21474836482 d",
-    )?;
+    expect_lives(&rt, folder.as_str())?;
     fs::remove_dir_all(&rt, folder.as_str())?;
     Ok(())
 }

@@ -60,7 +60,8 @@ fn said(alloc: Global, life: &mut Opened<TornFile>, call: Call) -> Result<String
 fn expect_steps(alloc: Global, life: &mut Opened<TornFile>) -> Result<(), Fail> {
     for (i, &(call, answer, stored_end, read)) in STEPS.iter().enumerate() {
         let want = format!(in alloc; "{answer}, {stored_end}, {read}")?;
-        expect_answer("life", i, said(alloc, life, call)?.as_str(), want.as_str())?;
+        let said = said(alloc, life, call)?;
+        expect_answer("life", i, said.as_str(), want.as_str())?;
     }
     Ok(())
 }
@@ -68,8 +69,8 @@ fn expect_steps(alloc: Global, life: &mut Opened<TornFile>) -> Result<(), Fail> 
 /// After each call a log has what was stored, and gives it when it is played on the images.
 #[test]
 fn a_log_gives_what_was_stored(rt: HostRuntime) -> Result<(), Fail> {
-    let alloc = rt.alloc();
-    expect_steps(alloc, &mut of_images(alloc)?)
+    let mut life = of_images(rt.alloc())?;
+    expect_steps(rt.alloc(), &mut life)
 }
 
 /// Makes a call, and returns what a crash leaves then.
@@ -87,21 +88,30 @@ fn left_by(
 /// Makes the calls. Fails if a crash after one of them does not leave what is wanted.
 fn expect_left(alloc: Global, life: &mut Opened<TornFile>, ruin: Ruin) -> Result<(), Fail> {
     for (i, &(call, _, _, read)) in STEPS.iter().enumerate() {
-        expect_answer("crash", i, left_by(alloc, life, call, ruin)?.as_str(), read)?;
+        let left = left_by(alloc, life, call, ruin)?;
+        expect_answer("crash", i, left.as_str(), read)?;
     }
     Ok(())
 }
 
+/// The same with a new life.
+fn expect_stored(alloc: Global, ruin: Ruin) -> Result<(), Fail> {
+    let mut life = of_images(alloc)?;
+    expect_left(alloc, &mut life, ruin)
+}
+
+/// What a crash makes of writes.
+static RUINS: [Ruin; 3] = [
+    Ruin::Lost,
+    Ruin::Filled(1),
+    Ruin::Mixed(0x5555_aaaa_1234_9876),
+];
+
 /// A crash after each call leaves what was stored, whatever it makes of the writes that were not synced.
 #[test]
 fn a_crash_leaves_what_was_stored(rt: HostRuntime) -> Result<(), Fail> {
-    let alloc = rt.alloc();
-    for ruin in [
-        Ruin::Lost,
-        Ruin::Filled(1),
-        Ruin::Mixed(0x5555_aaaa_1234_9876),
-    ] {
-        expect_left(alloc, &mut of_images(alloc)?, ruin)?;
+    for &ruin in &RUINS {
+        expect_stored(rt.alloc(), ruin)?;
     }
     Ok(())
 }

@@ -2,7 +2,7 @@
 ghost use Rattle.cq_log.specs.Log.{IsSound};
 
 use crate::MemoryFile;
-use cq_fixtures::expect_row;
+use cq_fixtures::{expect, expect_answer, expect_row};
 use cq_log::{Damage, Device, Log, read_frames};
 use cq_log_file::{LogFileOf, OpenFault};
 use std::alloc::{AllocError, Global};
@@ -171,16 +171,35 @@ fn counts_left(
     Ok(Some((least, greatest)))
 }
 
+/// Fails unless this number of frames is read of a file without a crash, and crashes leave these numbers.
+fn expect_left(
+    alloc: Global,
+    file: &MemoryFile,
+    steps: &[Step],
+    moment: &(u64, usize, usize, usize),
+) -> Result<(), Fail> {
+    let &(failing, read, least, greatest) = moment;
+    let seen = file.left(alloc, u64::MAX)?;
+    expect_row(count_in(alloc, &seen, steps)? == Some(read), failing)?;
+    let counts = counts_left(alloc, file, steps)?;
+    expect_row(counts == Some((least, greatest)), failing)
+}
+
+/// Makes the calls of a run up to a moment.
+fn expect_moment(
+    alloc: Global,
+    steps: &[Step],
+    moment: &(u64, usize, usize, usize),
+) -> Result<(), Fail> {
+    let file = after_steps(alloc, moment.0, steps)?;
+    expect_left(alloc, file.calls(), steps, moment)
+}
+
 #[test]
 fn a_crash_leaves_whole_frames_of_a_log_with_counts(rt: HostRuntime) -> Result<(), Fail> {
-    let alloc = rt.alloc();
     for run in &RUNS {
-        for &(failing, read, least, greatest) in run.moments {
-            let file = after_steps(alloc, failing, run.steps)?;
-            let seen = file.calls().left(alloc, u64::MAX)?;
-            expect_row(count_in(alloc, &seen, run.steps)? == Some(read), failing)?;
-            let counts = counts_left(alloc, file.calls(), run.steps)?;
-            expect_row(counts == Some((least, greatest)), failing)?;
+        for moment in run.moments {
+            expect_moment(rt.alloc(), run.steps, moment)?;
         }
     }
     Ok(())
@@ -209,12 +228,16 @@ static CALLS: [(&[Step], &str); 3] = [
     ),
 ];
 
+/// Fails unless the calls of a log make these calls of its file.
+fn expect_calls(alloc: Global, number: usize, steps: &[Step], want: &str) -> Result<(), Fail> {
+    let file = after_steps(alloc, 0, steps)?;
+    expect_answer("calls", number, file.calls().text(), want)
+}
+
 #[test]
 fn a_frame_costs_one_sync_in_a_log_with_counts(rt: HostRuntime) -> Result<(), Fail> {
-    let alloc = rt.alloc();
     for (i, &(steps, calls)) in CALLS.iter().enumerate() {
-        let file = after_steps(alloc, 0, steps)?;
-        assert_eq!(rt; file.calls().text(), calls, "at {i}");
+        expect_calls(rt.alloc(), i, steps, calls)?;
     }
     Ok(())
 }
@@ -234,15 +257,20 @@ fn has_front(bytes: &[u8]) -> bool {
     }
 }
 
+/// The calls that give such a log.
+static STEPS: [Step; 2] = [Step::Push(b"ab"), Step::Push(b"a\0")];
+
+/// Returns the bytes of that log.
+fn log_bytes(alloc: Global) -> Result<Vec<u8>, Fail> {
+    let file = after_steps(alloc, 0, &STEPS)?;
+    Ok(file.calls().left(alloc, u64::MAX)?)
+}
+
 #[test]
 fn logs_with_counts_have_these_bytes(rt: HostRuntime) -> Result<(), Fail> {
-    let alloc = rt.alloc();
-    let steps = [Step::Push(b"ab"), Step::Push(b"a\0")];
-    let file = after_steps(alloc, 0, &steps)?;
-    let bytes = file.calls().left(alloc, u64::MAX)?;
-    assert_eq!(rt; bytes.len(), 19 + 4096);
-    assert!(rt; has_front(&bytes));
-    Ok(())
+    let bytes = log_bytes(rt.alloc())?;
+    expect(bytes.len() == 19 + 4096, "the log is as long")?;
+    expect(has_front(&bytes), "the log begins so")
 }
 
 /// Where one byte of these is another, and how many frames are read then.
@@ -258,21 +286,33 @@ static SPOILT: [(usize, u8, usize); 8] = [
     (31, 0, 1),
 ];
 
+/// Returns the number of frames of that log, and where they end.
+fn frames_and_end(alloc: Global) -> Result<(usize, usize), AllocError> {
+    let found = read_frames(alloc, &BYTES)?;
+    Ok((found.frames.len(), found.end))
+}
+
+/// Returns those bytes with another one at a place.
+fn spoilt(alloc: Global, place: usize, byte: u8) -> Result<Vec<u8>, AllocError> {
+    let mut bytes = BYTES.to_vec(alloc)?;
+    if let Some(old) = bytes.get_mut(place) {
+        *old = byte;
+    }
+    Ok(bytes)
+}
+
+/// Returns the number of frames that are read then.
+fn frames_of_spoilt(alloc: Global, place: usize, byte: u8) -> Result<usize, AllocError> {
+    let bytes = spoilt(alloc, place, byte)?;
+    Ok(read_frames(alloc, &bytes)?.frames.len())
+}
+
 #[test]
 fn a_block_is_read_only_with_its_count(rt: HostRuntime) -> Result<(), Fail> {
     let alloc = rt.alloc();
-    let found = read_frames(alloc, &BYTES)?;
-    assert_eq!(rt; (found.frames.len(), found.end), (2, 33));
-    for &(place, byte, wanted) in &SPOILT {
-        let mut bytes = BYTES.to_vec(alloc)?;
-        if let Some(old) = bytes.get_mut(place) {
-            *old = byte;
-        }
-        assert_eq!(rt;
-            read_frames(alloc, &bytes)?.frames.len(),
-            wanted,
-            "at {place}"
-        );
+    expect(frames_and_end(alloc)? == (2, 33), "all blocks are read")?;
+    for &(place, byte, want) in &SPOILT {
+        expect_row(frames_of_spoilt(alloc, place, byte)? == want, place as u64)?;
     }
     Ok(())
 }

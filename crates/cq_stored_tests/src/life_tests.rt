@@ -1,5 +1,5 @@
 //! What each call answers, and what a crash leaves then.
-use crate::life::{Call, answer, left, opened};
+use crate::life::{Call, Life, answer, left, opened};
 use cq_fixtures::{expect_answer, expect_end};
 use std::sync::Wait;
 use std::test::Fail;
@@ -116,14 +116,25 @@ static FAILING: [(u64, &str); 6] = [
     (15, WITHOUT_GATE),
 ];
 
-/// Makes the calls of a row. Fails if one of them does not answer what is wanted, or if a crash does not leave it.
-fn expect_row<R: Wait + Clock + AllocGlobal>(rt: &R, row: &Row) -> Result<(), Fail> {
-    let alloc = rt.alloc();
-    let mut life = opened(alloc, row.failing)?;
+/// Makes the calls of a row. Fails if one of them does not answer what is wanted.
+fn expect_calls<R: Wait + Clock + AllocGlobal>(
+    rt: &R,
+    life: &mut Life,
+    row: &Row,
+) -> Result<(), Fail> {
     for (i, &(call, want)) in row.calls.iter().enumerate() {
-        expect_answer(row.name, i, answer(rt, &mut life, call)?.as_str(), want)?;
+        let said = answer(rt, life, call)?;
+        expect_answer(row.name, i, said.as_str(), want)?;
     }
-    expect_end(row.name, left(alloc, life)?.as_str(), row.left)
+    Ok(())
+}
+
+/// The same with a new queue. Fails as well if a crash does not leave what is wanted.
+fn expect_row<R: Wait + Clock + AllocGlobal>(rt: &R, row: &Row) -> Result<(), Fail> {
+    let mut life = opened(rt.alloc(), row.failing)?;
+    expect_calls(rt, &mut life, row)?;
+    let left = left(rt.alloc(), life)?;
+    expect_end(row.name, left.as_str(), row.left)
 }
 
 /// What was answered is stored, and nothing that came after the last turn.
