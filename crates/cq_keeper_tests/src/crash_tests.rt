@@ -4,7 +4,7 @@ use crate::reading::read_text;
 use cq_fixtures::{DAY, expect_answer};
 use cq_keeper::Keeper;
 use cq_log_tests::{Ruin, TornFile};
-use std::alloc::Global;
+use std::alloc::{AllocError, Global};
 use std::test::Fail;
 
 /// Appends, a take, a drop and turns: three frames, of which the second is settled by a turn to which nothing came.
@@ -128,18 +128,23 @@ fn count_in(alloc: Global, bytes: &[u8]) -> Result<usize, Fail> {
     }
 }
 
+/// Returns the number of frames that a crash leaves of a file.
+fn count_left(alloc: Global, file: &TornFile, ruin: Ruin) -> Result<usize, Fail> {
+    let left = file.after_crash(alloc, ruin)?;
+    count_in(alloc, &left)
+}
+
 /// Returns the least and the greatest number of frames that a crash leaves of a file.
 fn counts_left(alloc: Global, file: &TornFile) -> Result<(usize, usize), Fail> {
     let mut least = STATES.len();
     let mut greatest = 0;
     for &ruin in &RUINS {
-        let count = count_in(alloc, &file.after_crash(alloc, ruin)?)?;
+        let count = count_left(alloc, file, ruin)?;
         least = least.min(count);
         greatest = greatest.max(count);
     }
     for place in 0..file.bytes().len().min(PLACES) {
-        let ruin = Ruin::Spoilt { place, byte: 1 };
-        let count = count_in(alloc, &file.after_crash(alloc, ruin)?)?;
+        let count = count_left(alloc, file, Ruin::Spoilt { place, byte: 1 })?;
         least = least.min(count);
         greatest = greatest.max(count);
     }
@@ -172,13 +177,29 @@ fn said(alloc: Global, fixture: &mut Fixture<TornFile>) -> Result<String, Fail> 
     Ok(format!(in alloc; "{answers}, {left}")?)
 }
 
+/// Makes all calls with a file of which a call fails. Returns what the turns and the settle return, and what is left then.
+fn said_at(alloc: Global, failing: u64) -> Result<String, Fail> {
+    let mut fixture = failing_at(alloc, failing)?;
+    said(alloc, &mut fixture)
+}
+
+/// What a moment wants, as text.
+fn want_text(alloc: Global, moment: &Moment) -> Result<String, AllocError> {
+    let &(_failing, answers, stored_end, read, left) = moment;
+    format!(in alloc; "{answers}, {stored_end}, {read}, {left:?}")
+}
+
+/// Fails unless the calls return and leave what a moment wants.
+fn expect_moment(alloc: Global, moment: &Moment) -> Result<(), Fail> {
+    let want = want_text(alloc, moment)?;
+    let said = said_at(alloc, moment.0)?;
+    expect_answer("moment", moment.0 as usize, said.as_str(), want.as_str())
+}
+
 #[test]
 fn a_crash_leaves_what_is_stored(rt: HostRuntime) -> Result<(), Fail> {
-    let alloc = rt.alloc();
-    for &(failing, answers, stored_end, read, left) in &MOMENTS {
-        let want = format!(in alloc; "{answers}, {stored_end}, {read}, {left:?}")?;
-        let said = said(alloc, &mut failing_at(alloc, failing)?)?;
-        expect_answer("moment", failing as usize, said.as_str(), want.as_str())?;
+    for moment in &MOMENTS {
+        expect_moment(rt.alloc(), moment)?;
     }
     Ok(())
 }

@@ -26,20 +26,22 @@ fn expect_calls(
 ) -> Result<(), Fail> {
     for (place, &(call, answer, kept, stored_end)) in life.iter().enumerate() {
         let want = format!(in alloc; "{answer}, {kept}, {stored_end}")?;
-        expect_answer(
-            row,
-            place,
-            said(alloc, fixture, call)?.as_str(),
-            want.as_str(),
-        )?;
+        let said = said(alloc, fixture, call)?;
+        expect_answer(row, place, said.as_str(), want.as_str())?;
     }
     Ok(())
 }
 
 /// Does the same with a new queue.
+fn expect_new_life(alloc: Global, row: &str, life: Life) -> Result<(), Fail> {
+    let mut fixture = failing_at(alloc, 0)?;
+    expect_calls(alloc, row, &mut fixture, life)
+}
+
+/// Does the same with the life of this number.
 fn expect_life(alloc: Global, number: usize, life: Life) -> Result<(), Fail> {
     let row = format!(in alloc; "life {number}")?;
-    expect_calls(alloc, row.as_str(), &mut failing_at(alloc, 0)?, life)
+    expect_new_life(alloc, row.as_str(), life)
 }
 
 /// Makes the calls of these lives.
