@@ -241,32 +241,59 @@ fn stored(alloc: Global, kept: &KeptQueue<TornFile>) -> Result<String, Fail> {
     replayed_text(alloc, &device.after_crash(alloc, Ruin::Lost)?)
 }
 
+/// Ends an ingest. Returns what a read of the log of its queue gives then.
+fn stored_by(alloc: Global, ingest: Ingest<TornFile>) -> Result<String, Fail> {
+    stored(alloc, &ingest.into_kept())
+}
+
+/// Serves pieces, and returns what that says, and what is stored. What is printed goes to the writer.
+fn said_and_stored(
+    alloc: Global,
+    pieces: &'static [&'static str],
+    trouble: Trouble,
+    output: &mut Room,
+) -> Result<(String, String), Fail> {
+    let mut ingest = ingest(alloc, trouble)?;
+    let said = said(alloc, &mut ingest, pieces, trouble, output)?;
+    let stored = stored_by(alloc, ingest)?;
+    Ok((said, stored))
+}
+
+/// A writer that has room where this goes wrong.
+fn output_of(alloc: Global, trouble: Trouble) -> Room {
+    match trouble {
+        Trouble::Room(room) => Room::new(alloc, room),
+        _ => Room::new(alloc, usize::MAX),
+    }
+}
+
 /// What comes of pieces where this goes wrong.
 fn come_of(
     alloc: Global,
     pieces: &'static [&'static str],
     trouble: Trouble,
 ) -> Result<Served, Fail> {
-    let room = match trouble {
-        Trouble::Room(room) => room,
-        _ => usize::MAX,
-    };
-    let mut output = Room::new(alloc, room);
-    let mut ingest = ingest(alloc, trouble)?;
-    let said = said(alloc, &mut ingest, pieces, trouble, &mut output)?;
+    let mut output = output_of(alloc, trouble);
+    let (said, stored) = said_and_stored(alloc, pieces, trouble, &mut output)?;
+    let printed = printed(alloc, &output)?;
     Ok(Served {
-        printed: printed(alloc, &output)?,
+        printed,
         said,
-        stored: stored(alloc, &ingest.into_kept())?,
+        stored,
     })
+}
+
+/// Fails if this is not what a row wants.
+fn expect_served(served: &Served, number: usize, row: &Row) -> Result<(), Fail> {
+    expect_answer("printed", number, served.printed.as_str(), row.2)?;
+    expect_answer("said", number, served.said.as_str(), row.3)?;
+    expect_answer("stored", number, served.stored.as_str(), row.4)
 }
 
 /// Fails if this does not come of a row.
 fn expect_outcome(alloc: Global, number: usize, row: &Row) -> Result<(), Fail> {
     let served = come_of(alloc, row.0, row.1)?;
-    expect_answer("printed", number, served.printed.as_str(), row.2)?;
-    expect_answer("said", number, served.said.as_str(), row.3)?;
-    expect_answer("stored", number, served.stored.as_str(), row.4)
+    expect_served(&served, number, row)
 }
 
 /// Lines are appended as they come, stored, and acknowledged then.
