@@ -1,4 +1,4 @@
-//! The cases, and their names on the command line.
+//! The words of the command line, and the cases that they ask for.
 use crate::appending::Appending;
 use crate::crews::{Crew, print_crews};
 use crate::fault::BenchFault;
@@ -43,68 +43,138 @@ pub enum Case {
     ShelfRead,
 }
 
-/// The name of each case, and what it measures.
-pub static CASES: [(&str, Case, &str); 13] = [
-    ("append", Case::Append, "1, 2 and 4 appenders fill a cycle"),
+/// What an argument asks for.
+#[derive(Clone, Copy)]
+pub enum Word {
+    /// A case.
+    Case(Case),
+    /// All cases.
+    All,
+    /// A soak of a shelf.
+    Soak,
+    /// A short run of all cases over small queues, without figures.
+    Trial,
+}
+
+/// Each argument, and what it asks for.
+pub static WORDS: [(&str, Word, &str); 16] = [
+    (
+        "append",
+        Word::Case(Case::Append),
+        "1, 2 and 4 appenders fill a cycle",
+    ),
     (
         "append_by_call",
-        Case::AppendByCall,
+        Word::Case(Case::AppendByCall),
         "1 does, by a call for each",
     ),
-    ("read", Case::Read, "1, 2 and 4 tailers read a full cycle"),
-    ("read_into", Case::ReadInto, "the same into rooms of theirs"),
-    ("flow", Case::Flow, "tailers read while appenders append"),
-    ("ping", Case::Ping, "from an append to another's read of it"),
-    ("read_at", Case::ReadAt, "reads by index here and there"),
-    ("growth", Case::Growth, "appends early and late in a cycle"),
-    ("cold_append", Case::ColdAppend, "the same by new appenders"),
-    ("save", Case::Save, "append all, stop, recover, image"),
-    ("reopen", Case::Reopen, "image read, reopen, read all"),
+    (
+        "read",
+        Word::Case(Case::Read),
+        "1, 2 and 4 tailers read a full cycle",
+    ),
+    (
+        "read_into",
+        Word::Case(Case::ReadInto),
+        "the same into rooms of theirs",
+    ),
+    (
+        "flow",
+        Word::Case(Case::Flow),
+        "tailers read while appenders append",
+    ),
+    (
+        "ping",
+        Word::Case(Case::Ping),
+        "from an append to another's read of it",
+    ),
+    (
+        "read_at",
+        Word::Case(Case::ReadAt),
+        "reads by index here and there",
+    ),
+    (
+        "growth",
+        Word::Case(Case::Growth),
+        "appends early and late in a cycle",
+    ),
+    (
+        "cold_append",
+        Word::Case(Case::ColdAppend),
+        "the same by new appenders",
+    ),
+    (
+        "save",
+        Word::Case(Case::Save),
+        "append all, stop, recover, image",
+    ),
+    (
+        "reopen",
+        Word::Case(Case::Reopen),
+        "image read, reopen, read all",
+    ),
     (
         "shelf_append",
-        Case::ShelfAppend,
+        Word::Case(Case::ShelfAppend),
         "appends over many queues",
     ),
-    ("shelf_read", Case::ShelfRead, "reads of these"),
+    ("shelf_read", Word::Case(Case::ShelfRead), "reads of these"),
+    ("all", Word::All, "all of these"),
+    ("soak", Word::Soak, "a shelf at full speed, for CQ_SECONDS"),
+    (
+        "trial",
+        Word::Trial,
+        "all of these over small queues, without figures",
+    ),
 ];
 
-const LENGTHS: [u32; 5] = [8, 64, 256, 1024, 4096];
+static LENGTHS: [u32; 5] = [8, 64, 256, 1024, 4096];
 
-const FLOW_LENGTHS: [u32; 2] = [64, 1024];
+static FLOW_LENGTHS: [u32; 2] = [64, 1024];
 
-/// A crew of this many appenders and tailers, which read owned copies.
-const fn crew(appenders: u32, tailers: u32) -> Crew {
+/// How many appenders and tailers each crew has that only appends.
+static APPENDERS: [(u32, u32); 3] = [(1, 0), (2, 0), (4, 0)];
+
+/// The same of crews that only read.
+static TAILERS: [(u32, u32); 3] = [(0, 1), (0, 2), (0, 4)];
+
+/// The same of crews that do both.
+static FLOWS: [(u32, u32); 3] = [(1, 1), (1, 3), (3, 1)];
+
+/// A crew of this many appenders and tailers, which read so.
+fn crew(numbers: (u32, u32), reading: Reading) -> Crew {
+    let (appenders, tailers) = numbers;
     Crew {
         appending: Appending::Inlined,
         appenders,
         tailers,
-        reading: Reading::Copies,
+        reading,
     }
 }
 
+/// Crews of this many appenders and tailers, which read so.
+fn crews(numbers: &[(u32, u32); 3], reading: Reading) -> [Crew; 3] {
+    let [first, second, third] = *numbers;
+    [
+        crew(first, reading),
+        crew(second, reading),
+        crew(third, reading),
+    ]
+}
+
 /// One appender, by a call for each message.
-const CALLER: Crew = Crew {
+static CALLER: [Crew; 1] = [Crew {
     appending: Appending::Called,
     appenders: 1,
     tailers: 0,
     reading: Reading::Copies,
-};
+}];
 
-/// A crew of this many tailers, which read into buffers.
-const fn crew_into(tailers: u32) -> Crew {
-    Crew {
-        appending: Appending::Inlined,
-        appenders: 0,
-        tailers,
-        reading: Reading::Into,
-    }
-}
-
-/// Returns the case of a name, if there is one.
-pub fn case_of(word: &str) -> Option<Case> {
-    for (name, case, _) in &CASES {
-        if *name == word {
-            return Some(*case);
+/// Returns what an argument asks for, if it is understood.
+pub fn word_of(text: &str) -> Option<Word> {
+    for (name, word, _) in &WORDS {
+        if *name == text {
+            return Some(*word);
         }
     }
     None
@@ -115,8 +185,10 @@ pub fn print_all<R: AllocGlobal + Clock + Print + Threads + Sync>(
     rt: &R,
     settings: &Settings,
 ) -> Result<(), BenchFault> {
-    for (_, case, _) in &CASES {
-        print_case(rt, settings, *case)?;
+    for (_, word, _) in &WORDS {
+        if let Word::Case(case) = *word {
+            print_case(rt, settings, case)?;
+        }
     }
     Ok(())
 }
@@ -129,20 +201,20 @@ pub fn print_case<R: AllocGlobal + Clock + Print + Threads + Sync>(
 ) -> Result<(), BenchFault> {
     match case {
         Case::Append => {
-            let crews = [crew(1, 0), crew(2, 0), crew(4, 0)];
+            let crews = crews(&APPENDERS, Reading::Copies);
             print_crews(rt, settings, "append", &LENGTHS, &crews)
         }
-        Case::AppendByCall => print_crews(rt, settings, "append_by_call", &LENGTHS, &[CALLER]),
+        Case::AppendByCall => print_crews(rt, settings, "append_by_call", &LENGTHS, &CALLER),
         Case::Read => {
-            let crews = [crew(0, 1), crew(0, 2), crew(0, 4)];
+            let crews = crews(&TAILERS, Reading::Copies);
             print_crews(rt, settings, "read", &LENGTHS, &crews)
         }
         Case::ReadInto => {
-            let crews = [crew_into(1), crew_into(2), crew_into(4)];
+            let crews = crews(&TAILERS, Reading::Into);
             print_crews(rt, settings, "read_into", &LENGTHS, &crews)
         }
         Case::Flow => {
-            let crews = [crew(1, 1), crew(1, 3), crew(3, 1)];
+            let crews = crews(&FLOWS, Reading::Copies);
             print_crews(rt, settings, "flow", &FLOW_LENGTHS, &crews)
         }
         Case::Ping => print_pings(rt, settings),

@@ -71,6 +71,14 @@ impl Crew {
         format!(in alloc; "{appenders}to{tailers}")
     }
 
+    /// Fills a new queue if no appender will do it.
+    fn fill(self, shared: &mut SharedQueue, share: Share, bytes: &[u8]) -> Result<(), BenchFault> {
+        if self.appenders > 0 {
+            return Ok(());
+        }
+        shared.appender()?.append_all(bytes, share.all)
+    }
+
     /// Returns what an appender does.
     fn append_job(self, shared: &mut SharedQueue, share: Share) -> Result<Job, AllocError> {
         Ok(Job::Append(shared.appender()?, self.appending, share.each))
@@ -144,11 +152,34 @@ fn crew_time<R: AllocGlobal + Clock + Threads + Sync>(
     bytes: &[u8],
 ) -> Result<Duration, BenchFault> {
     let mut shared = SharedQueue::new(rt.alloc(), shape)?;
-    if crew.appenders == 0 {
-        shared.appender()?.append_all(bytes, share.all)?;
+    time_over(rt, &mut shared, crew, share, bytes)
+}
+
+/// Measures the time of a crew on this queue, which is new.
+fn time_over<R: AllocGlobal + Clock + Threads + Sync>(
+    rt: &R,
+    shared: &mut SharedQueue,
+    crew: Crew,
+    share: Share,
+    bytes: &[u8],
+) -> Result<Duration, BenchFault> {
+    crew.fill(shared, share, bytes)?;
+    time_of(rt, crew.jobs(rt.alloc(), shared, share)?, bytes)
+}
+
+/// Measures the time of a crew, in the best of all repetitions.
+fn best_time<R: AllocGlobal + Clock + Threads + Sync>(
+    rt: &R,
+    settings: &Settings,
+    crew: Crew,
+    share: Share,
+    bytes: &[u8],
+) -> Result<Duration, BenchFault> {
+    let mut best = Duration::MAX;
+    for _ in 0..settings.repetitions {
+        best = best.min(crew_time(rt, settings.shape, crew, share, bytes)?);
     }
-    let jobs = crew.jobs(rt.alloc(), &mut shared, share)?;
-    time_of(rt, jobs, bytes)
+    Ok(best)
 }
 
 /// Measures messages per second, in the best of all repetitions.
@@ -158,12 +189,9 @@ fn crew_figure<R: AllocGlobal + Clock + Threads + Sync>(
     crew: Crew,
     length: u32,
 ) -> Result<Figure, BenchFault> {
-    let bytes = Vec::from_elem(rt.alloc(), b'x', length as usize)?;
     let share = crew.share(message_count(settings.shape, length))?;
-    let mut best = Duration::MAX;
-    for _ in 0..settings.repetitions {
-        best = best.min(crew_time(rt, settings.shape, crew, share, bytes.as_slice())?);
-    }
+    let bytes = Vec::from_elem(rt.alloc(), b'x', length as usize)?;
+    let best = best_time(rt, settings, crew, share, bytes.as_slice())?;
     Ok(Figure::rate(crew.messages(share), best))
 }
 
@@ -177,15 +205,26 @@ pub fn print_crews<R: AllocGlobal + Clock + Print + Threads + Sync>(
 ) -> Result<(), BenchFault> {
     for length in lengths {
         for crew in crews {
-            let figure = crew_figure(rt, settings, *crew, *length)?;
-            let threads = crew.name(rt.alloc())?;
-            let label = Label {
-                case,
-                payload: *length,
-                threads: threads.as_str(),
-            };
-            print_line(rt, settings, label, figure, "msg/s")?;
+            print_crew(rt, settings, case, *length, *crew)?;
         }
     }
     Ok(())
+}
+
+/// Measures a crew with messages of this length.
+fn print_crew<R: AllocGlobal + Clock + Print + Threads + Sync>(
+    rt: &R,
+    settings: &Settings,
+    case: &str,
+    length: u32,
+    crew: Crew,
+) -> Result<(), BenchFault> {
+    let figure = crew_figure(rt, settings, crew, length)?;
+    let threads = crew.name(rt.alloc())?;
+    let label = Label {
+        case,
+        payload: length,
+        threads: threads.as_str(),
+    };
+    print_line(rt, settings, label, figure, "msg/s")
 }

@@ -5,7 +5,7 @@ use std::fmt;
 use std::time::Duration;
 
 /// A figure, in hundredths.
-#[derive(Clone, Copy, PartialEq, Eq, PartialOrd, Ord)]
+#[derive(Clone, Copy)]
 pub struct Figure {
     hundredths: u64,
 }
@@ -30,6 +30,13 @@ impl Figure {
             u128::from(self.hundredths) * 100,
             u128::from(other.hundredths),
         )
+    }
+
+    /// Returns the larger one of this figure and another one.
+    pub fn max(self, other: Figure) -> Figure {
+        Figure {
+            hundredths: self.hundredths.max(other.hundredths),
+        }
     }
 
     /// This many hundredths for each. Zero counts as one.

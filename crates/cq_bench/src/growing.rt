@@ -30,6 +30,22 @@ pub struct Eighths {
     last: Duration,
 }
 
+impl Eighths {
+    /// Longer than all that is measured.
+    const MAX: Eighths = Eighths {
+        first: Duration::MAX,
+        last: Duration::MAX,
+    };
+
+    /// The shorter time of each eighth.
+    fn min(self, other: Eighths) -> Eighths {
+        Eighths {
+            first: self.first.min(other.first),
+            last: self.last.min(other.last),
+        }
+    }
+}
+
 /// Which appends are measured.
 #[derive(Clone, Copy)]
 pub enum Growth {
@@ -40,6 +56,18 @@ pub enum Growth {
 }
 
 impl Growth {
+    /// The names in the lines: of the first eighth, of the last one, and of their ratio.
+    fn names(self) -> [&'static str; 3] {
+        match self {
+            Growth::Warm => ["growth_first8th", "growth_last8th", "growth_ratio"],
+            Growth::Cold => [
+                "cold_append_first8th",
+                "cold_append_last8th",
+                "cold_append_ratio",
+            ],
+        }
+    }
+
     /// How many appends of an eighth are measured, if it has that many.
     fn measured(self, eighth: u32) -> u64 {
         match self {
@@ -130,6 +158,20 @@ fn eighths_of<R: AllocGlobal + Clock>(
     eighths_by(rt, growth, &mut shared, &mut warm, eighth)
 }
 
+/// Measures the best times of all repetitions.
+fn best_eighths<R: AllocGlobal + Clock>(
+    rt: &R,
+    settings: &Settings,
+    growth: Growth,
+    eighth: u32,
+) -> Result<Eighths, BenchFault> {
+    let mut best = Eighths::MAX;
+    for _ in 0..settings.repetitions {
+        best = best.min(eighths_of(rt, settings.shape, growth, eighth)?);
+    }
+    Ok(best)
+}
+
 /// Measures appends early and late in a cycle.
 pub fn print_growth<R: AllocGlobal + Clock + Print>(
     rt: &R,
@@ -140,28 +182,21 @@ pub fn print_growth<R: AllocGlobal + Clock + Print>(
     if eighth < BATCHES * BATCH {
         return Err(BenchFault::NoRoom);
     }
-    let mut best = Eighths {
-        first: Duration::MAX,
-        last: Duration::MAX,
-    };
-    for _ in 0..settings.repetitions {
-        let Eighths { first, last } = eighths_of(rt, settings.shape, growth, eighth)?;
-        best = Eighths {
-            first: best.first.min(first),
-            last: best.last.min(last),
-        };
-    }
-    let count = growth.measured(eighth);
-    let first = Figure::nanos_each(count, best.first);
-    let last = Figure::nanos_each(count, best.last);
-    let [first_name, last_name, ratio_name] = match growth {
-        Growth::Warm => ["growth_first8th", "growth_last8th", "growth_ratio"],
-        Growth::Cold => [
-            "cold_append_first8th",
-            "cold_append_last8th",
-            "cold_append_ratio",
-        ],
-    };
+    let best = best_eighths(rt, settings, growth, eighth)?;
+    print_eighths(rt, settings, growth, growth.measured(eighth), best)
+}
+
+/// Prints the times, in which this many messages were appended.
+fn print_eighths<R: Print>(
+    rt: &R,
+    settings: &Settings,
+    growth: Growth,
+    count: u64,
+    times: Eighths,
+) -> Result<(), BenchFault> {
+    let first = Figure::nanos_each(count, times.first);
+    let last = Figure::nanos_each(count, times.last);
+    let [first_name, last_name, ratio_name] = growth.names();
     print_eighth(rt, settings, first_name, first, "ns")?;
     print_eighth(rt, settings, last_name, last, "ns")?;
     print_eighth(rt, settings, ratio_name, last.times(first), "ratio")

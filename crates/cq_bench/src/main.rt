@@ -28,7 +28,7 @@ mod soak;
 mod tally;
 mod workers;
 
-use crate::cases::{CASES, case_of, print_all, print_case};
+use crate::cases::{WORDS, Word, print_all, print_case, word_of};
 use crate::fault::BenchFault;
 use crate::settings::Settings;
 use crate::soak::print_soak;
@@ -46,15 +46,6 @@ const FAULT: u8 = 1;
 /// An argument or an environment variable is not understood.
 const NOT_UNDERSTOOD: u8 = 2;
 
-/// The argument for all cases.
-const ALL: &str = "all";
-
-/// The argument for a soak of a shelf.
-const SOAK: &str = "soak";
-
-/// The argument for a short run of all cases over small queues, without figures.
-const TRIAL: &str = "trial";
-
 fn main(rt: HostRuntime) -> ExitCode {
     ExitCode::from(status(&rt))
 }
@@ -64,18 +55,28 @@ fn status<R>(rt: &R) -> u8
 where
     R: AllocGlobal + Clock + Env + Print + Eprint + Threads + Sync,
 {
-    let Ok(words) = words(rt) else {
-        let _ = eprintln!(rt; "cq_bench: the words are not text");
-        return NOT_UNDERSTOOD;
-    };
-    for word in words.as_slice() {
-        if !is_known(word.as_str()) {
+    match words(rt) {
+        Ok(words) => status_of(rt, words.as_slice()),
+        Err(_) => {
+            let _ = eprintln!(rt; "cq_bench: the words are not text");
+            NOT_UNDERSTOOD
+        }
+    }
+}
+
+/// Does what these arguments ask for, and returns the exit status.
+fn status_of<R>(rt: &R, words: &[String]) -> u8
+where
+    R: AllocGlobal + Clock + Env + Print + Eprint + Threads + Sync,
+{
+    for word in words {
+        if word_of(word.as_str()).is_none() {
             let _ = eprintln!(rt; "cq_bench: there is no case {word}");
             return NOT_UNDERSTOOD;
         }
     }
     match Settings::of_environment(rt) {
-        Ok(settings) => ended(rt, print_words(rt, &settings, words.as_slice())),
+        Ok(settings) => ended(rt, print_words(rt, &settings, words)),
         Err(fault) => {
             let _ = eprintln!(rt; "cq_bench: {fault}");
             NOT_UNDERSTOOD
@@ -99,11 +100,6 @@ fn words<R: AllocGlobal + Env>(rt: &R) -> io::Result<Vec<String>> {
     Ok(env::args(rt)?.skip(1).collect(rt.alloc())?)
 }
 
-/// Whether an argument is understood.
-fn is_known(word: &str) -> bool {
-    word == ALL || word == SOAK || word == TRIAL || case_of(word).is_some()
-}
-
 /// Measures what each argument says. If there is none, prints the list of cases.
 fn print_words<R>(rt: &R, settings: &Settings, words: &[String]) -> Result<(), BenchFault>
 where
@@ -123,35 +119,31 @@ fn print_word<R>(rt: &R, settings: &Settings, word: &str) -> Result<(), BenchFau
 where
     R: AllocGlobal + Clock + Print + Threads + Sync,
 {
-    if word == ALL {
-        return print_all(rt, settings);
-    }
-    if word == SOAK {
-        return print_soak(rt, settings);
-    }
-    match case_of(word) {
-        Some(case) => print_case(rt, settings, case),
-        None => print_trial(rt, &Settings::of_trial()?),
+    match word_of(word) {
+        Some(Word::Case(case)) => print_case(rt, settings, case),
+        Some(Word::All) => print_all(rt, settings),
+        Some(Word::Soak) => print_soak(rt, settings),
+        Some(Word::Trial) => print_trial(rt),
+        None => Ok(()),
     }
 }
 
-/// Tries all cases and a soak.
-fn print_trial<R>(rt: &R, settings: &Settings) -> Result<(), BenchFault>
+/// Tries all cases and a soak over small queues.
+fn print_trial<R>(rt: &R) -> Result<(), BenchFault>
 where
     R: AllocGlobal + Clock + Print + Threads + Sync,
 {
-    print_all(rt, settings)?;
-    print_soak(rt, settings)
+    let settings = Settings::of_trial()?;
+    print_all(rt, &settings)?;
+    print_soak(rt, &settings)
 }
 
 /// Prints the arguments that there are.
 fn print_help<R: Print>(rt: &R) -> Result<(), BenchFault> {
-    for (word, _, what) in &CASES {
+    for (word, _, what) in &WORDS {
         print_meaning(rt, word, what)?;
     }
-    print_meaning(rt, ALL, "all of these")?;
-    print_meaning(rt, SOAK, "a shelf at full speed, for CQ_SECONDS")?;
-    print_meaning(rt, TRIAL, "all of these over small queues, without figures")
+    Ok(())
 }
 
 /// Prints an argument, and what is measured for it.

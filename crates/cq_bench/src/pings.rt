@@ -12,7 +12,7 @@ use cq_append::Appender;
 use cq_layout::Shape;
 use cq_tail::Tailer;
 use cq_words::Queue;
-use std::alloc::Global;
+use std::alloc::{AllocError, Global};
 use std::rt::Clock;
 use std::thread::{Threads, join};
 use std::time::{Duration, Instant};
@@ -40,6 +40,7 @@ fn send_all<R: Clock>(
     sent: &mut Vec<Instant>,
 ) -> Result<(), BenchFault>
     requires { IsOf queue.now appender.old }
+    ensures { IsOf queue.now appender.new }
 {
     for number in 0..count {
         // The first is sent once the tailer has come.
@@ -55,20 +56,15 @@ fn send_all<R: Clock>(
     Ok(())
 }
 
-/// Appends messages, each once the one before it was read, and returns when each append began.
-fn send<R: AllocGlobal + Clock>(
+/// The same over the queue that an appender shares.
+fn send<R: Clock>(
     rt: &R,
     read: &Gate,
-    shared: SharedAppender,
+    shared: &mut SharedAppender,
     count: u32,
-) -> Result<Vec<Instant>, BenchFault> {
-    let SharedAppender {
-        queue,
-        mut appender,
-    } = shared;
-    let mut sent = Vec::with_capacity(rt.alloc(), count as usize)?;
-    send_all(rt, read, &queue, &mut appender, count, &mut sent)?;
-    Ok(sent)
+    sent: &mut Vec<Instant>,
+) -> Result<(), BenchFault> {
+    send_all(rt, read, &shared.queue, &mut shared.appender, count, sent)
 }
 
 /// Reads messages as they come, and keeps when each was read.
@@ -81,6 +77,7 @@ fn receive_all<R: AllocGlobal + Clock>(
     received: &mut Vec<Instant>,
 ) -> Result<(), BenchFault>
     requires { IsOf queue.now tailer.old.caller }
+    ensures { IsOf queue.now tailer.new.caller }
 {
     read.come();
     for _ in 0..count {
@@ -94,41 +91,68 @@ fn receive_all<R: AllocGlobal + Clock>(
     Ok(())
 }
 
-/// Reads messages as they come, and returns when each was read.
+/// The same over the queue that a tailer shares.
 fn receive<R: AllocGlobal + Clock>(
     rt: &R,
     read: &Gate,
-    shared: SharedTailer,
+    shared: &mut SharedTailer,
     count: u32,
-) -> Result<Vec<Instant>, BenchFault> {
-    let SharedTailer { queue, mut tailer } = shared;
-    let mut received = Vec::with_capacity(rt.alloc(), count as usize)?;
-    receive_all(rt, read, &queue, &mut tailer, count, &mut received)?;
-    Ok(received)
+    received: &mut Vec<Instant>,
+) -> Result<(), BenchFault> {
+    receive_all(rt, read, &shared.queue, &mut shared.tailer, count, received)
 }
 
-/// Makes an appender and a tailer of a new queue.
-fn new_pair(alloc: Global, shape: Shape) -> Result<(SharedAppender, SharedTailer), BenchFault> {
-    let mut shared = SharedQueue::new(alloc, shape)?;
-    Ok((shared.appender()?, shared.tailer()?))
-}
-
-/// Returns when each of this many messages was sent and read, one at a time.
-fn send_and_receive<R: AllocGlobal + Clock + Threads + Sync>(
-    rt: &R,
+/// An appender and a tailer of one queue.
+#[derive(Drop)]
+struct Pair {
     appender: SharedAppender,
     tailer: SharedTailer,
+}
+
+impl Pair {
+    /// Makes them over this queue.
+    fn of(shared: &mut SharedQueue) -> Result<Pair, AllocError> {
+        Ok(Pair {
+            appender: shared.appender()?,
+            tailer: shared.tailer()?,
+        })
+    }
+}
+
+/// When each append began, and when each message was read.
+#[derive(Drop)]
+struct Moments {
+    sent: Vec<Instant>,
+    received: Vec<Instant>,
+}
+
+impl Moments {
+    /// Makes room for those of this many messages.
+    fn new(alloc: Global, count: u32) -> Result<Moments, AllocError> {
+        Ok(Moments {
+            sent: Vec::with_capacity(alloc, count as usize)?,
+            received: Vec::with_capacity(alloc, count as usize)?,
+        })
+    }
+}
+
+/// Sends and reads this many messages, one at a time, and keeps when.
+fn send_and_receive<R: AllocGlobal + Clock + Threads + Sync>(
+    rt: &R,
+    pair: &mut Pair,
+    moments: &mut Moments,
     count: u32,
-) -> (
-    Result<Vec<Instant>, BenchFault>,
-    Result<Vec<Instant>, BenchFault>,
-) {
+) -> Result<(), BenchFault> {
     let read = Gate::new();
-    join(
+    let Pair { appender, tailer } = pair;
+    let Moments { sent, received } = moments;
+    let (sending, receiving) = join(
         rt,
-        || -> Result<Vec<Instant>, BenchFault> { send(rt, &read, appender, count) },
-        || -> Result<Vec<Instant>, BenchFault> { receive(rt, &read, tailer, count) },
-    )
+        || -> Result<(), BenchFault> { send(rt, &read, appender, count, sent) },
+        || -> Result<(), BenchFault> { receive(rt, &read, tailer, count, received) },
+    );
+    sending?;
+    receiving
 }
 
 /// Measures the times of this many messages, one at a time.
@@ -137,26 +161,34 @@ fn ping_times<R: AllocGlobal + Clock + Threads + Sync>(
     shape: Shape,
     count: u32,
 ) -> Result<Times, BenchFault> {
-    let (appender, tailer) = new_pair(rt.alloc(), shape)?;
-    let (sent, received) = send_and_receive(rt, appender, tailer, count);
-    let mut times = times_between(rt.alloc(), sent?.as_slice(), received?.as_slice())?;
+    let mut moments = Moments::new(rt.alloc(), count)?;
+    let mut pair = Pair::of(&mut SharedQueue::new(rt.alloc(), shape)?)?;
+    send_and_receive(rt, &mut pair, &mut moments, count)?;
+    times_from(rt.alloc(), &moments)
+}
+
+/// Returns the times of messages that were sent and read then.
+fn times_from(alloc: Global, moments: &Moments) -> Result<Times, BenchFault> {
+    let mut times = Vec::with_capacity(alloc, moments.sent.len())?;
+    push_times(
+        moments.sent.as_slice(),
+        moments.received.as_slice(),
+        &mut times,
+    )?;
     times.sort_unstable();
     times_of(times.as_slice())
 }
 
-/// Returns how long each message was on its way.
-fn times_between(
-    alloc: Global,
+/// Adds how long each message was on its way.
+fn push_times(
     sent: &[Instant],
     received: &[Instant],
-) -> Result<Vec<Duration>, BenchFault> {
-    let mut times = Vec::with_capacity(alloc, sent.len())?;
+    times: &mut Vec<Duration>,
+) -> Result<(), AllocError> {
     for (start, end) in sent.iter().zip(received.iter()) {
-        if times.push(end.duration_since(*start)).is_err() {
-            return Err(BenchFault::OutOfMemory);
-        }
+        times.push(end.duration_since(*start))?;
     }
-    Ok(times)
+    Ok(())
 }
 
 /// Returns these two of the given times, of which the shortest comes first.

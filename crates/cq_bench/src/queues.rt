@@ -71,7 +71,7 @@ impl SharedQueue {
     /// Makes a new queue with one cycle of this shape.
     pub fn new(alloc: Global, shape: Shape) -> Result<SharedQueue, BenchFault> {
         let (queue, caller) = new_queue(alloc, shape)?;
-        let queue = Arc::new(alloc, queue).map_err(|_| AllocError)?;
+        let queue = Arc::new(alloc, queue)?;
         Ok(SharedQueue { queue, caller })
     }
 

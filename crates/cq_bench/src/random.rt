@@ -1,5 +1,5 @@
 //! Reading messages by index, in pseudo-random order over a full cycle.
-ghost use Rattle.std.specs.Prelude.{◌≡◌, ◌+◌, ◌<◌, ◌≤◌, None, OnOk};
+ghost use Rattle.std.specs.Prelude.{◌≡◌, ◌+◌, ◌<◌, ◌≤◌, IfOk, None, OnOk};
 ghost use Rattle.cq_bench.specs.Counts.{messages_read};
 ghost use Rattle.cq_words.specs.Values.{IsOf};
 
@@ -120,6 +120,17 @@ fn fill(queue: &Queue, caller: Caller, count: u32) -> Result<(), BenchFault>
     append_all(queue, &mut appender, &[b'x'; LENGTH as usize], count)
 }
 
+/// Appends this many messages, and returns a tailer that starts at the first one.
+fn filled(queue: &Queue, mut caller: Caller, count: u32) -> Result<Tailer, BenchFault>
+    requires of { IsOf queue.now caller }
+    requires idle { caller.view.claim ≡ None }
+    ensures { IfOk result (λ tailer. IsOf queue.now tailer.caller) }
+{
+    let tailer = Tailer::new(queue.split(&mut caller));
+    fill(queue, caller, count)?;
+    Ok(tailer)
+}
+
 /// Returns the best of all repetitions over a new queue of this many messages.
 fn best_reads_of_new<R: AllocGlobal + Clock>(
     rt: &R,
@@ -128,9 +139,8 @@ fn best_reads_of_new<R: AllocGlobal + Clock>(
 ) -> Result<Figure, BenchFault>
     requires some { 0 < count }
 {
-    let (queue, mut caller) = new_queue(rt.alloc(), settings.shape)?;
-    let mut tailer = Tailer::new(queue.split(&mut caller));
-    fill(&queue, caller, count)?;
+    let (queue, caller) = new_queue(rt.alloc(), settings.shape)?;
+    let mut tailer = filled(&queue, caller, count)?;
     best_reads(rt, settings, &queue, &mut tailer, count)
 }
 

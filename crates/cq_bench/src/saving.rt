@@ -119,6 +119,18 @@ fn time_to_read<R: AllocGlobal + Clock>(
     Ok(now(rt)?.duration_since(start))
 }
 
+/// Opens a queue with these contents, and reads this many messages. Returns the time since a start.
+fn time_to_read_of<R: AllocGlobal + Clock>(
+    rt: &R,
+    shape: Shape,
+    contents: &Contents,
+    count: u32,
+    start: Instant,
+) -> Result<Duration, BenchFault> {
+    let (queue, caller) = reopened(rt.alloc(), shape, contents)?;
+    time_to_read(rt, &queue, &mut Tailer::new(caller), count, start)
+}
+
 /// Reads an image, opens a queue with its contents, and reads this many messages. Returns the time that it took.
 fn reopen_time<R: AllocGlobal + Clock>(
     rt: &R,
@@ -128,8 +140,7 @@ fn reopen_time<R: AllocGlobal + Clock>(
 ) -> Result<Duration, BenchFault> {
     let start = now(rt)?;
     let contents = contents_in(rt.alloc(), shape, image)?;
-    let (queue, caller) = reopened(rt.alloc(), shape, &contents)?;
-    time_to_read(rt, &queue, &mut Tailer::new(caller), count, start)
+    time_to_read_of(rt, shape, &contents, count, start)
 }
 
 /// Measures how long it takes to save a queue.

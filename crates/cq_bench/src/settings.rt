@@ -8,6 +8,12 @@ use std::time::Duration;
 /// The shape if none is given.
 const SHAPE: &str = "1048576,256,16";
 
+/// The most repetitions.
+const MOST_REPETITIONS: u32 = 1000;
+
+/// The most seconds of a soak.
+const MOST_SECONDS: u32 = 1_000_000;
+
 /// What every case is given.
 #[derive(Clone, Copy)]
 pub struct Settings {
@@ -41,18 +47,13 @@ impl Settings {
     /// Reads the settings from the environment. `CQ_SHAPE` has the cells of a cycle, the entries of a table and the
     /// spacing; `REPS` says how often each case is measured, and `CQ_SECONDS` how long a soak lasts.
     pub fn of_environment<R: AllocGlobal + Env>(rt: &R) -> Result<Settings, SettingFault> {
-        let Some(shape) = variable(rt, "CQ_SHAPE", SHAPE).and_then(|text| shape_of(text.as_str()))
-        else {
+        let Some(shape) = shape_in(rt) else {
             return Err(SettingFault::BadShape);
         };
-        let Some(repetitions) = variable(rt, "REPS", "3").and_then(|text| repetitions_of(
-            text.as_str(),
-        )) else {
+        let Some(repetitions) = number_in(rt, "REPS", "3", MOST_REPETITIONS) else {
             return Err(SettingFault::BadRepetitions);
         };
-        let Some(seconds) = variable(rt, "CQ_SECONDS", "600").and_then(|text| seconds_of(
-            text.as_str(),
-        )) else {
+        let Some(seconds) = number_in(rt, "CQ_SECONDS", "600", MOST_SECONDS) else {
             return Err(SettingFault::BadSeconds);
         };
         Ok(Settings {
@@ -89,6 +90,18 @@ fn variable<R: AllocGlobal + Env>(rt: &R, name: &str, otherwise: &str) -> Option
     }
 }
 
+/// Reads the shape from the environment.
+fn shape_in<R: AllocGlobal + Env>(rt: &R) -> Option<Shape> {
+    let text = variable(rt, "CQ_SHAPE", SHAPE)?;
+    shape_of(text.as_str())
+}
+
+/// Reads a number from 1 to `most` from an environment variable, or from the given text if it is not set.
+fn number_in<R: AllocGlobal + Env>(rt: &R, name: &str, otherwise: &str, most: u32) -> Option<u32> {
+    let text = variable(rt, name, otherwise)?;
+    number_up_to(text.as_str(), most)
+}
+
 /// Returns the shape of three numbers.
 fn shape_of(text: &str) -> Option<Shape> {
     let mut parts = text.split(',');
@@ -110,10 +123,10 @@ fn number_of(text: Option<&str>) -> Option<u32> {
     text?.parse::<u32>().ok()
 }
 
-fn repetitions_of(text: &str) -> Option<u32> {
-    number_of(Some(text)).filter(|count| 1 <= *count && *count <= 1000)
-}
-
-fn seconds_of(text: &str) -> Option<u32> {
-    number_of(Some(text)).filter(|count| 1 <= *count && *count <= 1_000_000)
+/// Returns a number from 1 to `most`.
+fn number_up_to(text: &str, most: u32) -> Option<u32> {
+    match number_of(Some(text)) {
+        Some(number) if 1 <= number && number <= most => Some(number),
+        _ => None,
+    }
 }

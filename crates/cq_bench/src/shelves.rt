@@ -34,29 +34,35 @@ pub enum Measured {
 }
 
 impl Measured {
-    /// The names in the lines: of the shelf, of queues one after the other, of large queues, of large queues that were
-    /// made before and are freed after, and of the shelf's shares of the speeds of the last two.
-    fn names(self) -> [&'static str; 6] {
+    /// The names and the units in the lines.
+    fn lines(self) -> &'static [(&'static str, &'static str); 6] {
         match self {
-            Measured::Appends => [
-                "shelf_append",
-                "shelf_append_queues",
-                "shelf_append_large",
-                "shelf_append_made",
-                "shelf_append_of_large",
-                "shelf_append_of_made",
-            ],
-            Measured::Reads => [
-                "shelf_read",
-                "shelf_read_queues",
-                "shelf_read_large",
-                "shelf_read_made",
-                "shelf_read_of_large",
-                "shelf_read_of_made",
-            ],
+            Measured::Appends => &APPEND_LINES,
+            Measured::Reads => &READ_LINES,
         }
     }
 }
+
+/// The name and the unit in the lines of appends: of the shelf, of queues one after the other, of large queues, of large
+/// queues that were made before and are freed after, and of the shelf's shares of the speeds of the last two.
+static APPEND_LINES: [(&str, &str); 6] = [
+    ("shelf_append", "msg/s"),
+    ("shelf_append_queues", "msg/s"),
+    ("shelf_append_large", "msg/s"),
+    ("shelf_append_made", "msg/s"),
+    ("shelf_append_of_large", "ratio"),
+    ("shelf_append_of_made", "ratio"),
+];
+
+/// The same of reads.
+static READ_LINES: [(&str, &str); 6] = [
+    ("shelf_read", "msg/s"),
+    ("shelf_read_queues", "msg/s"),
+    ("shelf_read_large", "msg/s"),
+    ("shelf_read_made", "msg/s"),
+    ("shelf_read_of_large", "ratio"),
+    ("shelf_read_of_made", "ratio"),
+];
 
 /// How long each part took so far.
 #[derive(Clone, Copy)]
@@ -76,9 +82,11 @@ impl Times {
         freeing: Duration::ZERO,
     };
 
-    /// Adds the making of a queue between these moments.
-    fn add_making(&mut self, start: Instant, end: Instant) {
+    /// Adds the making of a queue, from this moment until now.
+    fn add_making(&mut self, clock: &impl Clock, start: Instant) -> Result<(), BenchFault> {
+        let end = now(clock)?;
         self.making = self.making.saturating_add(end.duration_since(start));
+        Ok(())
     }
 
     /// Adds appends between the first two of these moments, and reads between the last two.
@@ -87,9 +95,11 @@ impl Times {
         self.reads = self.reads.saturating_add(end.duration_since(middle));
     }
 
-    /// Adds the freeing of a queue between these moments.
-    fn add_freeing(&mut self, start: Instant, end: Instant) {
+    /// Adds the freeing of a queue, from this moment until now.
+    fn add_freeing(&mut self, clock: &impl Clock, start: Instant) -> Result<(), BenchFault> {
+        let end = now(clock)?;
         self.freeing = self.freeing.saturating_add(end.duration_since(start));
+        Ok(())
     }
 
     /// The time of all that is measured.
@@ -219,29 +229,89 @@ fn read_from_shelf(
     Ok(())
 }
 
+/// A shelf: its writer, and its reader.
+#[derive(Drop)]
+struct ShelfEnds {
+    writer: ShelfWriter,
+    reader: ShelfReader,
+}
+
+/// Makes the writer of a shelf with queues of this shape.
+fn shelf_writer(alloc: Global, shape: Shape) -> Result<ShelfWriter, BenchFault> {
+    let config = config_of(alloc, shape)?;
+    Ok(ShelfWriter::create(alloc, config, PLACES, AtLimit::Refuse, MOMENT)?)
+}
+
+/// Makes a shelf with queues of this shape.
+fn shelf_ends(alloc: Global, shape: Shape) -> Result<ShelfEnds, BenchFault> {
+    let mut writer = shelf_writer(alloc, shape)?;
+    let reader = writer.reader()?;
+    Ok(ShelfEnds { writer, reader })
+}
+
+/// The same, and adds the time that it takes.
+fn new_shelf<R: AllocGlobal + Clock>(
+    rt: &R,
+    shape: Shape,
+    times: &mut Times,
+) -> Result<ShelfEnds, BenchFault> {
+    let start = now(rt)?;
+    let ends = shelf_ends(rt.alloc(), shape)?;
+    times.add_making(rt, start)?;
+    Ok(ends)
+}
+
+/// Appends a load to a shelf, and reads it.
+fn move_by_shelf<R: AllocGlobal + Clock>(
+    rt: &R,
+    ends: &mut ShelfEnds,
+    load: &Load,
+    room: &mut [u8],
+    times: &mut Times,
+) -> Result<(), BenchFault> {
+    let start = now(rt)?;
+    append_to_shelf(rt.alloc(), &mut ends.writer, load)?;
+    let middle = now(rt)?;
+    read_from_shelf(&mut ends.reader, room, load.count)?;
+    times.add_calls(start, middle, now(rt)?);
+    Ok(())
+}
+
+/// Appends and reads these loads, one after the other.
+fn move_all_by_shelf<R: AllocGlobal + Clock>(
+    rt: &R,
+    ends: &mut ShelfEnds,
+    loads: Loads,
+    room: &mut [u8],
+    times: &mut Times,
+) -> Result<(), BenchFault> {
+    for _ in 0..loads.count {
+        move_by_shelf(rt, ends, loads.load, room, times)?;
+    }
+    Ok(())
+}
+
+/// Frees a shelf, and adds the time that it takes.
+fn free_shelf<R: Clock>(rt: &R, ends: ShelfEnds, times: &mut Times) -> Result<(), BenchFault> {
+    let start = now(rt);
+    drop(ends);
+    times.add_freeing(rt, start?)
+}
+
 /// Measures a shelf. Its later queues are made by appends, and freed by reads.
 fn shelf_times<R: AllocGlobal + Clock>(
     rt: &R,
     plan: &Plan,
     room: &mut [u8],
 ) -> Result<Times, BenchFault> {
+    let loads = Loads {
+        load: &plan.load,
+        count: plan.small.count,
+    };
     let mut times = Times::ZERO;
-    let start = now(rt)?;
-    let config = config_of(rt.alloc(), plan.small.shape)?;
-    let mut writer = ShelfWriter::create(rt.alloc(), config, PLACES, AtLimit::Refuse, MOMENT)?;
-    let mut reader = writer.reader()?;
-    times.add_making(start, now(rt)?);
-    for _ in 0..plan.small.count {
-        let start = now(rt)?;
-        append_to_shelf(rt.alloc(), &mut writer, &plan.load)?;
-        let middle = now(rt)?;
-        read_from_shelf(&mut reader, room, plan.load.count)?;
-        times.add_calls(start, middle, now(rt)?);
-    }
-    let start = now(rt)?;
-    drop(writer);
-    drop(reader);
-    times.add_freeing(start, now(rt)?);
+    let mut ends = new_shelf(rt, plan.small.shape, &mut times)?;
+    move_all_by_shelf(rt, &mut ends, loads, room, &mut times)?;
+    free_shelf(rt, ends, &mut times)?;
     Ok(times)
 }
 
@@ -252,19 +322,27 @@ struct Ends {
     reader: Endpoint,
 }
 
+/// Makes the endpoint of a queue of this shape.
+fn queue_writer(alloc: Global, shape: Shape) -> Result<Endpoint, BenchFault> {
+    Ok(Endpoint::create(alloc, config_of(alloc, shape)?, MOMENT)?)
+}
+
 /// Makes a queue of this shape.
+fn queue_ends(alloc: Global, shape: Shape) -> Result<Ends, BenchFault> {
+    let mut writer = queue_writer(alloc, shape)?;
+    let reader = writer.split()?;
+    Ok(Ends { writer, reader })
+}
+
+/// The same, and adds the time that it takes.
 fn new_ends<R: AllocGlobal + Clock>(
     rt: &R,
     shape: Shape,
     times: &mut Times,
 ) -> Result<Ends, BenchFault> {
     let start = now(rt)?;
-    let config = config_of(rt.alloc(), shape)?;
-    let mut writer = Endpoint::create(rt.alloc(), config, MOMENT)?;
-    let reader = writer.split()?;
-    let end = now(rt);
-    let ends = Ends { writer, reader };
-    times.add_making(start, end?);
+    let ends = queue_ends(rt.alloc(), shape)?;
+    times.add_making(rt, start)?;
     Ok(ends)
 }
 
@@ -298,15 +376,11 @@ fn move_all_by_queue<R: Clock>(
     Ok(())
 }
 
-/// Frees a queue.
+/// Frees a queue, and adds the time that it takes.
 fn free_ends<R: Clock>(rt: &R, ends: Ends, times: &mut Times) -> Result<(), BenchFault> {
-    let Ends { writer, reader } = ends;
     let start = now(rt);
-    drop(writer);
-    drop(reader);
-    let end = now(rt)?;
-    times.add_freeing(start?, end);
-    Ok(())
+    drop(ends);
+    times.add_freeing(rt, start?)
 }
 
 /// Measures one queue of this shape: it is made, takes these loads, and is freed.
@@ -468,6 +542,20 @@ fn rates_of<R: AllocGlobal + Clock>(
     ways.rates(plan.all())
 }
 
+impl Rates {
+    /// What is printed, in the order of the lines.
+    fn spreads(self) -> [Spread; 6] {
+        [
+            self.shelf,
+            self.queues,
+            self.large,
+            self.made,
+            self.shelf.times(self.large),
+            self.shelf.times(self.made),
+        ]
+    }
+}
+
 /// Prints the lines of messages of this length.
 fn print_rates<R: Print>(
     rt: &R,
@@ -476,21 +564,7 @@ fn print_rates<R: Print>(
     length: u32,
     rates: Rates,
 ) -> Result<(), BenchFault> {
-    let Rates {
-        shelf,
-        queues,
-        large,
-        made,
-    } = rates;
-    let spreads = [
-        (shelf, "msg/s"),
-        (queues, "msg/s"),
-        (large, "msg/s"),
-        (made, "msg/s"),
-        (shelf.times(large), "ratio"),
-        (shelf.times(made), "ratio"),
-    ];
-    for (case, (spread, unit)) in measured.names().iter().zip(spreads.iter()) {
+    for ((case, unit), spread) in measured.lines().iter().zip(rates.spreads().iter()) {
         let label = Label {
             case: *case,
             payload: length,

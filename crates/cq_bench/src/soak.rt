@@ -13,7 +13,7 @@ use cq_shelf::{AtLimit, ShelfReader, ShelfTaker, ShelfWriter};
 use std::alloc::Global;
 use std::rt::Clock;
 use std::thread::{Threads, map_vec, sleep};
-use std::time::Duration;
+use std::time::{Duration, Instant};
 
 /// How many readers there are.
 const READERS: u64 = 4;
@@ -102,22 +102,50 @@ fn config_of(alloc: Global, shape: Shape) -> Result<Config, BenchFault> {
     }
 }
 
+/// Makes a shelf, and returns its first writer.
+fn shelf_writer(alloc: Global, shape: Shape) -> Result<ShelfWriter, BenchFault> {
+    let config = config_of(alloc, shape)?;
+    Ok(ShelfWriter::create(alloc, config, PLACES, AtLimit::Refuse, MOMENT)?)
+}
+
 /// Makes the workers of a new shelf.
 fn workers(alloc: Global, shape: Shape) -> Result<Vec<Worker>, BenchFault> {
-    let config = config_of(alloc, shape)?;
-    let mut first = ShelfWriter::create(alloc, config, PLACES, AtLimit::Refuse, MOMENT)?;
     let mut workers = vec![in alloc; Worker::Watch]?;
+    push_all(alloc, shelf_writer(alloc, shape)?, &mut workers)?;
+    Ok(workers)
+}
+
+/// Adds the workers of a shelf that has this writer.
+fn push_all(
+    alloc: Global,
+    mut first: ShelfWriter,
+    workers: &mut Vec<Worker>,
+) -> Result<(), BenchFault> {
+    push_others(alloc, &mut first, workers)?;
+    push(workers, Worker::Write(first, 0))
+}
+
+/// Adds the readers, the takers and the writers but the first one.
+fn push_others(
+    alloc: Global,
+    first: &mut ShelfWriter,
+    workers: &mut Vec<Worker>,
+) -> Result<(), BenchFault> {
     for _ in 0..READERS {
-        workers.push(Worker::Read(first.reader()?))?;
+        push(workers, Worker::Read(first.reader()?))?;
     }
     for _ in 0..TAKERS {
-        workers.push(Worker::Take(first.taker(alloc, NAME)?))?;
+        push(workers, Worker::Take(first.taker(alloc, NAME)?))?;
     }
     for name in 1..WRITERS {
-        workers.push(Worker::Write(first.split()?, name))?;
+        push(workers, Worker::Write(first.split()?, name))?;
     }
-    workers.push(Worker::Write(first, 0))?;
-    Ok(workers)
+    Ok(())
+}
+
+/// Adds what one thread does.
+fn push(workers: &mut Vec<Worker>, worker: Worker) -> Result<(), BenchFault> {
+    Ok(workers.push(worker)?)
 }
 
 /// Does the work of one thread.
@@ -147,18 +175,32 @@ fn watch<R: AllocGlobal + Clock + Print>(
     let step = step_of(settings.soak_time);
     let mut next = step;
     for _ in 0..u64::MAX {
-        sleep(rt, next.saturating_sub(now(rt)?.duration_since(start)));
-        let spent = now(rt)?.duration_since(start);
-        if !settings.is_trial {
-            print_state(rt, tally, spent)?;
-        }
-        if tally.is_over() || is_done(settings, tally, spent) {
+        sleep(rt, next.saturating_sub(since(rt, start)?));
+        if look(rt, settings, tally, since(rt, start)?)? {
             break;
         }
         next = next.saturating_add(step);
     }
     tally.end();
     Ok(())
+}
+
+/// The time since this moment.
+fn since(clock: &impl Clock, start: Instant) -> Result<Duration, BenchFault> {
+    Ok(now(clock)?.duration_since(start))
+}
+
+/// Prints a line, and returns whether the soak is over.
+fn look<R: Print>(
+    rt: &R,
+    settings: &Settings,
+    tally: &Tally,
+    spent: Duration,
+) -> Result<bool, BenchFault> {
+    if !settings.is_trial {
+        print_state(rt, tally, spent)?;
+    }
+    Ok(tally.is_over() || is_done(settings, tally, spent))
 }
 
 /// The time from one line to the next. A line comes at the end of the time, and not later than in the middle.
