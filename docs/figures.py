@@ -202,10 +202,10 @@ PARTS = {"other": "ratio", "threads": "ratio"}
 # What is said before a table, with an empty line between.
 BEFORE = {
     "threads": (
-        "**By the number of threads**, in million messages a second: the middle of five turns of `./bench ratio`, each the best of nine\n"
-        "repetitions. Each message counts once for each tailer that reads it, but in `flow` once. The last columns say how far the turns of\n"
-        "each are apart, in percent of the middle one. Nothing else ran on the machine, but it is a virtual one, and its speed differs from turn\n"
-        "to turn:"
+        "**By the number of threads**, in million messages a second: the middle of three turns of `./bench ratio`, each the best of ten rounds\n"
+        "of three repetitions. The rounds of the turns take turns. Each message counts once for each tailer that reads it, but in `flow` once.\n"
+        "The last columns say how far the turns of each are apart, in percent of the middle one. Nothing else ran on the machine, but it is a\n"
+        "virtual one:"
     ),
     "queues": (
         "**Queues between threads**, in million messages a second: the best of three turns of `./bench peers`. The last two rows say in\n"
