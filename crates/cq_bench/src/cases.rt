@@ -52,7 +52,7 @@ pub enum Word {
     All,
     /// A soak of a shelf.
     Soak,
-    /// A short run of all cases over small queues, without figures.
+    /// A short run of all cases and a soak over small queues, without figures.
     Trial,
 }
 
@@ -132,7 +132,7 @@ static LENGTHS: [u32; 5] = [8, 64, 256, 1024, 4096];
 
 static FLOW_LENGTHS: [u32; 2] = [64, 1024];
 
-/// How many appenders and tailers each crew has that only appends.
+/// The numbers of appenders and tailers of crews that only append.
 static APPENDERS: [(u32, u32); 3] = [(1, 0), (2, 0), (4, 0)];
 
 /// The same of crews that only read.
@@ -141,7 +141,7 @@ static TAILERS: [(u32, u32); 3] = [(0, 1), (0, 2), (0, 4)];
 /// The same of crews that do both.
 static FLOWS: [(u32, u32); 3] = [(1, 1), (1, 3), (3, 1)];
 
-/// A crew of this many appenders and tailers, which read so.
+/// A crew of this many appenders and tailers, which read in this way.
 fn crew(numbers: (u32, u32), reading: Reading) -> Crew {
     let (appenders, tailers) = numbers;
     Crew {
@@ -152,7 +152,7 @@ fn crew(numbers: (u32, u32), reading: Reading) -> Crew {
     }
 }
 
-/// Crews of this many appenders and tailers, which read so.
+/// Crews of this many appenders and tailers, which read in this way.
 fn crews(numbers: &[(u32, u32); 3], reading: Reading) -> [Crew; 3] {
     let [first, second, third] = *numbers;
     [

@@ -189,8 +189,8 @@ fn crew_figure<R: AllocGlobal + Clock + Threads + Sync>(
     crew: Crew,
     length: u32,
 ) -> Result<Figure, BenchFault> {
-    let share = crew.share(message_count(settings.shape, length))?;
     let bytes = Vec::from_elem(rt.alloc(), b'x', length as usize)?;
+    let share = crew.share(message_count(settings.shape, length))?;
     let best = best_time(rt, settings, crew, share, bytes.as_slice())?;
     Ok(Figure::rate(crew.messages(share), best))
 }

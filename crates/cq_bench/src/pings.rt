@@ -12,7 +12,7 @@ use cq_append::Appender;
 use cq_layout::Shape;
 use cq_tail::Tailer;
 use cq_words::Queue;
-use std::alloc::{AllocError, Global};
+use std::alloc::Global;
 use std::rt::Clock;
 use std::thread::{Threads, join};
 use std::time::{Duration, Instant};
@@ -40,7 +40,6 @@ fn send_all<R: Clock>(
     sent: &mut Vec<Instant>,
 ) -> Result<(), BenchFault>
     requires { IsOf queue.now appender.old }
-    ensures { IsOf queue.now appender.new }
 {
     for number in 0..count {
         // The first is sent once the tailer has come.
@@ -56,15 +55,20 @@ fn send_all<R: Clock>(
     Ok(())
 }
 
-/// The same over the queue that an appender shares.
-fn send<R: Clock>(
+/// Appends messages, each once the one before it was read, and returns when each append began.
+fn send<R: AllocGlobal + Clock>(
     rt: &R,
     read: &Gate,
-    shared: &mut SharedAppender,
+    shared: SharedAppender,
     count: u32,
-    sent: &mut Vec<Instant>,
-) -> Result<(), BenchFault> {
-    send_all(rt, read, &shared.queue, &mut shared.appender, count, sent)
+) -> Result<Vec<Instant>, BenchFault> {
+    let SharedAppender {
+        queue,
+        mut appender,
+    } = shared;
+    let mut sent = Vec::with_capacity(rt.alloc(), count as usize)?;
+    send_all(rt, read, &queue, &mut appender, count, &mut sent)?;
+    Ok(sent)
 }
 
 /// Reads messages as they come, and keeps when each was read.
@@ -77,7 +81,6 @@ fn receive_all<R: AllocGlobal + Clock>(
     received: &mut Vec<Instant>,
 ) -> Result<(), BenchFault>
     requires { IsOf queue.now tailer.old.caller }
-    ensures { IsOf queue.now tailer.new.caller }
 {
     read.come();
     for _ in 0..count {
@@ -91,68 +94,41 @@ fn receive_all<R: AllocGlobal + Clock>(
     Ok(())
 }
 
-/// The same over the queue that a tailer shares.
+/// Reads messages as they come, and returns when each was read.
 fn receive<R: AllocGlobal + Clock>(
     rt: &R,
     read: &Gate,
-    shared: &mut SharedTailer,
+    shared: SharedTailer,
     count: u32,
-    received: &mut Vec<Instant>,
-) -> Result<(), BenchFault> {
-    receive_all(rt, read, &shared.queue, &mut shared.tailer, count, received)
+) -> Result<Vec<Instant>, BenchFault> {
+    let SharedTailer { queue, mut tailer } = shared;
+    let mut received = Vec::with_capacity(rt.alloc(), count as usize)?;
+    receive_all(rt, read, &queue, &mut tailer, count, &mut received)?;
+    Ok(received)
 }
 
-/// An appender and a tailer of one queue.
-#[derive(Drop)]
-struct Pair {
-    appender: SharedAppender,
-    tailer: SharedTailer,
+/// Makes an appender and a tailer of a new queue.
+fn new_pair(alloc: Global, shape: Shape) -> Result<(SharedAppender, SharedTailer), BenchFault> {
+    let mut shared = SharedQueue::new(alloc, shape)?;
+    Ok((shared.appender()?, shared.tailer()?))
 }
 
-impl Pair {
-    /// Makes them over this queue.
-    fn of(shared: &mut SharedQueue) -> Result<Pair, AllocError> {
-        Ok(Pair {
-            appender: shared.appender()?,
-            tailer: shared.tailer()?,
-        })
-    }
-}
-
-/// When each append began, and when each message was read.
-#[derive(Drop)]
-struct Moments {
-    sent: Vec<Instant>,
-    received: Vec<Instant>,
-}
-
-impl Moments {
-    /// Makes room for those of this many messages.
-    fn new(alloc: Global, count: u32) -> Result<Moments, AllocError> {
-        Ok(Moments {
-            sent: Vec::with_capacity(alloc, count as usize)?,
-            received: Vec::with_capacity(alloc, count as usize)?,
-        })
-    }
-}
-
-/// Sends and reads this many messages, one at a time, and keeps when.
+/// Returns when each of this many messages was sent and read, one at a time.
 fn send_and_receive<R: AllocGlobal + Clock + Threads + Sync>(
     rt: &R,
-    pair: &mut Pair,
-    moments: &mut Moments,
+    appender: SharedAppender,
+    tailer: SharedTailer,
     count: u32,
-) -> Result<(), BenchFault> {
+) -> (
+    Result<Vec<Instant>, BenchFault>,
+    Result<Vec<Instant>, BenchFault>,
+) {
     let read = Gate::new();
-    let Pair { appender, tailer } = pair;
-    let Moments { sent, received } = moments;
-    let (sending, receiving) = join(
+    join(
         rt,
-        || -> Result<(), BenchFault> { send(rt, &read, appender, count, sent) },
-        || -> Result<(), BenchFault> { receive(rt, &read, tailer, count, received) },
-    );
-    sending?;
-    receiving
+        || -> Result<Vec<Instant>, BenchFault> { send(rt, &read, appender, count) },
+        || -> Result<Vec<Instant>, BenchFault> { receive(rt, &read, tailer, count) },
+    )
 }
 
 /// Measures the times of this many messages, one at a time.
@@ -161,34 +137,26 @@ fn ping_times<R: AllocGlobal + Clock + Threads + Sync>(
     shape: Shape,
     count: u32,
 ) -> Result<Times, BenchFault> {
-    let mut moments = Moments::new(rt.alloc(), count)?;
-    let mut pair = Pair::of(&mut SharedQueue::new(rt.alloc(), shape)?)?;
-    send_and_receive(rt, &mut pair, &mut moments, count)?;
-    times_from(rt.alloc(), &moments)
-}
-
-/// Returns the times of messages that were sent and read then.
-fn times_from(alloc: Global, moments: &Moments) -> Result<Times, BenchFault> {
-    let mut times = Vec::with_capacity(alloc, moments.sent.len())?;
-    push_times(
-        moments.sent.as_slice(),
-        moments.received.as_slice(),
-        &mut times,
-    )?;
+    let (appender, tailer) = new_pair(rt.alloc(), shape)?;
+    let (sent, received) = send_and_receive(rt, appender, tailer, count);
+    let mut times = times_between(rt.alloc(), sent?.as_slice(), received?.as_slice())?;
     times.sort_unstable();
     times_of(times.as_slice())
 }
 
-/// Adds how long each message was on its way.
-fn push_times(
+/// Returns how long each message was on its way.
+fn times_between(
+    alloc: Global,
     sent: &[Instant],
     received: &[Instant],
-    times: &mut Vec<Duration>,
-) -> Result<(), AllocError> {
+) -> Result<Vec<Duration>, BenchFault> {
+    let mut times = Vec::with_capacity(alloc, sent.len())?;
     for (start, end) in sent.iter().zip(received.iter()) {
-        times.push(end.duration_since(*start))?;
+        if times.push(end.duration_since(*start)).is_err() {
+            return Err(BenchFault::OutOfMemory);
+        }
     }
-    Ok(())
+    Ok(times)
 }
 
 /// Returns these two of the given times, of which the shortest comes first.

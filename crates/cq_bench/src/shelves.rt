@@ -43,8 +43,9 @@ impl Measured {
     }
 }
 
-/// The name and the unit in the lines of appends: of the shelf, of queues one after the other, of large queues, of large
-/// queues that were made before and are freed after, and of the shelf's shares of the speeds of the last two.
+/// The name and the unit in the lines of appends. The first four are of the shelf, of queues one after the other, of large
+/// queues, and of large queues that were made before and are freed after. The others are the shelf's shares of the speeds of
+/// the last two.
 static APPEND_LINES: [(&str, &str); 6] = [
     ("shelf_append", "msg/s"),
     ("shelf_append_queues", "msg/s"),
