@@ -203,7 +203,7 @@ PARTS = {"other": "ratio", "threads": "ratio"}
 BEFORE = {
     "threads": (
         "**By the number of threads**, in million messages a second: the middle of three turns of `./bench ratio`, each the best of ten rounds\n"
-        "of three repetitions. The rounds of the turns take turns. Each message counts once for each tailer that reads it, but in `flow` once.\n"
+        "of three repetitions. The turns go round by round. Each message counts once for each tailer that reads it, but in `flow` once.\n"
         "The last columns say how far the turns of each are apart, in percent of the middle one. Nothing else ran on the machine, but it is a\n"
         "virtual one:"
     ),
