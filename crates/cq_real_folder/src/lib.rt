@@ -7,5 +7,6 @@
 
 mod real;
 mod record;
+mod saving;
 
 pub use real::RealFolder;

@@ -1,4 +1,5 @@
-ghost use Rattle.std.specs.Prelude.{◌≡◌, None, option_map};
+ghost use Rattle.std.specs.Prelude.{◌≡◌, ◌≢◌, Err, IfOk, None, Ok, option_map};
+ghost use Rattle.cq_folder.specs.Folder.{IsCounted};
 
 mod entering;
 mod locking;
@@ -31,16 +32,10 @@ use std::rt::Files;
 /// without leading zeros. That it removes these and no others is tested.
 #[derive(Drop)]
 pub struct RealFolder<'a, R: Files<File = File> + AllocGlobal + Clone + Drop> {
-    rt: &'a R,
-    path: String,
-    /// The number of this process.
-    process: u32,
+    /// Its files.
+    files: Directory<'a, R>,
     /// The lock of the folder; `None` if no command is in it.
     lock: Option<Lock>,
-    /// The record that is there, through which files are listed and read.
-    record: Option<Record>,
-    /// Whether a record was removed, and that may not be on the device yet.
-    may_come_back: bool,
     /// The number of calls that returned `Device`, up to 2^64 - 1.
     pub failures: u64,
 }
@@ -48,22 +43,39 @@ pub struct RealFolder<'a, R: Files<File = File> + AllocGlobal + Clone + Drop> {
 impl<'a, R: Files<File = File> + AllocGlobal + Clone + Drop> RealFolder<'a, R> {
     /// Makes a folder of this path, for the process with this number. It does not look at the path yet.
     pub fn new(rt: &'a R, path: String, process: u32) -> Self
-        ensures path { result.path ≡ path }
-        ensures process { result.process ≡ process }
+        ensures path { result.files.path ≡ path }
+        ensures process { result.files.process ≡ process }
         ensures unlocked { result.lock ≡ None }
         ensures none { result.failures ≡ 0 }
     {
         RealFolder {
-            rt,
-            path,
-            process,
+            files: Directory {
+                rt,
+                path,
+                process,
+                record: None,
+                may_come_back: false,
+            },
             lock: None,
-            record: None,
-            may_come_back: false,
             failures: 0,
         }
     }
+}
 
+/// The files of a folder, and what is left of the saves of this process and of earlier ones.
+#[derive(Drop)]
+struct Directory<'a, R: Files<File = File> + AllocGlobal + Clone + Drop> {
+    rt: &'a R,
+    path: String,
+    /// The number of this process.
+    process: u32,
+    /// The record that is there, through which files are listed and read.
+    record: Option<Record>,
+    /// Whether a record was removed, and that may not be on the device yet.
+    may_come_back: bool,
+}
+
+impl<'a, R: Files<File = File> + AllocGlobal + Clone + Drop> Directory<'a, R> {
     fn path_of(&self, name: &str) -> Result<String, AllocError> {
         format!(in self.rt.alloc(); "{}/{name}", self.path)
     }
@@ -87,6 +99,18 @@ fn unless_missing(done: io::Result<()>) -> io::Result<()> {
     }
 }
 
+/// Returns what a call did, or the fault for its error. A fault of the device is counted.
+fn counted<T>(failures: &mut u64, done: io::Result<T>) -> Result<T, FolderFault>
+    ensures same { IfOk result (λ value. done ≡ Ok value) }
+    ensures fits { result ≢ Err FolderFault.TooLarge }
+    ensures counted { IsCounted failures.old failures.new result }
+{
+    match done {
+        Ok(value) => Ok(value),
+        Err(error) => Err(fault_of(failures, &error)),
+    }
+}
+
 impl<'a, R: Files<File = File> + AllocGlobal + Clone + Drop> Folder for RealFolder<'a, R> {
     ghost failed = { λ folder. folder.failures };
 
@@ -107,32 +131,25 @@ impl<'a, R: Files<File = File> + AllocGlobal + Clone + Drop> Folder for RealFold
     }
 
     fn names(&mut self, alloc: Global) -> Result<Vec<String>, FolderFault> {
-        match self.list_through(alloc) {
-            Ok(names) => Ok(names),
-            Err(error) => Err(fault_of(&mut self.failures, &error)),
-        }
+        let done = self.files.list_through(alloc);
+        counted(&mut self.failures, done)
     }
 
     fn read(&mut self, alloc: Global, name: &str, limit: usize) -> Result<Vec<u8>, FolderFault> {
-        match self.read_through(alloc, name, limit) {
+        match self.files.read_through(alloc, name, limit) {
             Ok(bytes) if bytes.len() > limit => Err(FolderFault::TooLarge),
-            Ok(bytes) => Ok(bytes),
-            Err(error) => Err(fault_of(&mut self.failures, &error)),
+            read => counted(&mut self.failures, read),
         }
     }
 
     fn write(&mut self, name: &str, bytes: &[u8]) -> Result<(), FolderFault> {
-        match self.replace(name, bytes) {
-            Ok(()) => Ok(()),
-            Err(error) => Err(fault_of(&mut self.failures, &error)),
-        }
+        let done = self.files.replace(name, bytes);
+        counted(&mut self.failures, done)
     }
 
     fn save(&mut self, changes: &[NewFile]) -> Result<(), FolderFault> {
-        match self.replace_some(changes) {
-            Ok(()) => Ok(()),
-            Err(error) => Err(fault_of(&mut self.failures, &error)),
-        }
+        let done = self.files.replace_and_remove(changes, &[]);
+        counted(&mut self.failures, done)
     }
 
     fn save_and_remove(
@@ -140,10 +157,8 @@ impl<'a, R: Files<File = File> + AllocGlobal + Clone + Drop> Folder for RealFold
         changes: &[NewFile],
         removed: &[String],
     ) -> Result<(), FolderFault> {
-        match self.replace_and_remove(changes, removed) {
-            Ok(()) => Ok(()),
-            Err(error) => Err(fault_of(&mut self.failures, &error)),
-        }
+        let done = self.files.replace_and_remove(changes, removed);
+        counted(&mut self.failures, done)
     }
 
     fn access(&self) -> Option<Access> {

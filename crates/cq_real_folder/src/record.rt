@@ -22,20 +22,6 @@ pub(crate) struct Record {
 }
 
 impl Record {
-    /// Returns whether a part replaces the file.
-    pub fn has(&self, name: &str) -> bool
-        ensures { result ≡ list_any (λ named. bytes_eq (string_bytes named) name.now) self.now.names.items }
-    {
-        self.names.iter().any(|named| named.as_str() == name)
-    }
-
-    /// Returns whether the file is removed.
-    pub fn removes(&self, name: &str) -> bool
-        ensures { result ≡ list_any (λ named. bytes_eq (string_bytes named) name.now) self.now.removed.items }
-    {
-        self.removed.iter().any(|named| named.as_str() == name)
-    }
-
     /// Returns the form of the record's text: 1 if no file is removed, and else 2.
     fn form(&self) -> u32
         ensures { result ≡ form_of self.now.removed.items }
@@ -75,7 +61,10 @@ impl Record {
         let Some(record) = Record::of_lines(alloc, text)? else {
             return Ok(None);
         };
-        if record.names_none() || record.text(alloc)?.as_bytes() != text {
+        if record.names_none() {
+            return Ok(None);
+        }
+        if record.text(alloc)?.as_bytes() != text {
             return Ok(None);
         }
         Ok(Some(record))
@@ -86,6 +75,17 @@ impl Record {
         ensures { IsTrue result ↔ (vec_len self.now.names + vec_len self.now.removed ≡ 0) }
     {
         self.names.is_empty() && self.removed.is_empty()
+    }
+
+    /// Makes the names of the files in a folder those that the folder has once the save is done.
+    pub fn apply(&self, alloc: Global, names: &mut Vec<String>) -> Result<(), AllocError> {
+        for name in &self.names {
+            if !has_name(names.as_slice(), name.as_str()) {
+                names.push(String::from_str(alloc, name.as_str())?)?;
+            }
+        }
+        names.retain(|name| !has_name(self.removed.as_slice(), name.as_str()));
+        Ok(())
     }
 
     /// Returns the process and the names on the lines of a text, whose form is not checked in full.
@@ -110,6 +110,13 @@ impl Record {
             removed,
         }))
     }
+}
+
+/// Returns whether a name is one of these.
+pub(crate) fn has_name(names: &[String], name: &str) -> bool
+    ensures { result ≡ list_any (λ named. bytes_eq (string_bytes named) name.now) names.now }
+{
+    names.iter().any(|named| named.as_str() == name)
 }
 
 /// Adds names to a text, each on a line.

@@ -3,7 +3,7 @@
 ghost use Rattle.std.specs.Prelude.{◌≡◌, IfOk, None, OnOk, Some, option_map};
 
 use super::locking::Lock;
-use super::{RealFolder, unless_missing};
+use super::{Directory, RealFolder, unless_missing};
 use crate::record::{Record, is_part_name};
 use cq_folder::{Access, RECORD_FILE};
 use std::alloc::Global;
@@ -21,18 +21,10 @@ impl<'a, R: Files<File = File> + AllocGlobal + Clone + Drop> RealFolder<'a, R> {
         ensures inside { OnOk result (option_map (λ lock. lock.access) self.new.lock ≡ Some access) }
     {
         self.leave();
-        let lock = self.locked(access)?;
+        let lock = self.files.locked(access)?;
         let is_held = lock.is_held;
         self.lock = Some(lock);
-        self.record = self.record_there(alloc)?;
-        if access == Access::Alone {
-            self.finish_earlier()?;
-            // Without locks, a part may be that of a process that is running.
-            if is_held {
-                self.sweep(alloc)?;
-            }
-        }
-        Ok(())
+        self.files.resume(alloc, access, is_held)
     }
 
     /// Releases the lock.
@@ -41,9 +33,11 @@ impl<'a, R: Files<File = File> + AllocGlobal + Clone + Drop> RealFolder<'a, R> {
         ensures outside { self.new.lock ≡ None }
     {
         self.lock = None;
-        self.record = None;
+        self.files.record = None;
     }
+}
 
+impl<'a, R: Files<File = File> + AllocGlobal + Clone + Drop> Directory<'a, R> {
     /// Returns the folder, opened and locked.
     fn locked(&self, access: Access) -> io::Result<Lock>
         ensures { IfOk result (λ lock. lock.access ≡ access) }
@@ -55,20 +49,26 @@ impl<'a, R: Files<File = File> + AllocGlobal + Clone + Drop> RealFolder<'a, R> {
         Lock::of(File::open(self.rt, self.path.as_str())?, access)
     }
 
+    /// Looks for a save that was cut short. A command that is alone does what is left of it, and removes the parts that are left
+    /// if the lock is held: without locks, a part may be that of a process that is running.
+    fn resume(&mut self, alloc: Global, access: Access, is_held: bool) -> io::Result<()> {
+        self.record = self.record_there(alloc)?;
+        if access == Access::Alone {
+            self.finish_earlier()?;
+            if is_held {
+                self.sweep(alloc)?;
+            }
+        }
+        Ok(())
+    }
+
     /// Returns the record that is there. A file of that name that is no record, or too long for one, is an error.
     fn record_there(&self, alloc: Global) -> io::Result<Option<Record>> {
         let path = self.path_of(RECORD_FILE)?;
-        let text = match self.read_plain(alloc, path.as_str(), MOST_RECORD_BYTES) {
-            Ok(text) => text,
-            Err(error) if error.kind() == ErrorKind::NotFound => return Ok(None),
-            Err(error) => return Err(error),
-        };
-        if text.len() > MOST_RECORD_BYTES {
-            return Err(io::Error::from(ErrorKind::InvalidData));
-        }
-        match Record::read(alloc, text.as_slice())? {
-            Some(record) => Ok(Some(record)),
-            None => Err(io::Error::from(ErrorKind::InvalidData)),
+        match self.read_plain(alloc, path.as_str(), MOST_RECORD_BYTES) {
+            Ok(text) => Ok(Some(record_in(alloc, text.as_slice())?)),
+            Err(error) if error.kind() == ErrorKind::NotFound => Ok(None),
+            Err(error) => Err(error),
         }
     }
 
@@ -76,10 +76,7 @@ impl<'a, R: Files<File = File> + AllocGlobal + Clone + Drop> RealFolder<'a, R> {
     /// or an error kept this one from it.
     ///
     /// The record may not be on the device yet: without it, a crash could keep some of the renames and lose the others.
-    pub(super) fn finish_earlier(&mut self) -> io::Result<()>
-        ensures failures { self.new.failures ≡ self.old.failures }
-        ensures locked { self.new.lock ≡ self.old.lock }
-    {
+    pub(super) fn finish_earlier(&mut self) -> io::Result<()> {
         if self.record.is_some() {
             self.confirm()?;
             self.settle()?;
@@ -88,10 +85,7 @@ impl<'a, R: Files<File = File> + AllocGlobal + Clone + Drop> RealFolder<'a, R> {
     }
 
     /// Does what is left of the save whose record is there, and on the device.
-    pub(super) fn settle(&mut self) -> io::Result<()>
-        ensures failures { self.new.failures ≡ self.old.failures }
-        ensures locked { self.new.lock ≡ self.old.lock }
-    {
+    pub(super) fn settle(&mut self) -> io::Result<()> {
         if let Some(record) = &self.record {
             self.finish(record)?;
         }
@@ -114,11 +108,22 @@ impl<'a, R: Files<File = File> + AllocGlobal + Clone + Drop> RealFolder<'a, R> {
 
     /// Removes the parts of saves that were cut short before their record was there.
     fn sweep(&self, alloc: Global) -> io::Result<()> {
-        for name in self.list(alloc)? {
+        let names = self.list(alloc)?;
+        for name in &names {
             if is_part_name(alloc, name.as_str())? {
                 let _ = fs::remove_file(self.rt, self.path_of(name.as_str())?.as_str());
             }
         }
         Ok(())
     }
+}
+
+/// Returns the record with this text. A text that is no record, or too long for one, is an error.
+fn record_in(alloc: Global, text: &[u8]) -> io::Result<Record> {
+    if text.len() <= MOST_RECORD_BYTES
+        && let Some(record) = Record::read(alloc, text)?
+    {
+        return Ok(record);
+    }
+    Err(io::Error::from(ErrorKind::InvalidData))
 }

@@ -1,22 +1,18 @@
 //! Lists a folder and reads its files, through the record of a save that was cut short.
 
-use super::RealFolder;
+use super::Directory;
+use crate::record::has_name;
 use std::alloc::{AllocError, Global};
 use std::fs::{self, File};
 use std::io::{self, BufRead, BufReader, ErrorKind, Read};
 use std::rt::Files;
 
-impl<'a, R: Files<File = File> + AllocGlobal + Clone + Drop> RealFolder<'a, R> {
+impl<'a, R: Files<File = File> + AllocGlobal + Clone + Drop> Directory<'a, R> {
     /// Returns the names in the folder, with those of the record that is there, and without those that it removes.
     pub(super) fn list_through(&self, alloc: Global) -> io::Result<Vec<String>> {
         let mut names = self.list(alloc)?;
         if let Some(record) = &self.record {
-            for name in &record.names {
-                if !names.iter().any(|listed| listed.as_str() == name.as_str()) {
-                    names.push(String::from_str(alloc, name.as_str())?)?;
-                }
-            }
-            names.retain(|name| !record.removes(name.as_str()));
+            record.apply(alloc, &mut names)?;
         }
         Ok(names)
     }
@@ -24,13 +20,7 @@ impl<'a, R: Files<File = File> + AllocGlobal + Clone + Drop> RealFolder<'a, R> {
     /// Returns the names in the folder. In a name that is not UTF-8, U+FFFD replaces what is no text; no file can be
     /// read by that name.
     pub(super) fn list(&self, alloc: Global) -> io::Result<Vec<String>> {
-        let mut names = Vec::new(alloc);
-        let folder = self.rt.open_dir(self.path_of("")?.as_str())?;
-        // Each name ends with a zero byte, and no read ends inside a name: a small buffer would be refused.
-        for name in BufReader::new(alloc, folder)?.split(alloc, 0) {
-            push_name(alloc, &mut names, name?.as_slice())?;
-        }
-        Ok(names)
+        names_in(alloc, self.rt.open_dir(self.path_of("")?.as_str())?)
     }
 
     /// Reads the bytes of a file, at most `limit + 1` of them. If the record that is there replaces the file, they are
@@ -42,12 +32,12 @@ impl<'a, R: Files<File = File> + AllocGlobal + Clone + Drop> RealFolder<'a, R> {
         limit: usize,
     ) -> io::Result<Vec<u8>> {
         if let Some(record) = &self.record
-            && record.removes(name)
+            && has_name(record.removed.as_slice(), name)
         {
             return Err(io::Error::from(ErrorKind::NotFound));
         }
         if let Some(record) = &self.record
-            && record.has(name)
+            && has_name(record.names.as_slice(), name)
         {
             let part = self.part_of(name, record.process)?;
             match self.read_plain(alloc, part.as_str(), limit) {
@@ -68,12 +58,26 @@ impl<'a, R: Files<File = File> + AllocGlobal + Clone + Drop> RealFolder<'a, R> {
         if !fs::symlink_metadata(self.rt, path)?.is_file() {
             return Err(io::Error::from(ErrorKind::InvalidInput));
         }
-        let file = File::open(self.rt, path)?;
-        let mut bytes = Vec::new(alloc);
-        file.take((limit as u64).saturating_add(1))
-            .read_to_end(&mut bytes)?;
-        Ok(bytes)
+        bytes_in(alloc, File::open(self.rt, path)?, limit)
     }
+}
+
+/// Reads the bytes of an open file, at most `limit + 1` of them.
+fn bytes_in(alloc: Global, file: File, limit: usize) -> io::Result<Vec<u8>> {
+    let mut bytes = Vec::new(alloc);
+    file.take((limit as u64).saturating_add(1))
+        .read_to_end(&mut bytes)?;
+    Ok(bytes)
+}
+
+/// Returns the names that an open folder lists.
+fn names_in<D: Read + Drop>(alloc: Global, folder: D) -> io::Result<Vec<String>> {
+    let mut names = Vec::new(alloc);
+    // Each name ends with a zero byte, and no read ends inside a name: a small buffer would be refused.
+    for name in BufReader::new(alloc, folder)?.split(alloc, 0) {
+        push_name(alloc, &mut names, name?.as_slice())?;
+    }
+    Ok(names)
 }
 
 /// Adds a name that a folder lists, unless it is that of the folder itself or of its parent.
