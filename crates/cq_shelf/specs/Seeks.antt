@@ -105,10 +105,6 @@ pub data ReadsAtFails (at : Position) (old new : Place) (fault : ShelfFault) : T
       → Does (λ e f. ReadAtFails e.queue e.tailer f.tailer at.index × ChangesTailer e f) old new → ReadsAtFails at old new fault
   fails_elsewhere : at.queue ≢ old.number → IsStepFault fault → new ≡ old → ReadsAtFails at old new fault
 
--- a reader stayed where it was, since it did not come to another queue
-abbrev pub StaysThere : Place → Place → ShelfFault → Type 0
-StaysThere old new fault = (new ≡ old) × IsStepFault fault
-
 -- it did not come to the last queue
 abbrev pub EndsNot : Place → Place → ShelfFault → Type 0
 EndsNot old new fault = Comes Goes old new × IsStepFault fault

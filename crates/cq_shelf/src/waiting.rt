@@ -55,6 +55,25 @@ impl Patience {
     }
 }
 
+/// Makes a call until its answer does not say to wait, or this time is up. It sleeps between its tries.
+macro_rules! while_waiting {
+    ($rt:ident, $time:ident, $call:expr, $waits:path) => {{
+        let Some(mut patience) = Patience::new($rt, $time) else {
+            return $call;
+        };
+        for _ in $rt.forever() {
+            let answer = $call;
+            if !$waits(&answer) {
+                return answer;
+            }
+            if !patience.sleep($rt) {
+                return answer;
+            }
+        }
+        unreachable!()
+    }};
+}
+
 /// Whether an error passes by itself, so that one waits.
 fn passes_by(fault: ShelfFault) -> bool
     ensures { IsTrue result → PassesBy fault }
@@ -70,8 +89,7 @@ fn next_waits(answer: &Result<ShelfNext, ShelfFault>) -> bool
     ensures { IsTrue result → NextWaits answer.now }
 {
     match answer {
-        Ok(ShelfNext::NotYet) => true,
-        Ok(_) => false,
+        Ok(next) => matches!(next, ShelfNext::NotYet),
         Err(fault) => passes_by(*fault),
     }
 }
@@ -81,8 +99,7 @@ fn take_waits(answer: &Result<ShelfTaken, ShelfFault>) -> bool
     ensures { IsTrue result → TakeWaits answer.now }
 {
     match answer {
-        Ok(ShelfTaken::NotYet | ShelfTaken::Moved(_)) => true,
-        Ok(_) => false,
+        Ok(taken) => matches!(taken, ShelfTaken::NotYet | ShelfTaken::Moved(_)),
         Err(fault) => passes_by(*fault),
     }
 }
@@ -110,19 +127,7 @@ impl ShelfReader {
     ) -> Result<ShelfNext, ShelfFault>
         ensures { Waits NextOn NextWaits self.old.place self.new.place result }
     {
-        let Some(mut patience) = Patience::new(rt, time) else {
-            return self.next(rt.alloc());
-        };
-        for _ in rt.forever() {
-            let answer = self.next(rt.alloc());
-            if !next_waits(&answer) {
-                return answer;
-            }
-            if !patience.sleep(rt) {
-                return answer;
-            }
-        }
-        unreachable!()
+        while_waiting!(rt, time, self.next(rt.alloc()), next_waits)
     }
 }
 
@@ -139,19 +144,7 @@ impl ShelfTaker {
     ) -> Result<ShelfTaken, ShelfFault>
         ensures { Waits TakenOn TakeWaits self.old self.new result }
     {
-        let Some(mut patience) = Patience::new(rt, time) else {
-            return self.take(rt.alloc());
-        };
-        for _ in rt.forever() {
-            let answer = self.take(rt.alloc());
-            if !take_waits(&answer) {
-                return answer;
-            }
-            if !patience.sleep(rt) {
-                return answer;
-            }
-        }
-        unreachable!()
+        while_waiting!(rt, time, self.take(rt.alloc()), take_waits)
     }
 }
 
@@ -169,18 +162,11 @@ impl ShelfWriter {
     ) -> Result<Position, ShelfFault>
         ensures { Waits (AppendsOn moment bytes.now) AppendWaits self.old.place self.new.place result }
     {
-        let Some(mut patience) = Patience::new(rt, time) else {
-            return self.append(rt.alloc(), moment, bytes);
-        };
-        for _ in rt.forever() {
-            let answer = self.append(rt.alloc(), moment, bytes);
-            if !append_waits(&answer) {
-                return answer;
-            }
-            if !patience.sleep(rt) {
-                return answer;
-            }
-        }
-        unreachable!()
+        while_waiting!(
+            rt,
+            time,
+            self.append(rt.alloc(), moment, bytes),
+            append_waits
+        )
     }
 }

@@ -25,11 +25,15 @@ abbrev pub direction_number : Direction → ℕ
 direction_number direction.Forwards = 0
 direction_number direction.Backwards = 1
 
+-- no direction has this number
+abbrev pub HasNoDirection : ℕ → Type 0
+HasNoDirection number = (way : Direction) → direction_number way ≢ number
+
 -- the endpoint reads the way now that has this number; or none has it, and nothing changed
 abbrev pub Turns : EndpointFacts → EndpointFacts → ℕ → Option Direction → Type 0
 Turns old new way (Some turned) = (direction_number turned ≡ way)
     × (new ≡ record old { tailer = record old.tailer { direction = turned } })
-Turns old new way None = ((turned : Direction) → direction_number turned ≢ way) × (new ≡ old)
+Turns old new way None = HasNoDirection way × (new ≡ old)
 
 -- an endpoint that was split off moved to the end, which was answered to it; then it met the one that it was split off, which
 -- has seen that end and stays where it is

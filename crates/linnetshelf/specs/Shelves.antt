@@ -9,16 +9,16 @@ use Rattle.cq_handle.specs.declared.held.ShelfUser.TheVariants as user
 use Rattle.cq_model.specs.Settings as model
 use Rattle.cq_row.specs.Faults.{IsRowFault}
 use Rattle.cq_row.specs.Rows.{IsFirstPlace}
-use Rattle.cq_row.specs.Ways.{HasSplit}
+use Rattle.cq_row.specs.Ways.{HasSplit, SplitsNot, StaysThere}
 use Rattle.cq_row.specs.declared.fault.ShelfFault.{ShelfFault}
-use Rattle.cq_row.specs.declared.fault.ShelfFault.TheVariants.{NoSuchName, OutOfMemory}
+use Rattle.cq_row.specs.declared.fault.ShelfFault.TheVariants.{NoSuchName}
 use Rattle.cq_row.specs.declared.place.Place.{Place}
 use Rattle.cq_row.specs.declared.place.Position.{Position}
 use Rattle.cq_row.specs.declared.row.AtLimit.{AtLimit}
 use Rattle.cq_row.specs.declared.row.AtLimit.TheVariants as limit
 use Rattle.cq_shelf.specs.Makes.{IsTakerFault, TakesBy}
 use Rattle.cq_shelf.specs.Reads.{PositionOn}
-use Rattle.cq_shelf.specs.Seeks.{EndsNot, MovesOn, ReadsAtIntoOn, StaysThere, ToEnd, ToStart, turned}
+use Rattle.cq_shelf.specs.Seeks.{EndsNot, MovesOn, ReadsAtIntoOn, ToEnd, ToStart, turned}
 use Rattle.cq_shelf.specs.Ways.{Comes}
 use Rattle.cq_shelf.specs.Writes.{ClosesLast, ClosesNot, Follows, FollowsNot}
 use Rattle.cq_shelf.specs.declared.answers.ShelfReadAtInto.{ShelfReadAtInto}
@@ -28,7 +28,7 @@ use Rattle.cq_tail.specs.declared.answers.Direction.{Direction}
 use Rattle.linnetshelf.specs.Answers.{Tells, done, plain}
 use Rattle.linnetshelf.specs.Asked.{IsAsked, IsNotMade}
 use Rattle.linnetshelf.specs.Makes.{HandsOut}
-use Rattle.linnetshelf.specs.Reads.{direction_number}
+use Rattle.linnetshelf.specs.Reads.{HasNoDirection, direction_number}
 use Rattle.linnetshelf.specs.ShelfAnswers.{fault_status, place_answer, placed, shelf_plain}
 use Rattle.linnetshelf.specs.declared.answer.Answer.{Answer}
 use Rattle.linnetshelf.specs.declared.shelf_answer.ShelfAnswer.{ShelfAnswer}
@@ -78,9 +78,9 @@ pub record GivesUser (Made : Result ShelfUser ShelfFault → Type 0) (old new : 
 -- another user of the kind of this one was split off it
 abbrev pub SplitsUser : ShelfUser → ShelfUser → Result ShelfUser ShelfFault → Type 0
 SplitsUser (user.Writer old) (user.Writer new) (Ok (user.Writer made)) = HasSplit old.place new.place made.place
-SplitsUser (user.Writer old) (user.Writer new) (Err fault) = (fault ≡ OutOfMemory) × (new.place ≡ old.place)
+SplitsUser (user.Writer old) (user.Writer new) (Err fault) = SplitsNot old.place new.place fault
 SplitsUser (user.Reader old) (user.Reader new) (Ok (user.Reader made)) = HasSplit old.place new.place made.place
-SplitsUser (user.Reader old) (user.Reader new) (Err fault) = (fault ≡ OutOfMemory) × (new.place ≡ old.place)
+SplitsUser (user.Reader old) (user.Reader new) (Err fault) = SplitsNot old.place new.place fault
 SplitsUser (user.Taker old) (user.Taker new) (Ok (user.Taker made)) =
     TakesBy (arc_value old.place.row) (string_bytes old.name) made × (new ≡ old)
 SplitsUser (user.Taker old) (user.Taker new) (Err fault) =
@@ -90,7 +90,7 @@ SplitsUser _ _ _ = ⊥
 -- a reader was made at the queue of a writer
 abbrev pub MakesReader : ShelfWriter → ShelfWriter → Result ShelfUser ShelfFault → Type 0
 MakesReader old new (Ok (user.Reader made)) = HasSplit old.place new.place made.place
-MakesReader old new (Err fault) = (fault ≡ OutOfMemory) × (new.place ≡ old.place)
+MakesReader old new (Err fault) = SplitsNot old.place new.place fault
 MakesReader _ _ _ = ⊥
 
 -- why no taker was made by this name: it is no text, or the shelf refused it
@@ -171,4 +171,4 @@ EndsOn old new result = MatchResult result (λ _. ToEnd old new) (EndsNot old ne
 -- the reader reads the way now that has this number; or none has it, and nothing changed
 abbrev pub TurnsReader : ShelfReader → ShelfReader → ℕ → Option Direction → Type 0
 TurnsReader old new way (Some one) = (direction_number one ≡ way) × (new.place ≡ turned old.place one)
-TurnsReader old new way None = ((one : Direction) → direction_number one ≢ way) × (new ≡ old)
+TurnsReader old new way None = HasNoDirection way × (new ≡ old)
