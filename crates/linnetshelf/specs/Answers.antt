@@ -36,13 +36,17 @@ use Rattle.linnetshelf.specs.declared.answer.Answer.{Answer}
 use Rattle.linnetshelf.specs.declared.status.Status.{Status}
 use Rattle.linnetshelf.specs.declared.status.Status.TheVariants as status
 
+-- an answer of a number, a length and a status
+abbrev pub answer_of : ℕ → ℕ → Status → Answer
+answer_of index len how = record { index = index; length = len; status = number how }
+
 -- an answer of a status alone
 abbrev pub plain : Status → Answer
-plain how = record { index = 0; length = 0; status = number how }
+plain how = answer_of 0 0 how
 
 -- it is done, and tells a number
 abbrev pub done : ℕ → Answer
-done index = record { index = index; length = 0; status = number status.Done }
+done index = answer_of index 0 status.Done
 
 -- some outcome of the call holds, and C is answered what stands for it
 pub record Tells {R A : Type 0} (Says : R → Type 0) (answer_of : R → A) (answer : A) : Type 0 where
@@ -125,7 +129,7 @@ position_answer (Err e) = plain status.NoSuchName
 
 -- a name stands at this position
 abbrev pub moved : ℕ → Answer
-moved position = record { index = position; length = 0; status = number status.Moved }
+moved position = answer_of position 0 status.Moved
 
 -- what `seek` answers
 abbrev pub seek_answer : Result Sought SeekFault → Answer
@@ -149,8 +153,7 @@ kind_status kind.OverShape = status.OverShape
 abbrev pub add_answer : Result Unit AddFault → Answer
 add_answer (Ok u) = plain status.Done
 add_answer (Err unadded.BehindOpen) = plain status.BehindOpen
-add_answer (Err (unadded.Image fault)) =
-    record { index = fault.at; length = 0; status = number (kind_status fault.kind) }
+add_answer (Err (unadded.Image fault)) = answer_of fault.at 0 (kind_status fault.kind)
 add_answer (Err unadded.OutOfMemory) = plain status.OutOfMemory
 
 -- what a call on the `k`th of something answers that tells a number
@@ -160,11 +163,11 @@ number_answer (Err e) = plain status.NoSuchPlace
 
 -- a message of this length was read
 abbrev pub read : ℕ → ℕ → Answer
-read index len = record { index = index; length = len; status = number status.Done }
+read index len = answer_of index len status.Done
 
 -- a message of this length was not read: the room is too small
 abbrev pub too_long : ℕ → Answer
-too_long len = record { index = 0; length = len; status = number status.NoRoom }
+too_long len = answer_of 0 len status.NoRoom
 
 -- what `next` answers
 abbrev pub found_answer : NextInto → Answer

@@ -10,9 +10,8 @@ use Rattle.cq_handle.specs.declared.held.Held.{Held}
 use Rattle.cq_handle.specs.declared.held.Held.TheVariants as held
 use Rattle.cq_saved.specs.Saved.{SavedFacts}
 use Rattle.cq_saved.specs.Texts.{CanBeWritten, IsReadFrom}
-use Rattle.linnetshelf.specs.Answers.{plain}
+use Rattle.linnetshelf.specs.Answers.{answer_of, plain}
 use Rattle.linnetshelf.specs.Makes.{HandsOut}
-use Rattle.linnetshelf.specs.Statuses.{number}
 use Rattle.linnetshelf.specs.declared.answer.Answer.{Answer}
 use Rattle.linnetshelf.specs.declared.status.Status.{Status}
 use Rattle.linnetshelf.specs.declared.status.Status.TheVariants as status
@@ -31,7 +30,7 @@ ReadsConfig text old new (Err cause) = RefusesText cause text × (new ≡ old)
 -- what `config_read` answers: the number of a line at fault
 abbrev pub config_answer : Result Status ConfigFault → Answer
 config_answer (Ok how) = plain how
-config_answer (Err (fault.Line line)) = record { index = line; length = 0; status = number status.BadSettings }
+config_answer (Err (fault.Line line)) = answer_of line 0 status.BadSettings
 config_answer (Err fault.BadShape) = plain status.BadSettings
 config_answer (Err fault.BadConfig) = plain status.BadSettings
 config_answer (Err fault.OutOfMemory) = plain status.OutOfMemory

@@ -83,6 +83,17 @@ StopsHeld (held.Saved saved) new how = (how ≡ status.WrongKind) × (new ≡ he
 StopsHeld (held.Keeper keeper) new how = (how ≡ status.WrongKind) × (new ≡ held.Keeper keeper)
 StopsHeld (held.Shelf user) new how = (how ≡ status.WrongKind) × (new ≡ held.Shelf user)
 
+-- a queue of no cycle, as it was asked for
+pub record IsMadeSaved (s : Settings) (text : List ℕ) (saved : SavedFacts) : Type 0 where
+  pub settings : model.Settings
+  pub asked : IsAsked s text settings
+  pub saved_is : saved ≡ saved_new settings
+
+-- a queue of no cycle was made as it was asked for, or why not
+abbrev pub MakesSaved : Settings → List ℕ → Result SavedFacts Status → Type 0
+MakesSaved s text (Ok saved) = IsMadeSaved s text saved
+MakesSaved s text (Err how) = IsNotMade s text how
+
 -- a queue of no cycle was handed out, as it was asked for
 pub record HandsOutSaved (s : Settings) (text : List ℕ) (new : Held) : Type 0 where
   pub settings : model.Settings

@@ -6,8 +6,7 @@ use Rattle.cq_saved.specs.Plays.{IsPlayFault, PlaysLog}
 use Rattle.cq_saved.specs.Saved.{SavedFacts}
 use Rattle.cq_saved.specs.declared.fault.PlayFault.{PlayFault}
 use Rattle.cq_saved.specs.declared.fault.PlayFault.TheVariants as unplayed
-use Rattle.linnetshelf.specs.Answers.{done, plain}
-use Rattle.linnetshelf.specs.Statuses.{number}
+use Rattle.linnetshelf.specs.Answers.{answer_of, done, plain}
 use Rattle.linnetshelf.specs.declared.answer.Answer.{Answer}
 use Rattle.linnetshelf.specs.declared.status.Status.TheVariants as status
 
@@ -18,7 +17,7 @@ Plays old new log (Err fault) = IsPlayFault old log fault × (new ≡ old)
 
 -- the frame with this number is at fault
 abbrev pub bad_turn : ℕ → Answer
-bad_turn frame = record { index = frame; length = 0; status = number status.BadTurn }
+bad_turn frame = answer_of frame 0 status.BadTurn
 
 -- what is wrong with a log
 abbrev pub replay_answer : ReplayFault → Answer

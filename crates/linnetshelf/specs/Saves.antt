@@ -14,6 +14,11 @@ abbrev pub Adds : SavedFacts → SavedFacts → ℕ → List ℕ → Result Unit
 Adds old new cycle bytes (Ok u) = AddsImage old new cycle bytes
 Adds old new cycle bytes (Err fault) = RefusesImage old cycle bytes fault × (new ≡ old)
 
+-- cycle `k` has this place; or there are not as many
+abbrev pub IsPlaceOf : SavedFacts → ℕ → Result ℕ NoSuchPlace → Type 0
+IsPlaceOf saved k (Ok place) = (place ≡ k) × (k < length saved.contents.lists)
+IsPlaceOf saved k (Err e) = length saved.contents.lists ≤ k
+
 -- cycle `k` has this number; or there are not as many
 abbrev pub TellsCycle : SavedFacts → ℕ → Result ℕ NoSuchPlace → Type 0
 TellsCycle saved k (Ok cycle) = (l : CycleList) × (slice_get saved.contents.lists k ≡ Some l) × (cycle ≡ l.cycle)

@@ -18,25 +18,29 @@ use Rattle.linnetshelf.specs.declared.shelf_answer.ShelfAnswer.{ShelfAnswer}
 use Rattle.linnetshelf.specs.declared.status.Status.{Status}
 use Rattle.linnetshelf.specs.declared.status.Status.TheVariants as status
 
+-- an answer of the number of a queue, an index, a length and a status
+abbrev pub shelf_answer_of : ℕ → ℕ → ℕ → Status → ShelfAnswer
+shelf_answer_of queue index len how = record { queue = queue; index = index; length = len; status = number how }
+
 -- an answer of a status alone
 abbrev pub shelf_plain : Status → ShelfAnswer
-shelf_plain how = record { queue = 0; index = 0; length = 0; status = number how }
+shelf_plain how = shelf_answer_of 0 0 0 how
 
 -- it is done, at this position; a message that was read there has this length
 abbrev pub placed : Position → ℕ → ShelfAnswer
-placed here len = record { queue = here.queue; index = here.index; length = len; status = number status.Done }
+placed here len = shelf_answer_of here.queue here.index len status.Done
 
 -- a message of this length was not read: the buffer is too small
 abbrev pub longer : ℕ → ShelfAnswer
-longer len = record { queue = 0; index = 0; length = len; status = number status.NoRoom }
+longer len = shelf_answer_of 0 0 len status.NoRoom
 
 -- a name was found at this position
 abbrev pub moved_to : Position → ShelfAnswer
-moved_to here = record { queue = here.queue; index = here.index; length = 0; status = number status.Moved }
+moved_to here = shelf_answer_of here.queue here.index 0 status.Moved
 
 -- this many queues were dropped before they were read
 abbrev pub missed : ℕ → ShelfAnswer
-missed count = record { queue = 0; index = count; length = 0; status = number status.Missed }
+missed count = shelf_answer_of 0 count 0 status.Missed
 
 -- why a call on a shelf was refused
 abbrev pub fault_status : ShelfFault → Status

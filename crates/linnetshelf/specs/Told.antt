@@ -1,5 +1,5 @@
 -- What the calls say that tell how a queue was made.
-use Rattle.std.specs.Prelude.{◌≡◌, ℕ, List, Option, Some, None, Result, Ok, Err, length}
+use Rattle.std.specs.Prelude.{◌≡◌, Option, Some, None, Result, Ok, Err}
 use Rattle.cq_foreign.specs.Rolls.{roll_number}
 use Rattle.cq_foreign.specs.declared.copying.Copied.{Copied}
 use Rattle.cq_foreign.specs.declared.copying.Copied.TheVariants as copied

@@ -1,12 +1,12 @@
 //! What calls return to C.
 ghost use Rattle.std.specs.Prelude.{◌≡◌};
-ghost use Rattle.linnetshelf.specs.Answers.{append_answer, append_status, begin_answer, close_answer, complete_answer, done, drop_answer, end_answer, move_answer, moved, plain, position_answer, put_answer, refusal_status, roll_back_answer, seek_answer};
+ghost use Rattle.linnetshelf.specs.Answers.{answer_of, append_answer, append_status, begin_answer, close_answer, complete_answer, direction_answer, done, drop_answer, end_answer, move_answer, moved, plain, position_answer, put_answer, refusal_status, roll_back_answer, seek_answer};
 
 use crate::status::Status;
 use cq_cycle::Index;
 use cq_endpoint::{
-    AppendFault, CloseFault, CompleteFault, NoSuchName, NotSeen, NotWriting, PutFault, SeekFault,
-    Sought,
+    AppendFault, CloseFault, CompleteFault, Direction, NoSuchName, NotSeen, NotWriting, PutFault,
+    SeekFault, Sought,
 };
 use cq_layout::Refusal;
 
@@ -23,26 +23,29 @@ pub struct Answer {
     pub status: u32,
 }
 
+/// Makes an answer of a number, a length and a status.
+pub(crate) fn answer_of(index: u64, length: u32, status: Status) -> Answer
+    ensures { result ≡ answer_of index length status }
+{
+    Answer {
+        index,
+        length,
+        status: status.number(),
+    }
+}
+
 /// Makes an answer that has only a status.
 pub(crate) fn plain(status: Status) -> Answer
     ensures { result ≡ plain status }
 {
-    Answer {
-        index: 0,
-        length: 0,
-        status: status.number(),
-    }
+    answer_of(0, 0, status)
 }
 
 /// Makes the answer of a call that is done, with a number.
 pub(crate) fn done(index: u64) -> Answer
     ensures { result ≡ done index }
 {
-    Answer {
-        index,
-        length: 0,
-        status: Status::Done.number(),
-    }
+    answer_of(index, 0, Status::Done)
 }
 
 /// Makes the answer of `append`.
@@ -69,11 +72,10 @@ pub(crate) fn advance_answer(said: Result<u32, AppendFault>) -> Answer
 pub(crate) fn begin_answer(said: Result<(), AppendFault>) -> u32
     ensures { result ≡ begin_answer said }
 {
-    let status = match said {
-        Ok(()) => Status::Done,
-        Err(fault) => append_status(fault),
-    };
-    status.number()
+    match said {
+        Ok(()) => Status::Done.number(),
+        Err(fault) => append_status(fault).number(),
+    }
 }
 
 /// Says why nothing was appended or begun.
@@ -140,11 +142,20 @@ pub(crate) fn complete_answer(said: Result<Index, CompleteFault>) -> Answer
 pub(crate) fn roll_back_answer(said: Result<(), NotWriting>) -> u32
     ensures { result ≡ roll_back_answer said }
 {
-    let status = match said {
-        Ok(()) => Status::Done,
-        Err(NotWriting) => Status::NotWriting,
-    };
-    status.number()
+    match said {
+        Ok(()) => Status::Done.number(),
+        Err(NotWriting) => Status::NotWriting.number(),
+    }
+}
+
+/// Makes the answer of `direction`.
+pub(crate) fn direction_answer(said: Option<Direction>) -> u32
+    ensures { result ≡ direction_answer said }
+{
+    match said {
+        Some(_) => Status::Done.number(),
+        None => Status::BadDirection.number(),
+    }
 }
 
 /// Makes the answer of `end`.
@@ -161,12 +172,11 @@ pub(crate) fn end_answer(said: Option<u64>) -> Answer
 pub(crate) fn move_answer(stands: bool) -> u32
     ensures { result ≡ move_answer stands }
 {
-    let status = if stands {
-        Status::Done
+    if stands {
+        Status::Done.number()
     } else {
-        Status::NoMessage
-    };
-    status.number()
+        Status::NoMessage.number()
+    }
 }
 
 /// Makes the answer of `drop_before`.
@@ -193,11 +203,7 @@ pub(crate) fn position_answer(said: Result<u64, NoSuchName>) -> Answer
 pub(crate) fn moved(position: u64) -> Answer
     ensures { result ≡ moved position }
 {
-    Answer {
-        index: position,
-        length: 0,
-        status: Status::Moved.number(),
-    }
+    answer_of(position, 0, Status::Moved)
 }
 
 /// Makes the answer of `seek`.

@@ -7,8 +7,8 @@ ghost use Rattle.linnetshelf.specs.Handles.{OnEndpoint};
 ghost use Rattle.linnetshelf.specs.Many.{AppendsMany, StopsAppending, appended_answer, many_plain};
 ghost use Rattle.linnetshelf.specs.declared.status.Status.TheVariants.{WrongKind};
 
+use crate::calling::on_held;
 use crate::many::{AppendStop, Appended, Many, appended_answer, many_plain};
-use crate::status::Status;
 use cq_endpoint::Endpoint;
 use cq_handle::{Handle, Held};
 
@@ -29,14 +29,9 @@ pub extern "C" fn linnetshelf_append_many(
         Tells (AppendsMany old.queue old.work moment bytes.now lengths.now new.work) appended_answer result
         × ChangesWork old new) }
 {
-    match handle.held_mut() {
-        Held::Endpoint(endpoint) => {
-            appended_answer(append_many(endpoint, moment, bytes, lengths))
-        }
-        Held::Stopped(_) | Held::Saved(_) | Held::Keeper(_) | Held::Shelf(_) => {
-            many_plain(Status::WrongKind)
-        }
-    }
+    on_held!(handle, Held::Endpoint(endpoint) => {
+        appended_answer(append_many(endpoint, moment, bytes, lengths))
+    }, else many_plain)
 }
 
 fn append_many(endpoint: &mut Endpoint, moment: u64, bytes: &[u8], lengths: &[u32]) -> Appended
@@ -51,20 +46,10 @@ fn append_many(endpoint: &mut Endpoint, moment: u64, bytes: &[u8], lengths: &[u3
                 last = index;
                 rest = &rest[length as usize..];
             }
-            Err(stop) => {
-                return Appended {
-                    count,
-                    last,
-                    stop: Some(stop),
-                };
-            }
+            Err(stop) => return Appended::new(count, last, Some(stop)),
         }
     }
-    Appended {
-        count: lengths.len(),
-        last,
-        stop: None,
-    }
+    Appended::new(lengths.len(), last, None)
 }
 
 /// Appends the first bytes, of this length, as a message, and returns its index.

@@ -7,6 +7,7 @@ ghost use Rattle.linnetshelf.specs.Statuses.{number};
 ghost use Rattle.linnetshelf.specs.declared.status.Status.TheVariants.{WrongKind};
 
 use crate::answer::close_answer;
+use crate::calling::on_held;
 use crate::status::Status;
 use cq_handle::{Handle, Held};
 
@@ -17,9 +18,7 @@ pub extern "C" fn linnetshelf_close(handle: &mut Handle) -> u32
     ensures { OnEndpoint handle.old.held handle.new.held (result ≡ number WrongKind) (λ old new.
         Tells (ClosesQueue old new) close_answer result) }
 {
-    match handle.held_mut() {
-        Held::Endpoint(endpoint) => close_answer(endpoint.close()),
-        Held::Stopped(_) | Held::Saved(_) | Held::Keeper(_) | Held::Shelf(_) =>
-            Status::WrongKind.number(),
-    }
+    on_held!(handle, Held::Endpoint(endpoint) => {
+        close_answer(endpoint.close())
+    }, else Status::number)
 }

@@ -6,7 +6,8 @@ ghost use Rattle.linnetshelf.specs.Handles.{OnSaved};
 ghost use Rattle.linnetshelf.specs.Told.{copy_answer};
 ghost use Rattle.linnetshelf.specs.declared.status.Status.TheVariants.{WrongKind};
 
-use crate::answer::{Answer, plain};
+use crate::answer::{Answer, answer_of, plain};
+use crate::calling::on_held;
 use crate::copying::copy_answer;
 use crate::making::hand_out;
 use crate::status::Status;
@@ -44,11 +45,7 @@ fn config_answer(said: Result<Status, ConfigFault>) -> Answer
 {
     match said {
         Ok(status) => plain(status),
-        Err(ConfigFault::Line(line)) => Answer {
-            index: line,
-            length: 0,
-            status: Status::BadSettings.number(),
-        },
+        Err(ConfigFault::Line(line)) => answer_of(line, 0, Status::BadSettings),
         Err(ConfigFault::BadShape) | Err(ConfigFault::BadConfig) => plain(Status::BadSettings),
         Err(ConfigFault::OutOfMemory) => plain(Status::OutOfMemory),
     }
@@ -69,12 +66,7 @@ pub extern "C" fn linnetshelf_config_write(
     ensures { OnSaved handle.old.held handle.new.held ((result ≡ plain WrongKind) × (room.new ≡ room.old)) (λ old new.
         Tells (WritesConfig old room.old room.new) copy_answer result × (new ≡ old)) }
 {
-    match handle.held_mut() {
-        Held::Saved(saved) => copy_answer(config_into(alloc, saved, room)),
-        Held::Endpoint(_) | Held::Stopped(_) | Held::Keeper(_) | Held::Shelf(_) => plain(
-            Status::WrongKind,
-        ),
-    }
+    on_held!(handle, Held::Saved(saved) => copy_answer(config_into(alloc, saved, room)), else plain)
 }
 
 fn config_into(alloc: Global, saved: &Saved, room: &mut [u8]) -> Result<Copied, Status>

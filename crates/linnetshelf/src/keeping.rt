@@ -7,6 +7,7 @@ ghost use Rattle.linnetshelf.specs.Statuses.{number};
 ghost use Rattle.linnetshelf.specs.declared.status.Status.TheVariants.{WrongKind};
 
 use crate::answer::{Answer, done, plain};
+use crate::calling::on_held;
 use crate::status::Status;
 use cq_handle::{Handle, Held};
 use cq_keeper::KeepFault;
@@ -29,13 +30,9 @@ pub extern "C" fn linnetshelf_keep(
         ((result ≡ number WrongKind) × (endpoint.new.held ≡ endpoint.old.held) × (keeper.new.held ≡ keeper.old.held)) (λ old new.
         Tells (KeepsQueue old (endpoint.old.held, keeper.old.held) (endpoint.new.held, keeper.new.held)) number result × (new ≡ old)) }
 {
-    let status = match handle.held_mut() {
-        Held::Saved(saved) => keep(alloc, saved, endpoint, keeper),
-        Held::Endpoint(_) | Held::Stopped(_) | Held::Keeper(_) | Held::Shelf(_) => {
-            Status::WrongKind
-        }
-    };
-    status.number()
+    on_held!(handle, Held::Saved(saved) => {
+        keep(alloc, saved, endpoint, keeper).number()
+    }, else Status::number)
 }
 
 /// Hands out the first endpoint of a queue that holds what is saved, and its keeper.
@@ -82,12 +79,7 @@ pub extern "C" fn linnetshelf_turn(alloc: Global, handle: &mut Handle) -> u32
     ensures { OnKeeper handle.old.held handle.new.held (result ≡ number WrongKind) (λ old new.
         Tells (Turned old new) turn_answer result) }
 {
-    match handle.held_mut() {
-        Held::Keeper(keeper) => turn_answer(keeper.turn(alloc)),
-        Held::Endpoint(_) | Held::Stopped(_) | Held::Saved(_) | Held::Shelf(_) => {
-            Status::WrongKind.number()
-        }
-    }
+    on_held!(handle, Held::Keeper(keeper) => turn_answer(keeper.turn(alloc)), else Status::number)
 }
 
 /// Makes the answer of `turn`.
@@ -110,23 +102,17 @@ pub extern "C" fn linnetshelf_settle(handle: &mut Handle) -> u32
     ensures { OnKeeper handle.old.held handle.new.held (result ≡ number WrongKind) (λ old new.
         Tells (Settled old new) settle_answer result) }
 {
-    match handle.held_mut() {
-        Held::Keeper(keeper) => settle_answer(keeper.settle()),
-        Held::Endpoint(_) | Held::Stopped(_) | Held::Saved(_) | Held::Shelf(_) => {
-            Status::WrongKind.number()
-        }
-    }
+    on_held!(handle, Held::Keeper(keeper) => settle_answer(keeper.settle()), else Status::number)
 }
 
 /// Makes the answer of `settle`.
 fn settle_answer(said: Result<(), DeviceFault>) -> u32
     ensures { result ≡ settle_answer said }
 {
-    let status = match said {
-        Ok(()) => Status::Done,
-        Err(_) => Status::LogStopped,
-    };
-    status.number()
+    match said {
+        Ok(()) => Status::Done.number(),
+        Err(_) => Status::LogStopped.number(),
+    }
 }
 
 /// Returns the end below which all messages are stored, as far as the calls that were made say.
@@ -135,10 +121,5 @@ pub extern "C" fn linnetshelf_stored(handle: &mut Handle) -> Answer
     ensures { OnKeeper handle.old.held handle.new.held (result ≡ plain WrongKind) (λ old new.
         (result ≡ done old.stored_end) × (new ≡ old)) }
 {
-    match handle.held_mut() {
-        Held::Keeper(keeper) => done(keeper.stored_end()),
-        Held::Endpoint(_) | Held::Stopped(_) | Held::Saved(_) | Held::Shelf(_) => {
-            plain(Status::WrongKind)
-        }
-    }
+    on_held!(handle, Held::Keeper(keeper) => done(keeper.stored_end()), else plain)
 }

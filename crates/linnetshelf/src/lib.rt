@@ -36,6 +36,7 @@
 mod answer;
 mod appending;
 mod appending_many;
+mod calling;
 mod closing;
 mod configuring;
 mod copying;

@@ -6,6 +6,7 @@ ghost use Rattle.linnetshelf.specs.LogCalls.{CopiesCall, HandsCall, IsOfCall, No
 ghost use Rattle.linnetshelf.specs.Statuses.{number};
 ghost use Rattle.linnetshelf.specs.declared.status.Status.TheVariants.{WrongKind};
 
+use crate::calling::on_held;
 use crate::status::Status;
 use cq_handle::{Handle, Held};
 use cq_kept_calls::{CallFault, CallKeeper, KeeperStopped};
@@ -37,12 +38,7 @@ pub extern "C" fn linnetshelf_log_call(handle: &mut Handle, room: &mut [u8]) -> 
     ensures { OnKeeper handle.old.held handle.new.held ((result ≡ no_call WrongKind) × (room.new ≡ room.old)) (λ old new.
         Tells (HandsCall old room.old room.new) call_answer result × (new ≡ old)) }
 {
-    match handle.held_mut() {
-        Held::Keeper(keeper) => call_answer(call_into(keeper, room)),
-        Held::Endpoint(_) | Held::Stopped(_) | Held::Saved(_) | Held::Shelf(_) => {
-            no_call(Status::WrongKind)
-        }
-    }
+    on_held!(handle, Held::Keeper(keeper) => call_answer(call_into(keeper, room)), else no_call)
 }
 
 /// How the copy of a call into a buffer went.
@@ -137,12 +133,9 @@ pub extern "C" fn linnetshelf_log_done(handle: &mut Handle, is_done: bool) -> u3
     ensures { OnKeeper handle.old.held handle.new.held (result ≡ number WrongKind) (λ old new.
         Tells (NotesCall old new is_done) note_answer result) }
 {
-    match handle.held_mut() {
-        Held::Keeper(keeper) => note_answer(keeper.note_call(is_done)),
-        Held::Endpoint(_) | Held::Stopped(_) | Held::Saved(_) | Held::Shelf(_) => {
-            Status::WrongKind.number()
-        }
-    }
+    on_held!(handle, Held::Keeper(keeper) => {
+        note_answer(keeper.note_call(is_done))
+    }, else Status::number)
 }
 
 /// Makes the answer of `log_done`.

@@ -7,6 +7,7 @@ ghost use Rattle.linnetshelf.specs.Statuses.{number};
 ghost use Rattle.linnetshelf.specs.declared.status.Status.TheVariants.{WrongKind};
 
 use crate::appending::linnetshelf_roll_back;
+use crate::calling::on_held;
 use crate::settings::{Settings, config_of};
 use crate::status::Status;
 use cq_endpoint::Endpoint;
@@ -27,11 +28,10 @@ pub extern "C" fn linnetshelf_create(
 ) -> u32
     ensures { Tells (Creates settings.now names.now moment out.old.held out.new.held) number result }
 {
-    let status = match create(alloc, settings, names, moment) {
-        Ok(endpoint) => hand_out(alloc, Held::Endpoint(endpoint), out),
-        Err(status) => status,
-    };
-    status.number()
+    match create(alloc, settings, names, moment) {
+        Ok(endpoint) => hand_out(alloc, Held::Endpoint(endpoint), out).number(),
+        Err(status) => status.number(),
+    }
 }
 
 /// Makes the first endpoint of a new queue.
@@ -68,14 +68,19 @@ pub extern "C" fn linnetshelf_split(alloc: Global, handle: &mut Handle, out: &mu
         ((result ≡ number WrongKind) × (out.new.held ≡ out.old.held)) (λ old new.
         Tells (Splits old new out.old.held out.new.held) number result) }
 {
-    let status = match handle.held_mut() {
-        Held::Endpoint(endpoint) => match endpoint.split() {
-            Ok(child) => hand_out(alloc, Held::Endpoint(child), out),
-            Err(_) => Status::OutOfMemory,
-        },
-        Held::Stopped(_) | Held::Saved(_) | Held::Keeper(_) | Held::Shelf(_) => Status::WrongKind,
-    };
-    status.number()
+    on_held!(handle, Held::Endpoint(endpoint) => {
+        split(alloc, endpoint, out).number()
+    }, else Status::number)
+}
+
+/// Hands out an endpoint that is split off this one.
+fn split(alloc: Global, endpoint: &mut Endpoint, out: &mut Handle) -> Status
+    ensures { Splits endpoint.old endpoint.new out.old.held out.new.held result }
+{
+    match endpoint.split() {
+        Ok(child) => hand_out(alloc, Held::Endpoint(child), out),
+        Err(_) => Status::OutOfMemory,
+    }
 }
 
 /// Ends what a handle holds. The last endpoint frees its queue. A message that an endpoint has begun is given up first, since

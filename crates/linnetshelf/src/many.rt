@@ -32,6 +32,15 @@ pub(crate) struct Appended {
     pub(crate) stop: Option<AppendStop>,
 }
 
+impl Appended {
+    /// Says how far it came, and why it stopped.
+    pub(crate) fn new(count: usize, last: u64, stop: Option<AppendStop>) -> Appended
+        ensures { result ≡ record { count = count; last = last; stop = stop } }
+    {
+        Appended { count, last, stop }
+    }
+}
+
 /// Why one of many messages was not appended.
 #[derive(Clone, Copy)]
 pub(crate) enum AppendStop {
@@ -50,6 +59,15 @@ pub(crate) struct ManyRead {
     pub(crate) last: u64,
     /// What the next read returned, if it read none.
     pub(crate) stop: Option<NextInto>,
+}
+
+impl ManyRead {
+    /// Says how far it came, and why it stopped.
+    pub(crate) fn new(count: usize, last: u64, stop: Option<NextInto>) -> ManyRead
+        ensures { result ≡ record { count = count; last = last; stop = stop } }
+    {
+        ManyRead { count, last, stop }
+    }
 }
 
 /// Makes an answer that has only a status.

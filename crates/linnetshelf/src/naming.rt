@@ -8,7 +8,7 @@ ghost use Rattle.linnetshelf.specs.Reads.{SeeksName, TellsName};
 ghost use Rattle.linnetshelf.specs.declared.status.Status.TheVariants.{WrongKind};
 
 use crate::answer::{Answer, plain, position_answer, seek_answer};
-use crate::status::Status;
+use crate::calling::on_held;
 use cq_endpoint::{Endpoint, NoSuchName, SeekFault, Sought};
 use cq_handle::{Handle, Held};
 
@@ -18,12 +18,9 @@ pub extern "C" fn linnetshelf_position(handle: &mut Handle, name: &[u8]) -> Answ
     ensures { OnEndpoint handle.old.held handle.new.held (result ≡ plain WrongKind) (λ old new.
         Tells (TellsName old new name.now) position_answer result × ChangesTailer old new) }
 {
-    match handle.held_mut() {
-        Held::Endpoint(endpoint) => position_answer(position(endpoint, name)),
-        Held::Stopped(_) | Held::Saved(_) | Held::Keeper(_) | Held::Shelf(_) => plain(
-            Status::WrongKind,
-        ),
-    }
+    on_held!(handle, Held::Endpoint(endpoint) => {
+        position_answer(position(endpoint, name))
+    }, else plain)
 }
 
 fn position(endpoint: &mut Endpoint, name: &[u8]) -> Result<u64, NoSuchName>
@@ -46,12 +43,9 @@ pub extern "C" fn linnetshelf_seek(handle: &mut Handle, name: &[u8], from: u64, 
     ensures { OnEndpoint handle.old.held handle.new.held (result ≡ plain WrongKind) (λ old new.
         Tells (SeeksName old new name.now from to) seek_answer result × ChangesTailer old new) }
 {
-    match handle.held_mut() {
-        Held::Endpoint(endpoint) => seek_answer(seek(endpoint, name, from, to)),
-        Held::Stopped(_) | Held::Saved(_) | Held::Keeper(_) | Held::Shelf(_) => plain(
-            Status::WrongKind,
-        ),
-    }
+    on_held!(handle, Held::Endpoint(endpoint) => {
+        seek_answer(seek(endpoint, name, from, to))
+    }, else plain)
 }
 
 fn seek(endpoint: &mut Endpoint, name: &[u8], from: u64, to: u64) -> Result<Sought, SeekFault>

@@ -7,6 +7,7 @@ ghost use Rattle.linnetshelf.specs.Handles.{OnEndpoint};
 ghost use Rattle.linnetshelf.specs.declared.status.Status.TheVariants.{WrongKind};
 
 use crate::answer::{Answer, plain};
+use crate::calling::on_held;
 use crate::rooms::read;
 use crate::status::Status;
 use cq_endpoint::NextPeeked;
@@ -21,12 +22,7 @@ pub extern "C" fn linnetshelf_peek(handle: &mut Handle) -> Answer
     ensures { OnEndpoint handle.old.held handle.new.held (result ≡ plain WrongKind) (λ old new.
         Tells (PeekSays old.queue old.tailer new.tailer) peek_answer result × ChangesTailer old new) }
 {
-    match handle.held_mut() {
-        Held::Endpoint(endpoint) => peek_answer(endpoint.peek()),
-        Held::Stopped(_) | Held::Saved(_) | Held::Keeper(_) | Held::Shelf(_) => plain(
-            Status::WrongKind,
-        ),
-    }
+    on_held!(handle, Held::Endpoint(endpoint) => peek_answer(endpoint.peek()), else plain)
 }
 
 /// Makes the answer of `peek`.

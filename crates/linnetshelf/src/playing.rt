@@ -5,7 +5,8 @@ ghost use Rattle.linnetshelf.specs.Handles.{OnSaved};
 ghost use Rattle.linnetshelf.specs.Plays.{Plays, bad_turn, play_answer, replay_answer};
 ghost use Rattle.linnetshelf.specs.declared.status.Status.TheVariants.{WrongKind};
 
-use crate::answer::{Answer, done, plain};
+use crate::answer::{Answer, answer_of, done, plain};
+use crate::calling::on_held;
 use crate::status::Status;
 use cq_handle::{Handle, Held};
 use cq_replay::ReplayFault;
@@ -19,12 +20,7 @@ pub extern "C" fn linnetshelf_play(alloc: Global, handle: &mut Handle, bytes: &[
     ensures { OnSaved handle.old.held handle.new.held (result ≡ plain WrongKind) (λ old new.
         Tells (Plays old new bytes.now) play_answer result) }
 {
-    match handle.held_mut() {
-        Held::Saved(saved) => play_answer(saved.play(alloc, bytes)),
-        Held::Endpoint(_) | Held::Stopped(_) | Held::Keeper(_) | Held::Shelf(_) => {
-            plain(Status::WrongKind)
-        }
-    }
+    on_held!(handle, Held::Saved(saved) => play_answer(saved.play(alloc, bytes)), else plain)
 }
 
 /// Makes the answer of `play`.
@@ -61,9 +57,5 @@ fn replay_answer(fault: ReplayFault) -> Answer
 fn bad_turn(frame: usize) -> Answer
     ensures { result ≡ bad_turn frame }
 {
-    Answer {
-        index: frame as u64,
-        length: 0,
-        status: Status::BadTurn.number(),
-    }
+    answer_of(frame as u64, 0, Status::BadTurn)
 }

@@ -7,9 +7,9 @@ ghost use Rattle.linnetshelf.specs.Many.{ReadsMany, many_plain, read_answer};
 ghost use Rattle.linnetshelf.specs.declared.status.Status.TheVariants.{WrongKind};
 
 use crate::answer::Answer;
+use crate::calling::on_held;
 use crate::many::{Many, ManyRead, many_plain, read_answer};
 use crate::rooms::read;
-use crate::status::Status;
 use cq_endpoint::{Endpoint, NextInto};
 use cq_handle::{Handle, Held};
 
@@ -31,12 +31,9 @@ pub extern "C" fn linnetshelf_next_many(
         Tells (ReadsMany old.queue old.tailer new.tailer room.old room.new answers.old answers.new) read_answer result
         × ChangesTailer old new) }
 {
-    match handle.held_mut() {
-        Held::Endpoint(endpoint) => read_answer(next_many(endpoint, room, answers)),
-        Held::Stopped(_) | Held::Saved(_) | Held::Keeper(_) | Held::Shelf(_) => {
-            many_plain(Status::WrongKind)
-        }
-    }
+    on_held!(handle, Held::Endpoint(endpoint) => {
+        read_answer(next_many(endpoint, room, answers))
+    }, else many_plain)
 }
 
 fn next_many(endpoint: &mut Endpoint, room: &mut [u8], answers: &mut [Answer]) -> ManyRead
@@ -53,18 +50,8 @@ fn next_many(endpoint: &mut Endpoint, room: &mut [u8], answers: &mut [Answer]) -
                 answers[count] = read(last, length);
                 end += length as usize;
             }
-            stop => {
-                return ManyRead {
-                    count,
-                    last,
-                    stop: Some(stop),
-                };
-            }
+            stop => return ManyRead::new(count, last, Some(stop)),
         }
     }
-    ManyRead {
-        count: answers.len(),
-        last,
-        stop: None,
-    }
+    ManyRead::new(answers.len(), last, None)
 }

@@ -7,7 +7,8 @@ ghost use Rattle.linnetshelf.specs.Handles.{OnEndpoint};
 ghost use Rattle.linnetshelf.specs.Reads.{TakesName};
 ghost use Rattle.linnetshelf.specs.declared.status.Status.TheVariants.{WrongKind};
 
-use crate::answer::{Answer, moved, plain};
+use crate::answer::{Answer, answer_of, moved, plain};
+use crate::calling::on_held;
 use crate::status::Status;
 use cq_cycle::Index;
 use cq_endpoint::{Endpoint, NextInto, NoSuchName, ReadAtInto, TakenInto};
@@ -23,12 +24,7 @@ pub extern "C" fn linnetshelf_next(handle: &mut Handle, room: &mut [u8]) -> Answ
     ensures { OnEndpoint handle.old.held handle.new.held ((result ≡ plain WrongKind) × (room.new ≡ room.old)) (λ old new.
         Tells (NextIntoSays old.queue old.tailer new.tailer room.old room.new) found_answer result × ChangesTailer old new) }
 {
-    match handle.held_mut() {
-        Held::Endpoint(endpoint) => found_answer(endpoint.next_into(room)),
-        Held::Stopped(_) | Held::Saved(_) | Held::Keeper(_) | Held::Shelf(_) => plain(
-            Status::WrongKind,
-        ),
-    }
+    on_held!(handle, Held::Endpoint(endpoint) => found_answer(endpoint.next_into(room)), else plain)
 }
 
 /// Reads the message with this index into a buffer. Returns its length, and the endpoint stays where it is.
@@ -41,14 +37,9 @@ pub extern "C" fn linnetshelf_read_at(handle: &mut Handle, index: u64, room: &mu
         Tells (ReadAtIntoSays old.queue old.tailer new.tailer index room.old room.new) at_answer result
         × ChangesTailer old new) }
 {
-    match handle.held_mut() {
-        Held::Endpoint(endpoint) => {
-            at_answer(endpoint.read_at_into(Index::of_value(index), room))
-        }
-        Held::Stopped(_) | Held::Saved(_) | Held::Keeper(_) | Held::Shelf(_) => plain(
-            Status::WrongKind,
-        ),
-    }
+    on_held!(handle, Held::Endpoint(endpoint) => {
+        at_answer(endpoint.read_at_into(Index::of_value(index), room))
+    }, else plain)
 }
 
 /// Takes the next message of a name into a buffer. Returns its index and its length.
@@ -64,12 +55,9 @@ pub extern "C" fn linnetshelf_take(handle: &mut Handle, name: &[u8], room: &mut 
     ensures { OnEndpoint handle.old.held handle.new.held ((result ≡ plain WrongKind) × (room.new ≡ room.old)) (λ old new.
         Tells (TakesName old new name.now room.old room.new) take_answer result × ChangesTailer old new) }
 {
-    match handle.held_mut() {
-        Held::Endpoint(endpoint) => take_answer(take(endpoint, name, room)),
-        Held::Stopped(_) | Held::Saved(_) | Held::Keeper(_) | Held::Shelf(_) => plain(
-            Status::WrongKind,
-        ),
-    }
+    on_held!(handle, Held::Endpoint(endpoint) => {
+        take_answer(take(endpoint, name, room))
+    }, else plain)
 }
 
 fn take(endpoint: &mut Endpoint, name: &[u8], room: &mut [u8]) -> Result<TakenInto, NoSuchName>
@@ -86,22 +74,14 @@ fn take(endpoint: &mut Endpoint, name: &[u8], room: &mut [u8]) -> Result<TakenIn
 pub(crate) fn read(index: u64, length: u32) -> Answer
     ensures { result ≡ read index length }
 {
-    Answer {
-        index,
-        length,
-        status: Status::Done.number(),
-    }
+    answer_of(index, length, Status::Done)
 }
 
 /// Makes the answer that a message of this length was not read: the buffer is too small.
 pub(crate) fn too_long(length: u32) -> Answer
     ensures { result ≡ too_long length }
 {
-    Answer {
-        index: 0,
-        length,
-        status: Status::NoRoom.number(),
-    }
+    answer_of(0, length, Status::NoRoom)
 }
 
 /// Makes the answer of `next`.

@@ -3,14 +3,15 @@
 ghost use Rattle.std.specs.Prelude.{◌≡◌, length};
 ghost use Rattle.linnetshelf.specs.Answers.{Tells, add_answer, done, kind_status, number_answer, plain};
 ghost use Rattle.linnetshelf.specs.Handles.{OnSaved};
-ghost use Rattle.linnetshelf.specs.Makes.{Opens, Recovers, SavesNew, StopsHeld};
-ghost use Rattle.linnetshelf.specs.Saves.{Adds, PlacesName, TellsCycle, TellsEnded, TellsImage, TellsLength, TellsPosition};
+ghost use Rattle.linnetshelf.specs.Makes.{MakesSaved, Opens, Recovers, SavesNew, StopsHeld};
+ghost use Rattle.linnetshelf.specs.Saves.{Adds, IsPlaceOf, PlacesName, TellsCycle, TellsEnded, TellsImage, TellsLength, TellsPosition};
 ghost use Rattle.cq_saved.specs.Saved.{with_contents};
 ghost use Rattle.linnetshelf.specs.Statuses.{number};
 ghost use Rattle.linnetshelf.specs.Told.{copy_answer};
 ghost use Rattle.linnetshelf.specs.declared.status.Status.TheVariants.{Done, WrongKind};
 
-use crate::answer::{Answer, done, plain};
+use crate::answer::{Answer, answer_of, done, plain};
+use crate::calling::on_held;
 use crate::copying::copy_answer;
 use crate::making::hand_out;
 use crate::settings::{Settings, config_of};
@@ -73,14 +74,21 @@ pub extern "C" fn linnetshelf_saved_new(
 ) -> u32
     ensures { Tells (SavesNew settings.now names.now out.old.held out.new.held) number result }
 {
-    let status = match config_of(alloc, settings, names) {
-        Ok(config) => match Saved::new(alloc, config) {
-            Ok(saved) => hand_out(alloc, Held::Saved(saved), out),
-            Err(_) => Status::OutOfMemory,
-        },
-        Err(status) => status,
-    };
-    status.number()
+    match create(alloc, settings, names) {
+        Ok(saved) => hand_out(alloc, Held::Saved(saved), out).number(),
+        Err(status) => status.number(),
+    }
+}
+
+/// Makes a queue without cycles.
+fn create(alloc: Global, settings: &Settings, names: &[u8]) -> Result<Saved, Status>
+    ensures { MakesSaved settings.now names.now result }
+{
+    let config = config_of(alloc, settings, names)?;
+    match Saved::new(alloc, config) {
+        Ok(saved) => Ok(saved),
+        Err(_) => Err(Status::OutOfMemory),
+    }
 }
 
 /// Adds a cycle after the others, from its image. An error of the image is returned with its position in bytes.
@@ -94,12 +102,7 @@ pub extern "C" fn linnetshelf_saved_add(
     ensures { OnSaved handle.old.held handle.new.held (result ≡ plain WrongKind) (λ old new.
         Tells (Adds old new cycle bytes.now) add_answer result) }
 {
-    match handle.held_mut() {
-        Held::Saved(saved) => add_answer(saved.add(alloc, cycle, bytes)),
-        Held::Endpoint(_) | Held::Stopped(_) | Held::Keeper(_) | Held::Shelf(_) => plain(
-            Status::WrongKind,
-        ),
-    }
+    on_held!(handle, Held::Saved(saved) => add_answer(saved.add(alloc, cycle, bytes)), else plain)
 }
 
 /// Makes the answer of `add`.
@@ -109,11 +112,7 @@ fn add_answer(said: Result<(), AddFault>) -> Answer
     match said {
         Ok(()) => plain(Status::Done),
         Err(AddFault::BehindOpen) => plain(Status::BehindOpen),
-        Err(AddFault::Image(fault)) => Answer {
-            index: fault.at,
-            length: 0,
-            status: kind_status(fault.kind).number(),
-        },
+        Err(AddFault::Image(fault)) => answer_of(fault.at, 0, kind_status(fault.kind)),
         Err(AddFault::OutOfMemory) => plain(Status::OutOfMemory),
     }
 }
@@ -140,12 +139,7 @@ pub extern "C" fn linnetshelf_saved_count(handle: &mut Handle) -> Answer
     ensures { OnSaved handle.old.held handle.new.held (result ≡ plain WrongKind) (λ old new.
         (result ≡ done (length old.contents.lists)) × (new ≡ old)) }
 {
-    match handle.held_mut() {
-        Held::Saved(saved) => done(saved.len() as u64),
-        Held::Endpoint(_) | Held::Stopped(_) | Held::Keeper(_) | Held::Shelf(_) => plain(
-            Status::WrongKind,
-        ),
-    }
+    on_held!(handle, Held::Saved(saved) => done(saved.len() as u64), else plain)
 }
 
 /// Returns the number of cycle `k`, counted from 0.
@@ -154,21 +148,24 @@ pub extern "C" fn linnetshelf_saved_cycle(handle: &mut Handle, k: u32) -> Answer
     ensures { OnSaved handle.old.held handle.new.held (result ≡ plain WrongKind) (λ old new.
         Tells (TellsCycle old k) number_answer result × (new ≡ old)) }
 {
-    match handle.held_mut() {
-        Held::Saved(saved) => number_answer(cycle(saved, k)),
-        Held::Endpoint(_) | Held::Stopped(_) | Held::Keeper(_) | Held::Shelf(_) => plain(
-            Status::WrongKind,
-        ),
-    }
+    on_held!(handle, Held::Saved(saved) => number_answer(cycle(saved, k)), else plain)
 }
 
-fn cycle(saved: &Saved, k: u32) -> Result<u64, NoSuchPlace>
-    ensures { TellsCycle saved.now k result }
+/// Returns the place of cycle `k`, if there are as many.
+fn place_of(saved: &Saved, k: u32) -> Result<usize, NoSuchPlace>
+    ensures { IsPlaceOf saved.now k result }
 {
     let k = k as usize;
     if k >= saved.len() {
         return Err(NoSuchPlace);
     }
+    Ok(k)
+}
+
+fn cycle(saved: &Saved, k: u32) -> Result<u64, NoSuchPlace>
+    ensures { TellsCycle saved.now k result }
+{
+    let k = place_of(saved, k)?;
     Ok(u64::from(saved.cycle(k)))
 }
 
@@ -178,21 +175,13 @@ pub extern "C" fn linnetshelf_saved_length(handle: &mut Handle, k: u32) -> Answe
     ensures { OnSaved handle.old.held handle.new.held (result ≡ plain WrongKind) (λ old new.
         Tells (TellsLength old k) number_answer result × (new ≡ old)) }
 {
-    match handle.held_mut() {
-        Held::Saved(saved) => number_answer(messages(saved, k)),
-        Held::Endpoint(_) | Held::Stopped(_) | Held::Keeper(_) | Held::Shelf(_) => plain(
-            Status::WrongKind,
-        ),
-    }
+    on_held!(handle, Held::Saved(saved) => number_answer(messages(saved, k)), else plain)
 }
 
 fn messages(saved: &Saved, k: u32) -> Result<u64, NoSuchPlace>
     ensures { TellsLength saved.now k result }
 {
-    let k = k as usize;
-    if k >= saved.len() {
-        return Err(NoSuchPlace);
-    }
+    let k = place_of(saved, k)?;
     Ok(saved.messages(k) as u64)
 }
 
@@ -202,21 +191,13 @@ pub extern "C" fn linnetshelf_saved_ended(handle: &mut Handle, k: u32) -> Answer
     ensures { OnSaved handle.old.held handle.new.held (result ≡ plain WrongKind) (λ old new.
         Tells (TellsEnded old k) number_answer result × (new ≡ old)) }
 {
-    match handle.held_mut() {
-        Held::Saved(saved) => number_answer(ended(saved, k)),
-        Held::Endpoint(_) | Held::Stopped(_) | Held::Keeper(_) | Held::Shelf(_) => plain(
-            Status::WrongKind,
-        ),
-    }
+    on_held!(handle, Held::Saved(saved) => number_answer(ended(saved, k)), else plain)
 }
 
 fn ended(saved: &Saved, k: u32) -> Result<u64, NoSuchPlace>
     ensures { TellsEnded saved.now k result }
 {
-    let k = k as usize;
-    if k >= saved.len() {
-        return Err(NoSuchPlace);
-    }
+    let k = place_of(saved, k)?;
     Ok(u64::from(saved.has_ended(k)))
 }
 
@@ -245,21 +226,17 @@ pub extern "C" fn linnetshelf_saved_image(
     ensures { OnSaved handle.old.held handle.new.held ((result ≡ plain WrongKind) × (room.new ≡ room.old)) (λ old new.
         Tells (TellsImage old k room.old room.new) copy_answer result × (new ≡ old)) }
 {
-    match handle.held_mut() {
-        Held::Saved(saved) => copy_answer(image_into(alloc, saved, k, room)),
-        Held::Endpoint(_) | Held::Stopped(_) | Held::Keeper(_) | Held::Shelf(_) => plain(
-            Status::WrongKind,
-        ),
-    }
+    on_held!(handle, Held::Saved(saved) => {
+        copy_answer(image_into(alloc, saved, k, room))
+    }, else plain)
 }
 
 fn image_into(alloc: Global, saved: &Saved, k: u32, room: &mut [u8]) -> Result<Copied, Status>
     ensures { TellsImage saved.now k room.old room.new result }
 {
-    let k = k as usize;
-    if k >= saved.len() {
+    let Ok(k) = place_of(saved, k) else {
         return Err(Status::NoSuchPlace);
-    }
+    };
     match saved.image(alloc, k) {
         Ok(bytes) => Ok(copy_into(bytes.as_slice(), room)),
         Err(_) => Err(Status::OutOfMemory),
@@ -272,12 +249,7 @@ pub extern "C" fn linnetshelf_saved_position(handle: &mut Handle, k: u32) -> Ans
     ensures { OnSaved handle.old.held handle.new.held (result ≡ plain WrongKind) (λ old new.
         Tells (TellsPosition old k) number_answer result × (new ≡ old)) }
 {
-    match handle.held_mut() {
-        Held::Saved(saved) => number_answer(position(saved, k)),
-        Held::Endpoint(_) | Held::Stopped(_) | Held::Keeper(_) | Held::Shelf(_) => plain(
-            Status::WrongKind,
-        ),
-    }
+    on_held!(handle, Held::Saved(saved) => number_answer(position(saved, k)), else plain)
 }
 
 fn position(saved: &Saved, k: u32) -> Result<u64, NoSuchPlace>
@@ -300,15 +272,19 @@ pub extern "C" fn linnetshelf_saved_set_position(
     ensures { OnSaved handle.old.held handle.new.held (result ≡ number WrongKind) (λ old new.
         Tells (PlacesName old new k position) number result) }
 {
-    let status = match handle.held_mut() {
-        Held::Saved(saved) => match saved.set_position(alloc, k as usize, position) {
-            Ok(()) => Status::Done,
-            Err(NoSuchPlace) => Status::NoSuchPlace,
-        },
-        Held::Endpoint(_) | Held::Stopped(_) | Held::Keeper(_) | Held::Shelf(_) =>
-            Status::WrongKind,
-    };
-    status.number()
+    on_held!(handle, Held::Saved(saved) => {
+        set_position(alloc, saved, k, position).number()
+    }, else Status::number)
+}
+
+/// Sets the position of a name, if as many are declared.
+fn set_position(alloc: Global, saved: &mut Saved, k: u32, position: u64) -> Status
+    ensures { PlacesName saved.old saved.new k position result }
+{
+    match saved.set_position(alloc, k as usize, position) {
+        Ok(()) => Status::Done,
+        Err(NoSuchPlace) => Status::NoSuchPlace,
+    }
 }
 
 /// Returns the floor: reads skip all cycles below this one.
@@ -317,12 +293,7 @@ pub extern "C" fn linnetshelf_saved_floor(handle: &mut Handle) -> Answer
     ensures { OnSaved handle.old.held handle.new.held (result ≡ plain WrongKind) (λ old new.
         (result ≡ done old.contents.floor) × (new ≡ old)) }
 {
-    match handle.held_mut() {
-        Held::Saved(saved) => done(u64::from(saved.floor())),
-        Held::Endpoint(_) | Held::Stopped(_) | Held::Keeper(_) | Held::Shelf(_) => plain(
-            Status::WrongKind,
-        ),
-    }
+    on_held!(handle, Held::Saved(saved) => done(u64::from(saved.floor())), else plain)
 }
 
 /// Sets the floor: reads skip all cycles below this one.
@@ -331,14 +302,10 @@ pub extern "C" fn linnetshelf_saved_set_floor(handle: &mut Handle, floor: u32) -
     ensures { OnSaved handle.old.held handle.new.held (result ≡ number WrongKind) (λ old new.
         (result ≡ number Done) × (new ≡ with_contents old (record old.contents { floor = floor }))) }
 {
-    match handle.held_mut() {
-        Held::Saved(saved) => {
-            saved.set_floor(floor);
-            Status::Done.number()
-        }
-        Held::Endpoint(_) | Held::Stopped(_) | Held::Keeper(_) | Held::Shelf(_) =>
-            Status::WrongKind.number(),
-    }
+    on_held!(handle, Held::Saved(saved) => {
+        saved.set_floor(floor);
+        Status::Done.number()
+    }, else Status::number)
 }
 
 /// Hands out the first endpoint of a queue that holds what is saved, with the last of its cycles current. What is
@@ -349,12 +316,7 @@ pub extern "C" fn linnetshelf_open(alloc: Global, handle: &mut Handle, out: &mut
         ((result ≡ number WrongKind) × (out.new.held ≡ out.old.held)) (λ old new.
         Tells (Opens old out.old.held out.new.held) number result × (new ≡ old)) }
 {
-    let status = match handle.held_mut() {
-        Held::Saved(saved) => open(alloc, saved, out),
-        Held::Endpoint(_) | Held::Stopped(_) | Held::Keeper(_) | Held::Shelf(_) =>
-            Status::WrongKind,
-    };
-    status.number()
+    on_held!(handle, Held::Saved(saved) => open(alloc, saved, out).number(), else Status::number)
 }
 
 /// Hands out the first endpoint of a queue that holds what is saved.

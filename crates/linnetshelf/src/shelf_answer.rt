@@ -1,6 +1,6 @@
 //! What calls on a shelf return to C.
 ghost use Rattle.std.specs.Prelude.{◌≡◌};
-ghost use Rattle.linnetshelf.specs.ShelfAnswers.{complete_answer, cycle_answer, done_answer, fault_status, longer, missed, move_answer, moved_to, next_answer, place_answer, placed, read_at_answer, shelf_plain, take_answer};
+ghost use Rattle.linnetshelf.specs.ShelfAnswers.{complete_answer, cycle_answer, done_answer, fault_status, longer, missed, move_answer, moved_to, next_answer, place_answer, placed, read_at_answer, shelf_answer_of, shelf_plain, take_answer};
 
 use crate::answer::{Answer, done, plain};
 use crate::rooms::{read, too_long};
@@ -22,64 +22,51 @@ pub struct ShelfAnswer {
     pub status: u32,
 }
 
+/// Makes an answer of a queue, an index there, a length and a status.
+fn shelf_answer_of(queue: u64, index: u64, length: u32, status: Status) -> ShelfAnswer
+    ensures { result ≡ shelf_answer_of queue index length status }
+{
+    ShelfAnswer {
+        queue,
+        index,
+        length,
+        status: status.number(),
+    }
+}
+
 /// Makes an answer that has only a status.
 pub(crate) fn shelf_plain(status: Status) -> ShelfAnswer
     ensures { result ≡ shelf_plain status }
 {
-    ShelfAnswer {
-        queue: 0,
-        index: 0,
-        length: 0,
-        status: status.number(),
-    }
+    shelf_answer_of(0, 0, 0, status)
 }
 
 /// Makes the answer of a call that is done, with a position. If a message was read there, it has this length.
 pub(crate) fn placed(at: Position, length: u32) -> ShelfAnswer
     ensures { result ≡ placed at length }
 {
-    ShelfAnswer {
-        queue: at.queue,
-        index: at.index.value(),
-        length,
-        status: Status::Done.number(),
-    }
+    shelf_answer_of(at.queue, at.index.value(), length, Status::Done)
 }
 
 /// Makes the answer that a message of this length was not read: the buffer is too small.
 fn longer(length: u32) -> ShelfAnswer
     ensures { result ≡ longer length }
 {
-    ShelfAnswer {
-        queue: 0,
-        index: 0,
-        length,
-        status: Status::NoRoom.number(),
-    }
+    shelf_answer_of(0, 0, length, Status::NoRoom)
 }
 
 /// Makes the answer that a name was found at this position.
 fn moved_to(at: Position) -> ShelfAnswer
     ensures { result ≡ moved_to at }
 {
-    ShelfAnswer {
-        queue: at.queue,
-        index: at.index.value(),
-        length: 0,
-        status: Status::Moved.number(),
-    }
+    shelf_answer_of(at.queue, at.index.value(), 0, Status::Moved)
 }
 
 /// Makes the answer that this many queues were dropped before they were read.
 fn missed(count: u64) -> ShelfAnswer
     ensures { result ≡ missed count }
 {
-    ShelfAnswer {
-        queue: 0,
-        index: count,
-        length: 0,
-        status: Status::Missed.number(),
-    }
+    shelf_answer_of(0, count, 0, Status::Missed)
 }
 
 /// Says why a call on a shelf was refused.
@@ -134,11 +121,10 @@ pub(crate) fn cycle_answer(said: Result<u32, ShelfFault>) -> Answer
 pub(crate) fn done_answer(said: Result<(), ShelfFault>) -> u32
     ensures { result ≡ done_answer said }
 {
-    let status = match said {
-        Ok(()) => Status::Done,
-        Err(fault) => fault_status(fault),
-    };
-    status.number()
+    match said {
+        Ok(()) => Status::Done.number(),
+        Err(fault) => fault_status(fault).number(),
+    }
 }
 
 /// Makes the answer of `move_to`.

@@ -9,6 +9,7 @@ ghost use Rattle.linnetshelf.specs.Statuses.{number};
 ghost use Rattle.linnetshelf.specs.declared.status.Status.TheVariants.{WrongKind};
 
 use crate::answer::{Answer, plain, put_answer, roll_back_answer};
+use crate::calling::on_held;
 use crate::shelf_answer::{
     ShelfAnswer, complete_answer, cycle_answer, done_answer, place_answer, shelf_plain,
 };
@@ -28,10 +29,9 @@ pub extern "C" fn linnetshelf_shelf_append(
     ensures { OnShelfWriter handle.old.held handle.new.held (result ≡ shelf_plain WrongKind) (λ old new.
         Tells (AppendsOn moment bytes.now old.place new.place) place_answer result) }
 {
-    match handle.held_mut() {
-        Held::Shelf(ShelfUser::Writer(writer)) => place_answer(writer.append(alloc, moment, bytes)),
-        _ => shelf_plain(Status::WrongKind),
-    }
+    on_held!(handle, Held::Shelf(ShelfUser::Writer(writer)) => {
+        place_answer(writer.append(alloc, moment, bytes))
+    }, else shelf_plain)
 }
 
 /// Begins a message of at most `room` bytes in the cycle of `moment`. No other writer begins a message before this one
@@ -46,10 +46,9 @@ pub extern "C" fn linnetshelf_shelf_begin(
     ensures { OnShelfWriter handle.old.held handle.new.held (result ≡ number WrongKind) (λ old new.
         Tells (BeginsOn moment room old.place new.place) done_answer result) }
 {
-    match handle.held_mut() {
-        Held::Shelf(ShelfUser::Writer(writer)) => done_answer(writer.begin(alloc, moment, room)),
-        _ => Status::WrongKind.number(),
-    }
+    on_held!(handle, Held::Shelf(ShelfUser::Writer(writer)) => {
+        done_answer(writer.begin(alloc, moment, room))
+    }, else Status::number)
 }
 
 /// Puts bytes after those that were put into the message that is begun.
@@ -58,10 +57,9 @@ pub extern "C" fn linnetshelf_shelf_put(handle: &mut Handle, bytes: &[u8]) -> u3
     ensures { OnShelfWriter handle.old.held handle.new.held (result ≡ number WrongKind) (λ old new.
         Tells (PutsOn bytes.now old.place new.place) put_answer result) }
 {
-    match handle.held_mut() {
-        Held::Shelf(ShelfUser::Writer(writer)) => put_answer(writer.put(bytes)),
-        _ => Status::WrongKind.number(),
-    }
+    on_held!(handle, Held::Shelf(ShelfUser::Writer(writer)) => {
+        put_answer(writer.put(bytes))
+    }, else Status::number)
 }
 
 /// Appends the message that is begun, and returns the number of its queue and its index there.
@@ -70,10 +68,9 @@ pub extern "C" fn linnetshelf_shelf_complete(handle: &mut Handle) -> ShelfAnswer
     ensures { OnShelfWriter handle.old.held handle.new.held (result ≡ shelf_plain WrongKind) (λ old new.
         Tells (CompletesOn old.place new.place) complete_answer result) }
 {
-    match handle.held_mut() {
-        Held::Shelf(ShelfUser::Writer(writer)) => complete_answer(writer.complete()),
-        _ => shelf_plain(Status::WrongKind),
-    }
+    on_held!(handle, Held::Shelf(ShelfUser::Writer(writer)) => {
+        complete_answer(writer.complete())
+    }, else shelf_plain)
 }
 
 /// Gives up the message that is begun.
@@ -82,10 +79,9 @@ pub extern "C" fn linnetshelf_shelf_roll_back(handle: &mut Handle) -> u32
     ensures { OnShelfWriter handle.old.held handle.new.held (result ≡ number WrongKind) (λ old new.
         Tells (GivesUpOn old.place new.place) roll_back_answer result) }
 {
-    match handle.held_mut() {
-        Held::Shelf(ShelfUser::Writer(writer)) => roll_back_answer(writer.roll_back()),
-        _ => Status::WrongKind.number(),
-    }
+    on_held!(handle, Held::Shelf(ShelfUser::Writer(writer)) => {
+        roll_back_answer(writer.roll_back())
+    }, else Status::number)
 }
 
 /// Begins the cycle of `moment` if it is above the current one, in its queue or in the next one. Returns the current
@@ -99,10 +95,9 @@ pub extern "C" fn linnetshelf_shelf_advance(
     ensures { OnShelfWriter handle.old.held handle.new.held (result ≡ plain WrongKind) (λ old new.
         Tells (AdvancesOn moment old.place new.place) cycle_answer result) }
 {
-    match handle.held_mut() {
-        Held::Shelf(ShelfUser::Writer(writer)) => cycle_answer(writer.advance(alloc, moment)),
-        _ => plain(Status::WrongKind),
-    }
+    on_held!(handle, Held::Shelf(ShelfUser::Writer(writer)) => {
+        cycle_answer(writer.advance(alloc, moment))
+    }, else plain)
 }
 
 /// Goes on to the last queue that has begun, and appends nothing. `ShelfWriter::follow` says what is refused.
@@ -111,10 +106,9 @@ pub extern "C" fn linnetshelf_shelf_follow(handle: &mut Handle) -> u32
     ensures { OnShelfWriter handle.old.held handle.new.held (result ≡ number WrongKind) (λ old new.
         Tells (FollowsOn old.place new.place) done_answer result) }
 {
-    match handle.held_mut() {
-        Held::Shelf(ShelfUser::Writer(writer)) => done_answer(writer.follow()),
-        _ => Status::WrongKind.number(),
-    }
+    on_held!(handle, Held::Shelf(ShelfUser::Writer(writer)) => {
+        done_answer(writer.follow())
+    }, else Status::number)
 }
 
 /// Closes the shelf for all its writers: from then on nothing is appended or begun. `ShelfWriter::close` says what is
@@ -124,8 +118,7 @@ pub extern "C" fn linnetshelf_shelf_close(handle: &mut Handle) -> u32
     ensures { OnShelfWriter handle.old.held handle.new.held (result ≡ number WrongKind) (λ old new.
         Tells (ClosesOn old.place new.place) done_answer result) }
 {
-    match handle.held_mut() {
-        Held::Shelf(ShelfUser::Writer(writer)) => done_answer(writer.close()),
-        _ => Status::WrongKind.number(),
-    }
+    on_held!(handle, Held::Shelf(ShelfUser::Writer(writer)) => {
+        done_answer(writer.close())
+    }, else Status::number)
 }

@@ -6,6 +6,7 @@ ghost use Rattle.linnetshelf.specs.Shelves.{CreatesShelf, GivesUser, HandsOutUse
 ghost use Rattle.linnetshelf.specs.Statuses.{number};
 ghost use Rattle.linnetshelf.specs.declared.status.Status.TheVariants.{WrongKind};
 
+use crate::calling::on_held;
 use crate::making::hand_out;
 use crate::settings::config_of;
 use crate::shelf_answer::fault_status;
@@ -28,11 +29,10 @@ pub extern "C" fn linnetshelf_shelf_create(
 ) -> u32
     ensures { Tells (CreatesShelf settings.now names.now moment out.old.held out.new.held) number result }
 {
-    let status = match create(alloc, settings, names, moment) {
-        Ok(writer) => hand_out(alloc, Held::Shelf(ShelfUser::Writer(writer)), out),
-        Err(status) => status,
-    };
-    status.number()
+    match create(alloc, settings, names, moment) {
+        Ok(writer) => hand_out(alloc, Held::Shelf(ShelfUser::Writer(writer)), out).number(),
+        Err(status) => status.number(),
+    }
 }
 
 /// Makes the first writer of a new shelf.
@@ -66,11 +66,9 @@ pub extern "C" fn linnetshelf_shelf_split(
         ((result ≡ number WrongKind) × (out.new.held ≡ out.old.held)) (λ old new.
         Tells (GivesUser (SplitsUser old new) out.old.held out.new.held) number result) }
 {
-    let status = match handle.held_mut() {
-        Held::Shelf(user) => hand_out_user(alloc, split(alloc, user), out),
-        _ => Status::WrongKind,
-    };
-    status.number()
+    on_held!(handle, Held::Shelf(user) => {
+        hand_out_user(alloc, split(alloc, user), out).number()
+    }, else Status::number)
 }
 
 /// Makes another writer, reader or taker at the same queue.
@@ -96,11 +94,9 @@ pub extern "C" fn linnetshelf_shelf_reader(
         ((result ≡ number WrongKind) × (out.new.held ≡ out.old.held)) (λ old new.
         Tells (GivesUser (MakesReader old new) out.old.held out.new.held) number result) }
 {
-    let status = match handle.held_mut() {
-        Held::Shelf(ShelfUser::Writer(writer)) => hand_out_user(alloc, reader(writer), out),
-        _ => Status::WrongKind,
-    };
-    status.number()
+    on_held!(handle, Held::Shelf(ShelfUser::Writer(writer)) => {
+        hand_out_user(alloc, reader(writer), out).number()
+    }, else Status::number)
 }
 
 /// Makes a reader at the queue of a writer.
@@ -123,13 +119,9 @@ pub extern "C" fn linnetshelf_shelf_taker(
         ((result ≡ number WrongKind) × (out.new.held ≡ out.old.held)) (λ old new.
         Tells (GivesUser (MakesTaker old name.now) out.old.held out.new.held) number result × (new ≡ old)) }
 {
-    let status = match handle.held_mut() {
-        Held::Shelf(ShelfUser::Writer(writer)) => {
-            hand_out_user(alloc, taker(alloc, writer, name), out)
-        }
-        _ => Status::WrongKind,
-    };
-    status.number()
+    on_held!(handle, Held::Shelf(ShelfUser::Writer(writer)) => {
+        hand_out_user(alloc, taker(alloc, writer, name), out).number()
+    }, else Status::number)
 }
 
 /// Makes a taker by a name.

@@ -8,6 +8,7 @@ ghost use Rattle.linnetshelf.specs.Shelves.{TellsPlace, TellsQueue};
 ghost use Rattle.linnetshelf.specs.declared.status.Status.TheVariants.{WrongKind};
 
 use crate::answer::{Answer, done, plain};
+use crate::calling::on_held;
 use crate::shelf_answer::{ShelfAnswer, place_answer, shelf_plain};
 use crate::status::Status;
 use cq_handle::{Handle, Held, ShelfUser};
@@ -19,10 +20,7 @@ pub extern "C" fn linnetshelf_shelf_position(handle: &mut Handle) -> ShelfAnswer
     ensures { OnShelf handle.old.held handle.new.held (result ≡ shelf_plain WrongKind) (λ old new.
         TellsPlace old new result) }
 {
-    match handle.held_mut() {
-        Held::Shelf(user) => position(user),
-        _ => shelf_plain(Status::WrongKind),
-    }
+    on_held!(handle, Held::Shelf(user) => position(user), else shelf_plain)
 }
 
 fn position(user: &mut ShelfUser) -> ShelfAnswer
@@ -41,10 +39,7 @@ pub extern "C" fn linnetshelf_shelf_queue(handle: &mut Handle) -> Answer
     ensures { OnShelf handle.old.held handle.new.held (result ≡ plain WrongKind) (λ old new.
         TellsQueue old result × (new ≡ old)) }
 {
-    match handle.held_mut() {
-        Held::Shelf(user) => queue(user),
-        _ => plain(Status::WrongKind),
-    }
+    on_held!(handle, Held::Shelf(user) => queue(user), else plain)
 }
 
 fn queue(user: &ShelfUser) -> Answer
@@ -64,8 +59,5 @@ pub extern "C" fn linnetshelf_shelf_living(handle: &mut Handle) -> Answer
     ensures { OnShelfWriter handle.old.held handle.new.held (result ≡ plain WrongKind) (λ old new.
         Tells (λ said. said ≤ vec_len (arc_value old.place.row).spots) done result × (new ≡ old)) }
 {
-    match handle.held_mut() {
-        Held::Shelf(ShelfUser::Writer(writer)) => done(writer.living()),
-        _ => plain(Status::WrongKind),
-    }
+    on_held!(handle, Held::Shelf(ShelfUser::Writer(writer)) => done(writer.living()), else plain)
 }

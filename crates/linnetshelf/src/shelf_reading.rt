@@ -8,7 +8,9 @@ ghost use Rattle.linnetshelf.specs.Shelves.{EndsOn, MovesTo, ReadsOn, StartsOn, 
 ghost use Rattle.linnetshelf.specs.Statuses.{number};
 ghost use Rattle.linnetshelf.specs.declared.status.Status.TheVariants.{WrongKind};
 
-use crate::answer::{Answer, plain};
+use crate::answer::{Answer, direction_answer, plain};
+use crate::calling::on_held;
+use crate::reading::direction_of;
 use crate::shelf_answer::{
     ShelfAnswer, done_answer, move_answer, next_answer, read_at_answer, shelf_plain,
 };
@@ -31,10 +33,9 @@ pub extern "C" fn linnetshelf_shelf_next(handle: &mut Handle, room: &mut [u8]) -
     ensures { OnShelfReader handle.old.held handle.new.held ((result ≡ shelf_plain WrongKind) × (room.new ≡ room.old)) (λ old new.
         Tells (NextIntoOn old.place room.old new.place room.new) next_answer result) }
 {
-    match handle.held_mut() {
-        Held::Shelf(ShelfUser::Reader(reader)) => next_answer(reader.next_into(room)),
-        _ => shelf_plain(Status::WrongKind),
-    }
+    on_held!(handle, Held::Shelf(ShelfUser::Reader(reader)) => {
+        next_answer(reader.next_into(room))
+    }, else shelf_plain)
 }
 
 /// Reads the message with this index in this queue into a buffer. Returns its length, and the reader stays where it is.
@@ -52,12 +53,9 @@ pub extern "C" fn linnetshelf_shelf_read_at(
     ensures { OnShelfReader handle.old.held handle.new.held ((result ≡ plain WrongKind) × (room.new ≡ room.old)) (λ old new.
         Tells (ReadsOn queue index old.place room.old new.place room.new) read_at_answer result) }
 {
-    match handle.held_mut() {
-        Held::Shelf(ShelfUser::Reader(reader)) => {
-            read_at_answer(reader.read_at_into(position_of(queue, index), room))
-        }
-        _ => plain(Status::WrongKind),
-    }
+    on_held!(handle, Held::Shelf(ShelfUser::Reader(reader)) => {
+        read_at_answer(reader.read_at_into(position_of(queue, index), room))
+    }, else plain)
 }
 
 /// The position of a queue and an index.
@@ -76,27 +74,18 @@ pub extern "C" fn linnetshelf_shelf_direction(handle: &mut Handle, way: u32) -> 
     ensures { OnShelfReader handle.old.held handle.new.held (result ≡ number WrongKind) (λ old new.
         Tells (TurnsReader old new way) direction_answer result) }
 {
-    match handle.held_mut() {
-        Held::Shelf(ShelfUser::Reader(reader)) => turn(reader, way),
-        _ => Status::WrongKind.number(),
-    }
+    on_held!(handle, Held::Shelf(ShelfUser::Reader(reader)) => {
+        direction_answer(turn(reader, way))
+    }, else Status::number)
 }
 
-/// Sets the direction of a reader to the one that has this number.
-fn turn(reader: &mut ShelfReader, way: u32) -> u32
-    ensures { Tells (TurnsReader reader.old reader.new way) direction_answer result }
+/// Sets the direction of a reader to the one that has this number, and returns it.
+fn turn(reader: &mut ShelfReader, way: u32) -> Option<Direction>
+    ensures { TurnsReader reader.old reader.new way result }
 {
-    match way {
-        0 => {
-            reader.direction(Direction::Forwards);
-            Status::Done.number()
-        }
-        1 => {
-            reader.direction(Direction::Backwards);
-            Status::Done.number()
-        }
-        _ => Status::BadDirection.number(),
-    }
+    let way = direction_of(way)?;
+    reader.direction(way);
+    Some(way)
 }
 
 /// Moves to the message with this index in this queue, if one is there that is kept. If none is there it returns
@@ -106,12 +95,9 @@ pub extern "C" fn linnetshelf_shelf_move_to(handle: &mut Handle, queue: u64, ind
     ensures { OnShelfReader handle.old.held handle.new.held (result ≡ number WrongKind) (λ old new.
         Tells (MovesTo queue index old.place new.place) move_answer result) }
 {
-    match handle.held_mut() {
-        Held::Shelf(ShelfUser::Reader(reader)) => {
-            move_answer(reader.move_to(position_of(queue, index)))
-        }
-        _ => Status::WrongKind.number(),
-    }
+    on_held!(handle, Held::Shelf(ShelfUser::Reader(reader)) => {
+        move_answer(reader.move_to(position_of(queue, index)))
+    }, else Status::number)
 }
 
 /// Moves before the first message of the oldest queue that is kept, and reads forwards then.
@@ -120,10 +106,9 @@ pub extern "C" fn linnetshelf_shelf_to_start(handle: &mut Handle) -> u32
     ensures { OnShelfReader handle.old.held handle.new.held (result ≡ number WrongKind) (λ old new.
         Tells (StartsOn old.place new.place) done_answer result) }
 {
-    match handle.held_mut() {
-        Held::Shelf(ShelfUser::Reader(reader)) => done_answer(reader.to_start()),
-        _ => Status::WrongKind.number(),
-    }
+    on_held!(handle, Held::Shelf(ShelfUser::Reader(reader)) => {
+        done_answer(reader.to_start())
+    }, else Status::number)
 }
 
 /// Moves to the end of the last queue that has begun, and reads forwards then.
@@ -132,8 +117,7 @@ pub extern "C" fn linnetshelf_shelf_to_end(handle: &mut Handle) -> u32
     ensures { OnShelfReader handle.old.held handle.new.held (result ≡ number WrongKind) (λ old new.
         Tells (EndsOn old.place new.place) done_answer result) }
 {
-    match handle.held_mut() {
-        Held::Shelf(ShelfUser::Reader(reader)) => done_answer(reader.to_end()),
-        _ => Status::WrongKind.number(),
-    }
+    on_held!(handle, Held::Shelf(ShelfUser::Reader(reader)) => {
+        done_answer(reader.to_end())
+    }, else Status::number)
 }

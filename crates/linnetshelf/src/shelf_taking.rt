@@ -6,8 +6,8 @@ ghost use Rattle.linnetshelf.specs.Handles.{OnShelfTaker};
 ghost use Rattle.linnetshelf.specs.ShelfAnswers.{shelf_plain, take_answer};
 ghost use Rattle.linnetshelf.specs.declared.status.Status.TheVariants.{WrongKind};
 
+use crate::calling::on_held;
 use crate::shelf_answer::{ShelfAnswer, shelf_plain, take_answer};
-use crate::status::Status;
 use cq_handle::{Handle, Held, ShelfUser};
 
 /// Takes the next message of the taker's name into a buffer. Returns the number of its queue, its index there and its
@@ -25,8 +25,7 @@ pub extern "C" fn linnetshelf_shelf_take(handle: &mut Handle, room: &mut [u8]) -
     ensures { OnShelfTaker handle.old.held handle.new.held ((result ≡ shelf_plain WrongKind) × (room.new ≡ room.old)) (λ old new.
         Tells (TakenIntoOn old room.old new room.new) take_answer result) }
 {
-    match handle.held_mut() {
-        Held::Shelf(ShelfUser::Taker(taker)) => take_answer(taker.take_into(room)),
-        _ => shelf_plain(Status::WrongKind),
-    }
+    on_held!(handle, Held::Shelf(ShelfUser::Taker(taker)) => {
+        take_answer(taker.take_into(room))
+    }, else shelf_plain)
 }

@@ -7,6 +7,7 @@ ghost use Rattle.linnetshelf.specs.Snapshots.{TakesSnapshot};
 ghost use Rattle.linnetshelf.specs.Statuses.{number};
 ghost use Rattle.linnetshelf.specs.declared.status.Status.TheVariants.{WrongKind};
 
+use crate::calling::on_held;
 use crate::making::hand_out;
 use crate::status::Status;
 use cq_endpoint::Endpoint;
@@ -24,11 +25,9 @@ pub extern "C" fn linnetshelf_snapshot(alloc: Global, handle: &mut Handle, out: 
         ((result ≡ number WrongKind) × (out.new.held ≡ out.old.held)) (λ old new.
         Tells (TakesSnapshot old new out.old.held out.new.held) number result × ChangesTailer old new) }
 {
-    let status = match handle.held_mut() {
-        Held::Endpoint(endpoint) => snapshot(alloc, endpoint, out),
-        Held::Stopped(_) | Held::Saved(_) | Held::Keeper(_) | Held::Shelf(_) => Status::WrongKind,
-    };
-    status.number()
+    on_held!(handle, Held::Endpoint(endpoint) => {
+        snapshot(alloc, endpoint, out).number()
+    }, else Status::number)
 }
 
 fn snapshot(alloc: Global, endpoint: &mut Endpoint, out: &mut Handle) -> Status

@@ -1,7 +1,8 @@
-use Rattle.std.proofs.Common.{◌≡◌, Ok, arith, length, refl, slice_index, subst, take}
+use Rattle.std.proofs.Common.{◌≡◌, Ok, arith, length, refl, slice_index, subst, sym, take}
 use Rattle.cq_endpoint.specs.Endpoints.{EndpointFacts}
 use Rattle.cq_endpoint.specs.Works.{Appends}
-use Rattle.linnetshelf.specs.Many.{AppendsFront, InTurn, appending}
+use Rattle.linnetshelf.specs.Many.{AppendsFront, AppendsMany, InTurn, appending}
+use Rattle.linnetshelf.specs.declared.many.Appended.{Appended}
 use Rattle.linnetshelf.proofs.Turns.{appends_more, changes_work}
 use Rattle.linnetshelf.proofs.appending_many.append_many.Goals as goal
 
@@ -22,11 +23,12 @@ pub returns-clause-says : goal.returns-clause-says
 returns-clause-says c =
     let all : c.loop-count.count ≡ length c.args.lengths.now = omega arith in
     let at = appending c.loop-count.endpoint.work c.loop-count.rest.now c.loop-count.last in
-    record {
+    subst (λ (said : Appended). AppendsMany c.args.endpoint.now.queue c.args.endpoint.now.work c.args.moment c.args.bytes.now
+    c.args.lengths.now c.loop-count.endpoint.work said) (sym c.new-2.ensures) (record {
       at = at;
       appended = subst (λ k. InTurn (AppendsFront c.args.endpoint.now.queue c.args.moment)
           (appending c.args.endpoint.now.work c.args.bytes.now 0) (take k c.args.lengths.now) at) all
           c.loop-count.invariant.appended;
       last = refl;
       no_more = (refl, refl);
-    }
+    })

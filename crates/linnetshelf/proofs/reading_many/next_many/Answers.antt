@@ -3,7 +3,8 @@ use Rattle.std.proofs.lemmas.List.{take-append-drop}
 use Rattle.cq_endpoint.specs.Endpoints.{EndpointFacts}
 use Rattle.cq_endpoint.specs.Reads.{NextIntoSays}
 use Rattle.cq_endpoint.specs.declared.answers.NextInto.TheVariants.{Message}
-use Rattle.linnetshelf.specs.Many.{InTurn, ReadsFront, reading}
+use Rattle.linnetshelf.specs.Many.{InTurn, ReadsFront, ReadsMany, reading}
+use Rattle.linnetshelf.specs.declared.many.ManyRead.{ManyRead}
 use Rattle.linnetshelf.proofs.Turns.{changes_tailer, others_more, reads_more, within_written}
 use Rattle.linnetshelf.proofs.reading_many.next_many.Goals as goal
 
@@ -35,7 +36,8 @@ loop-count-preserved c =
 pub returns-clause-says : goal.returns-clause-says
 returns-clause-says c =
     let all : c.loop-count.count ≡ length c.loop-count.answers = omega arith in
-    record {
+    subst (λ (said : ManyRead). ReadsMany c.args.endpoint.now.queue c.args.endpoint.now.tailer c.loop-count.endpoint.tailer
+    c.args.room.now c.loop-count.room c.args.answers.now c.loop-count.answers said) (sym c.new-2.ensures) (record {
       at = reading c.loop-count.endpoint.tailer (take c.loop-count.end c.loop-count.room)
           (drop c.loop-count.end c.loop-count.room) c.loop-count.last;
       read = subst (λ k. InTurn (ReadsFront c.args.endpoint.now.queue) (reading c.args.endpoint.now.tailer []
@@ -45,4 +47,4 @@ returns-clause-says c =
       others = subst (λ k. drop k c.loop-count.answers ≡ drop k c.args.answers.now) all c.loop-count.invariant.others;
       last = refl;
       no_more = (c.loop-count.auto.answers, refl, sym (take-append-drop c.loop-count.end c.loop-count.room));
-    }
+    })
