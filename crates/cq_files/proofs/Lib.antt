@@ -1,6 +1,7 @@
 pub mod NameLemmas
 pub mod ImageNames
 pub mod QueueLemmas
+pub mod OpenLemmas
 pub mod CauseLemmas
 pub mod OrderLemmas
 pub mod ReadLemmas

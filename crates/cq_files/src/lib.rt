@@ -7,6 +7,7 @@
 //! | `check`, `dump`, `salvage` | print the state, the records, and the messages of images |
 //! | `migrate` | makes a folder of version 1 into one of version 2 |
 //! | `open_queue` | reads a folder's queue: `Retain`, `SavedQueue`, `CycleImage`, `ImageFile`, `SeenMessages` |
+//! | `open_whole_queue` | does so with all messages, if a queue can hold them |
 //! | `can_be_opened` | whether a queue can hold what was read |
 //! | `images_of` | the images of cycles, as files that are to be saved |
 //! | `save`, `save_files`, `write_file` | save images, some files together, and a file |
@@ -43,7 +44,7 @@ pub use files::{
 };
 pub use initialising::init;
 pub use migrating::migrate;
-pub use openable::can_be_opened;
+pub use openable::{can_be_opened, open_whole_queue};
 pub use opening::{
     CycleImage, ImageFile, Retain, SavedQueue, SeenMessages, cycle_of_file, is_image_name,
     open_queue, read_saved,

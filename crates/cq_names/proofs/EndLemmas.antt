@@ -1,5 +1,5 @@
 -- How a command ends that prints or changes the names of a queue.
-use Rattle.std.proofs.Common.{◌≡◌, ◌≢◌, ◌⊎◌, ◌≤◌, ℕ, List, [], ◌∷◌, ap, inl, inr, map, refl, subst, sym, ◌∙◌}
+use Rattle.std.proofs.Common.{◌≡◌, ◌≢◌, ◌⊎◌, ◌≤◌, ℕ, List, [], ◌∷◌, ap, inl, inr, refl, subst, sym, ◌∙◌}
 use Rattle.std.proofs.KnownBytes.{Keeps-refl}
 use Rattle.std.specs.Io.KnownBytes.{Appends, Keeps}
 use Rattle.std.specs.Prelude.{Option, None, Some, IfErr, IfOk, IfSome, IsErrAnd, OnErr, OnOk, Result, Ok, Err, if◌then◌else◌}
@@ -7,12 +7,12 @@ use Rattle.std.specs.Str.{bytes_eq}
 use Rattle.cq_folder.specs.Folder.{Files, KeepsFiles, KeepsOrWrites, WritesFile}
 use Rattle.cq_folder.specs.declared.names.TheConstants.{CONFIG_FILE}
 use Rattle.cq_files.specs.Counted.{CountsFaults}
-use Rattle.cq_files.specs.FolderFaults.{IsFileFault, IsQueueFault, IsSaveFault, MindsVersion}
-use Rattle.cq_files.specs.Openable.{HoldOpenable}
-use Rattle.cq_files.specs.Queue.{CanBeOpened, HoldQueue, IsLawfulQueue, list_in}
+use Rattle.cq_files.specs.FolderFaults.{IsFileFault, IsSaveFault, MindsVersion}
+use Rattle.cq_files.specs.Openable.{IsOpenFault, IsOpened}
 use Rattle.cq_files.specs.Saving.{KeepsOrSaves}
 use Rattle.cq_files.specs.declared.opening.SavedQueue.{SavedQueue}
-use Rattle.cq_files.proofs.QueueLemmas.{keeps-trans, whole_contents}
+use Rattle.cq_files.proofs.OpenLemmas.{opened_in}
+use Rattle.cq_files.proofs.QueueLemmas.{keeps-trans}
 use Rattle.cq_model.specs.Settings.{Settings}
 use Rattle.cq_model.specs.declared.contents.Contents.{Contents}
 use Rattle.cq_orders.specs.declared.settings.NameChange.{NameChange}
@@ -21,57 +21,29 @@ use Rattle.cq_points.specs.Points.{IsPointFault}
 use Rattle.cq_text.specs.Faults.{IsDeviceFault}
 use Rattle.cq_text.specs.Output.{AppendsBeginning}
 use Rattle.cq_text.specs.declared.fault.ToolFault.{ToolFault}
-use Rattle.cq_text.specs.declared.fault.ToolFault.TheVariants.{BadContents, BadIndex, BadMoment, WriteFault}
+use Rattle.cq_text.specs.declared.fault.ToolFault.TheVariants.{BadIndex, BadMoment, WriteFault}
 use Rattle.cq_names.specs.Edits.{IsChange, IsDecision, IsDecisionFault, IsEdit, IsMeantFault, IsWordFault}
-use Rattle.cq_names.specs.Names.{Decides, Ends, IsChanged, IsDone, IsFound, IsListed, IsNamesFault, IsOutcome, IsUndecided, IsUnopened, IsUnsaved, all_done}
+use Rattle.cq_names.specs.Names.{Decides, Ends, IsChanged, IsDone, IsListed, IsNamesFault, IsOutcome, IsUndecided, IsUnsaved, all_done}
 use Rattle.cq_names.specs.declared.deciding.Decision.{Decision}
 use Rattle.cq_names.specs.declared.deciding.Decision.TheVariants.{Change, Refuse}
 use Rattle.cq_names.specs.declared.editing.Plan.{Plan}
 use Rattle.cq_names.specs.declared.fault.NameRefusal.{NameRefusal}
 
--- the queue that the files hold cannot be opened
-pub bad_contents : (a : Option Files) (queue : SavedQueue) → IsLawfulQueue queue → IfSome a (HoldQueue queue)
-    → queue.contents.lists ≡ map list_in queue.images.items → ¬ CanBeOpened queue.config queue.contents
-    → IfSome a (λ files. IsUnopened files BadContents)
-bad_contents None queue lawful held lists bad = tt
-bad_contents (Some files) queue lawful held lists bad = inl (
-  refl,
-  record {
-    queue = queue;
-    lawful = lawful;
-    held = held;
-    bad = λ can. bad (subst (CanBeOpened queue.config) (sym (whole_contents queue lists)) can);
-  },
-)
-
--- the queue that the files hold is not read
-pub not_read : (a : Option Files) (fault : ToolFault) → IfSome a (λ files. IsQueueFault files fault) → IfSome a (λ files. IsUnopened files fault)
-not_read None fault cause = tt
-not_read (Some files) fault cause = inr cause
-
--- the files hold a queue that can be opened
-pub opened_in : (files : Files) (queue : SavedQueue) → IsFound (Some files) queue → HoldOpenable queue files
-opened_in files queue found = record {
-  lawful = found.lawful;
-  held = found.held;
-  openable = subst (CanBeOpened queue.config) found.whole found.openable;
-}
-
 -- the same decision, of the queue that the files hold
-pub decided : (change : NameChange) (a : Option Files) (queue : SavedQueue) (result : Result Decision ToolFault) → IsFound a queue
+pub decided : (change : NameChange) (a : Option Files) (queue : SavedQueue) (result : Result Decision ToolFault) → IsOpened a queue
     → IfOk result (IsDecision change queue.config queue.contents) → IfOk result (Decides change a)
-decided change a queue (Ok decision) found is = record { queue = queue; found = found; decided = is }
-decided change a queue (Err fault) found is = tt
+decided change a queue (Ok decision) opened is = record { queue = queue; opened = opened; decided = is }
+decided change a queue (Err fault) opened is = tt
 
-pub undecided : (change : NameChange) (a : Option Files) (queue : SavedQueue) (result : Result Decision ToolFault) → IsFound a queue
+pub undecided : (change : NameChange) (a : Option Files) (queue : SavedQueue) (result : Result Decision ToolFault) → IsOpened a queue
     → IfErr result (IsDecisionFault change queue.config) → IfErr result (λ fault. IfSome a (λ files. IsUndecided change files fault))
-undecided change a queue (Ok decision) found is = tt
-undecided change None queue (Err fault) found is = tt
-undecided change (Some files) queue (Err fault) found (inl memory) = inr (inl memory)
-undecided change (Some files) queue (Err fault) found (inr word) =
-    inr (inr (record { queue = queue; opened = opened_in files queue found; word = word }))
+undecided change a queue (Ok decision) opened is = tt
+undecided change None queue (Err fault) opened is = tt
+undecided change (Some files) queue (Err fault) opened (inl memory) = inr (inl memory)
+undecided change (Some files) queue (Err fault) opened (inr word) =
+    inr (inr (record { queue = queue; opened = opened_in files queue opened; word = word }))
 
-pub unopened_undecided : (change : NameChange) (a : Option Files) (fault : ToolFault) → IfSome a (λ files. IsUnopened files fault)
+pub unopened_undecided : (change : NameChange) (a : Option Files) (fault : ToolFault) → IfSome a (λ files. IsOpenFault files fault)
     → IfSome a (λ files. IsUndecided change files fault)
 unopened_undecided change None fault cause = tt
 unopened_undecided change (Some files) fault cause = inl cause
@@ -148,7 +120,7 @@ pub changed_by : (change : NameChange) (a b c : Option Files) (plan : Plan) (tex
     → KeepsFiles a b → WritesFile b c CONFIG_FILE.now plan.config.items → text ≡ plan.line.items → IsDone change a c text
 changed_by change a b c plan text is from kept written text_is = changed_done change a c text is (record {
   queue = from.queue;
-  found = from.found;
+  opened = from.opened;
   edit = from.decided.0;
   edited = from.decided.1;
   config = plan.config.items;
@@ -184,9 +156,9 @@ pub unsaved : (change : NameChange) (a : Option Files) (plan : Plan) (fault : To
 unsaved change None plan fault is from saving = tt
 unsaved change (Some files) plan fault is from saving = changes_fault change files fault is (inr (record {
   queue = from.queue;
-  opened = opened_in files from.queue from.found;
+  opened = opened_in files from.queue from.opened;
   edit = from.decided.0;
-  edited = subst (λ (c : Contents). IsEdit change from.queue.config c from.decided.0) from.found.whole from.decided.1;
+  edited = subst (λ (c : Contents). IsEdit change from.queue.config c from.decided.0) from.opened.whole from.decided.1;
   saving = saving;
 }))
 
@@ -208,7 +180,7 @@ ends_not change before after old new (Err passed) fault is left silent broken = 
 pub ends_refused : (change : NameChange) (before after : Option Files) (old : Option (List ℕ)) (refusal : NameRefusal)
     → Decides change before (Refuse refusal) → KeepsFiles before after → IsOutcome change before after old old (Some refusal)
 ends_refused change before after old refusal from kept =
-    (record { queue = from.queue; found = from.found; refuses = from.decided }, kept, Keeps-refl old)
+    (record { queue = from.queue; opened = from.opened; refuses = from.decided }, kept, Keeps-refl old)
 
 -- the names are listed, and the text is written or not
 pub ends_listed : {T : Type 0} (before after : Option Files) (old new : Option (List ℕ)) (text : List ℕ) (result : Result T ToolFault)
@@ -223,9 +195,9 @@ ends_listed before after old new text (Err fault) listed appends is begins = rec
   broken = λ same. (text, listed, begins);
 }
 
-pub listed_fault : {T : Type 0} (a : Option Files) (queue : SavedQueue) (result : Result T ToolFault) → IsFound a queue
+pub listed_fault : {T : Type 0} (a : Option Files) (queue : SavedQueue) (result : Result T ToolFault) → IsOpened a queue
     → IfErr result (λ fault. fault ≡ WriteFault) → IfErr result (λ fault. IfSome a (λ files. IsNamesFault change.List files fault))
-listed_fault a queue (Ok printed) found is = tt
-listed_fault None queue (Err fault) found is = tt
-listed_fault (Some files) queue (Err fault) found is =
-    inr (inr (record { queue = queue; opened = opened_in files queue found; fault_is = is }))
+listed_fault a queue (Ok printed) opened is = tt
+listed_fault None queue (Err fault) opened is = tt
+listed_fault (Some files) queue (Err fault) opened is =
+    inr (inr (record { queue = queue; opened = opened_in files queue opened; fault_is = is }))

@@ -123,11 +123,11 @@ pub changed_left : (change : NameChange) (before after : Files) (text : List ℕ
 changed_left change before after text left done is = (
   folder_left change done.queue left done.edit before after done.config
       (record {
-        lawful = done.found.lawful;
-        held = done.found.held;
-        openable = subst (CanBeOpened done.queue.config) done.found.whole done.found.openable;
+        lawful = done.opened.lawful;
+        held = done.opened.held;
+        openable = subst (CanBeOpened done.queue.config) done.opened.whole done.opened.openable;
       })
-      (subst (λ (c : Contents). IsEdit change done.queue.config c done.edit) done.found.whole done.edited)
+      (subst (λ (c : Contents). IsEdit change done.queue.config c done.edit) done.opened.whole done.edited)
       done.config_is done.written is,
   held_left done.queue left done.edit is,
 )

@@ -5,8 +5,8 @@ use Rattle.cq_config_text.specs.ConfigText.{IsTextOf}
 use Rattle.cq_folder.specs.Folder.{Files, KeepsFiles, WritesFile}
 use Rattle.cq_folder.specs.declared.names.TheConstants.{CONFIG_FILE}
 use Rattle.cq_files.specs.FolderFaults.{IsFileFault, IsSaveFault, MindsVersion, TellsFile}
-use Rattle.cq_files.specs.Openable.{HoldOpenable, IsOpenFault}
-use Rattle.cq_files.specs.Queue.{CanBeOpened, HoldQueue, IsLawfulQueue, contents_in}
+use Rattle.cq_files.specs.Openable.{HoldOpenable, IsOpenFault, IsOpened}
+use Rattle.cq_files.specs.Queue.{contents_in}
 use Rattle.cq_files.specs.Saving.{KeepsOrSaves}
 use Rattle.cq_files.specs.declared.opening.SavedQueue.{SavedQueue}
 use Rattle.cq_orders.specs.declared.settings.NameChange.{NameChange}
@@ -20,21 +20,10 @@ use Rattle.cq_names.specs.declared.fault.NameFault.{NameFault}
 use Rattle.cq_names.specs.declared.fault.NameFault.TheVariants.{Refused, Tool}
 use Rattle.cq_names.specs.declared.fault.NameRefusal.{NameRefusal}
 
--- the folder's files are those of the queue, which can be opened and was read whole
-pub record IsFound (files : Option Files) (queue : SavedQueue) : Type 0 where
-  pub lawful : IsLawfulQueue queue
-  pub held : IfSome files (HoldQueue queue)
-  pub whole : queue.contents ≡ contents_in queue
-  pub openable : CanBeOpened queue.config queue.contents
-
--- why a queue is not opened: it cannot be, or the folder is at fault, or memory ran out
-abbrev pub IsUnopened : Files → ToolFault → Type 0
-IsUnopened files fault = IsOpenFault files fault
-
 -- this is decided of the queue that the folder's files hold
 pub record Decides (change : NameChange) (files : Option Files) (decision : Decision) : Type 0 where
   pub queue : SavedQueue
-  pub found : IsFound files queue
+  pub opened : IsOpened files queue
   pub decided : IsDecision change queue.config queue.contents decision
 
 -- a word of the change means no position in the queue that the files hold
@@ -45,12 +34,12 @@ pub record HasBadWord (change : NameChange) (files : Files) (fault : ToolFault) 
 
 -- why nothing is decided: the queue is not opened, memory ran out, or a word means no position
 abbrev pub IsUndecided : NameChange → Files → ToolFault → Type 0
-IsUndecided change files fault = IsUnopened files fault ⊎ ((fault ≡ OutOfMemory) ⊎ HasBadWord change files fault)
+IsUndecided change files fault = IsOpenFault files fault ⊎ ((fault ≡ OutOfMemory) ⊎ HasBadWord change files fault)
 
 -- the line of each name of the queue, and no file changed
 pub record IsListed (before after : Option Files) (text : List ℕ) : Type 0 where
   pub queue : SavedQueue
-  pub found : IsFound before queue
+  pub opened : IsOpened before queue
   pub kept : KeepsFiles before after
   pub text_is : text ≡ name_lines queue.config.names queue.contents.positions
 
@@ -58,7 +47,7 @@ pub record IsListed (before after : Option Files) (text : List ℕ) : Type 0 whe
 -- of the name
 pub record IsChanged (change : NameChange) (before after : Option Files) (text : List ℕ) : Type 0 where
   pub queue : SavedQueue
-  pub found : IsFound before queue
+  pub opened : IsOpened before queue
   pub edit : Edit
   pub edited : IsEdit change queue.config queue.contents edit
   pub config : List ℕ
@@ -74,7 +63,7 @@ IsDone change before after text = IsChanged change before after text
 -- the change of the queue's names is refused
 pub record IsRefused (change : NameChange) (files : Option Files) (refusal : NameRefusal) : Type 0 where
   pub queue : SavedQueue
-  pub found : IsFound files queue
+  pub opened : IsOpened files queue
   pub refuses : Refuses change queue.config queue.contents refusal
 
 -- the command was done and its text written; or a change is refused, and nothing was changed or written
@@ -107,7 +96,7 @@ pub record IsUnprinted (files : Files) (fault : ToolFault) : Type 0 where
 
 -- why the command is not done: what it is to do is not decided; or it is, and is not saved or printed
 abbrev pub IsNamesFault : NameChange → Files → ToolFault → Type 0
-IsNamesFault change.List files fault = IsUnopened files fault ⊎ ((fault ≡ OutOfMemory) ⊎ IsUnprinted files fault)
+IsNamesFault change.List files fault = IsOpenFault files fault ⊎ ((fault ≡ OutOfMemory) ⊎ IsUnprinted files fault)
 IsNamesFault change files fault = IsUndecided change files fault ⊎ IsUnsaved change files fault
 
 -- every file is as it was, or a fault of a file is one of `queue.cqc`

@@ -7,10 +7,10 @@ ghost use Rattle.cq_names.specs.Edits.{IsChange};
 ghost use Rattle.cq_names.specs.Names.{Ends, IsNamesFault, KeepsOrBlames, MayBeOld, all_done, outcome_of};
 ghost use Rattle.cq_orders.specs.declared.settings.NameChange.TheVariants as change;
 
-use crate::deciding::{Decision, decide, opened};
+use crate::deciding::{Decision, decide};
 use crate::lines::lines_of;
 use crate::{NameFault, NameRefusal};
-use cq_files::{SavedQueue, print_outside, write_file};
+use cq_files::{SavedQueue, open_whole_queue, print_outside, write_file};
 use cq_folder::{Access, CONFIG_FILE, Folder};
 use cq_orders::NameChange;
 use cq_text::ToolFault;
@@ -95,7 +95,7 @@ fn list<F: Folder, W: Write>(alloc: Global, folder: &mut F, output: &mut W) -> R
         config,
         contents,
         images: _,
-    } = opened(alloc, folder, Access::Shared)?;
+    } = open_whole_queue(alloc, folder, Access::Shared)?;
     folder.end();
     let text = lines_of(alloc, config.names(), contents.positions.as_slice())?;
     print_outside(folder, output, text.as_slice())

@@ -1,51 +1,28 @@
 -- A folder's queue of which something is said.
-use Rattle.std.proofs.Common.{◌≡◌, inl, inr, map, refl, subst, sym, ◌∙◌}
+use Rattle.std.proofs.Common.{◌≡◌, inl, inr, refl, subst, ◌∙◌}
 use Rattle.std.specs.Prelude.{List, ℕ, Bool, IfSome, None, Option, Some}
 use Rattle.cq_folder.specs.Folder.{Files}
 use Rattle.cq_files.specs.declared.opening.SavedQueue.{SavedQueue}
-use Rattle.cq_files.specs.FolderFaults.{IsQueueFault}
-use Rattle.cq_files.specs.Openable.{IsOpenFault}
-use Rattle.cq_files.specs.Queue.{CanBeOpened, HoldQueue, IsLawfulQueue, list_in}
-use Rattle.cq_files.proofs.QueueLemmas.{whole_contents}
+use Rattle.cq_files.specs.Openable.{IsOpenFault, IsOpened}
+use Rattle.cq_files.specs.Queue.{CanBeOpened}
 use Rattle.cq_model.specs.declared.contents.Contents.{Contents}
 use Rattle.cq_text.specs.declared.fault.ToolFault.{ToolFault}
-use Rattle.cq_text.specs.declared.fault.ToolFault.TheVariants.{BadContents, WriteFault}
+use Rattle.cq_text.specs.declared.fault.ToolFault.TheVariants.{WriteFault}
 use Rattle.cq_stat.specs.declared.facts.QueueStat.{QueueStat}
 use Rattle.cq_stat.specs.Facts.{IsStat}
 use Rattle.cq_stat.specs.StatFaults.{IsStatFault}
 use Rattle.cq_stat.specs.StatJson.{text_of}
 use Rattle.cq_stat.specs.StatOut.{IsFoundIn, IsStatOut}
 
--- the queue that the files hold cannot be opened
-pub bad_contents : (a : Option Files) (queue : SavedQueue) → IsLawfulQueue queue → IfSome a (HoldQueue queue)
-    → queue.contents.lists ≡ map list_in queue.images.items → ¬ CanBeOpened queue.config queue.contents
-    → IfSome a (λ files. IsOpenFault files BadContents)
-bad_contents None queue lawful held lists bad = tt
-bad_contents (Some files) queue lawful held lists bad = inl (
-  refl,
-  record {
-    queue = queue;
-    lawful = lawful;
-    held = held;
-    bad = λ can. bad (subst (CanBeOpened queue.config) (sym (whole_contents queue lists)) can);
-  },
-)
-
--- a queue that is not read cannot be opened
-pub not_read : (a : Option Files) (fault : ToolFault) → IfSome a (λ files. IsQueueFault files fault) → IfSome a (λ files. IsOpenFault files fault)
-not_read None fault cause = tt
-not_read (Some files) fault cause = inr cause
-
 -- what is said of the queue that the files hold
-pub found_in : (a : Option Files) (queue : SavedQueue) (stat : QueueStat) → IsLawfulQueue queue → IfSome a (HoldQueue queue)
-    → queue.contents.lists ≡ map list_in queue.images.items → CanBeOpened queue.config queue.contents
+pub found_in : (a : Option Files) (queue : SavedQueue) (stat : QueueStat) → IsOpened a queue
     → IsStat queue.config queue.contents stat → IsFoundIn a stat
-found_in a queue stat lawful held lists can is = record {
+found_in a queue stat opened is = record {
   queue = queue;
-  lawful = lawful;
-  held = held;
-  openable = subst (CanBeOpened queue.config) (whole_contents queue lists) can;
-  is = subst (λ (contents : Contents). IsStat queue.config contents stat) (whole_contents queue lists) is;
+  lawful = opened.lawful;
+  held = opened.held;
+  openable = subst (CanBeOpened queue.config) opened.whole opened.openable;
+  is = subst (λ (contents : Contents). IsStat queue.config contents stat) opened.whole is;
 }
 
 -- the text of what is said

@@ -1,16 +1,15 @@
 -- What is decided of a queue that is opened.
-use Rattle.std.proofs.Common.{◌≡◌, ◌≢◌, ◌≤◌, ℕ, List, arith, inl, inr, map, max, min, subst, sym}
+use Rattle.std.proofs.Common.{◌≡◌, ◌≢◌, ◌≤◌, ℕ, List, arith, inl, inr, max, min, subst, sym}
 use Rattle.std.specs.Prelude.{Option, None, Some, IfErr, IfOk, IfSome, IsErrAnd, Result, Ok, Err, option_map, string_bytes}
 use Rattle.cq_config_text.specs.declared.version.FolderVersion.TheVariants as version
 use Rattle.cq_cycle.specs.declared.roll.TheConstants.{LAST_CYCLE}
 use Rattle.cq_folder.specs.Folder.{Files}
 use Rattle.cq_files.proofs.CauseLemmas.{MindsFault}
 use Rattle.cq_files.specs.Counted.{CountsFaults}
-use Rattle.cq_files.specs.FolderFaults.{HasVersion, IsQueueFault, MindsVersion}
-use Rattle.cq_files.specs.Openable.{IsOpenFault}
-use Rattle.cq_files.specs.Queue.{CanBeOpened, HoldQueue, IsLawfulQueue, contents_in, list_in}
+use Rattle.cq_files.specs.FolderFaults.{HasVersion, MindsVersion}
+use Rattle.cq_files.specs.Openable.{IsOpenFault, IsOpened}
+use Rattle.cq_files.specs.Queue.{CanBeOpened, HoldQueue, contents_in}
 use Rattle.cq_files.specs.declared.opening.SavedQueue.{SavedQueue}
-use Rattle.cq_files.proofs.QueueLemmas.{whole_contents}
 use Rattle.cq_model.specs.Settings.{Settings}
 use Rattle.cq_model.specs.States.{last_cycle}
 use Rattle.cq_model.specs.declared.contents.Contents.{Contents}
@@ -19,8 +18,7 @@ use Rattle.cq_model.proofs.ContentsLemmas.{last_low}
 use Rattle.cq_orders.specs.declared.settings.TrimSettings.{TrimSettings}
 use Rattle.cq_text.specs.Faults.{IsDeviceFault}
 use Rattle.cq_text.specs.declared.fault.ToolFault.{ToolFault}
-use Rattle.cq_text.specs.declared.fault.ToolFault.TheVariants.{BadContents, BadIndex, BadMoment, WriteFault}
-use Rattle.cq_stat.proofs.OpenLemmas.{bad_contents}
+use Rattle.cq_text.specs.declared.fault.ToolFault.TheVariants.{BadIndex, BadMoment, WriteFault}
 use Rattle.cq_trim.specs.Floors.{IsBeforeFault, raised_floor}
 use Rattle.cq_trim.specs.Plans.{Decides, IsDecision, IsDecisionFault, IsUndecided}
 use Rattle.cq_trim.specs.declared.planning.Decision.{Decision}
@@ -50,27 +48,16 @@ undecided_device wanted settings fault (inl memory) =
     subst (λ (f : ToolFault). (¬ IsDeviceFault f) × (f ≢ WriteFault)) (sym memory) (λ device. device, λ e. cc)
 undecided_device wanted settings fault (inr is) = no_device settings (option_map string_bytes wanted.before) fault is
 
--- the queue that is opened is not that of the files' folder: it cannot be opened
+-- a queue that is not opened is not decided on
 pub not_decided : (a : Option Files) (wanted : TrimSettings) (fault : ToolFault) → IfSome a (λ files. IsOpenFault files fault)
     → IfSome a (λ files. IsUndecided wanted files fault)
 not_decided None wanted fault cause = tt
 not_decided (Some files) wanted fault cause = inl cause
 
-pub not_read : (a : Option Files) (wanted : TrimSettings) (fault : ToolFault) → IfSome a (λ files. IsQueueFault files fault)
-    → IfSome a (λ files. IsUndecided wanted files fault)
-not_read None wanted fault cause = tt
-not_read (Some files) wanted fault cause = inl (inr cause)
-
-pub bad_decided : (a : Option Files) (wanted : TrimSettings) (queue : SavedQueue) → IsLawfulQueue queue → IfSome a (HoldQueue queue)
-    → queue.contents.lists ≡ map list_in queue.images.items → ¬ CanBeOpened queue.config queue.contents
-    → IfSome a (λ files. IsUndecided wanted files BadContents)
-bad_decided a wanted queue lawful held lists bad = not_decided a wanted BadContents (bad_contents a queue lawful held lists bad)
-
-module _ (a : Option Files) (wanted : TrimSettings) (queue : SavedQueue) (result : Result Decision ToolFault) (lawful : IsLawfulQueue queue)
-    (held : IfSome a (HoldQueue queue)) (lists : queue.contents.lists ≡ map list_in queue.images.items)
-    (can : CanBeOpened queue.config queue.contents) where
+module _ (a : Option Files) (wanted : TrimSettings) (queue : SavedQueue) (result : Result Decision ToolFault)
+    (opened : IsOpened a queue) where
   can_whole : CanBeOpened queue.config (contents_in queue)
-  can_whole = subst (CanBeOpened queue.config) (whole_contents queue lists) can
+  can_whole = subst (CanBeOpened queue.config) opened.whole opened.openable
 
   pub decided : IfOk result (IsDecision wanted queue.config queue.contents queue.images.items) → IfOk result (Decides wanted a)
   decided is = by result is
@@ -78,15 +65,15 @@ module _ (a : Option Files) (wanted : TrimSettings) (queue : SavedQueue) (result
       by : (r : Result Decision ToolFault) → IfOk r (IsDecision wanted queue.config queue.contents queue.images.items) → IfOk r (Decides wanted a)
       by (Ok decision) is = record {
         queue = queue;
-        lawful = lawful;
-        held = held;
+        lawful = opened.lawful;
+        held = opened.held;
         openable = can_whole;
-        decided = subst (λ (contents : Contents). IsDecision wanted queue.config contents queue.images.items decision) (whole_contents queue lists) is;
+        decided = subst (λ (contents : Contents). IsDecision wanted queue.config contents queue.images.items decision) opened.whole is;
       }
       by (Err fault) is = tt
 
   pub undecided : IfErr result (IsDecisionFault wanted queue.config) → IfErr result (λ fault. IfSome a (λ files. IsUndecided wanted files fault))
-  undecided is = by a held result is
+  undecided is = by a opened.held result is
     where
       by : (o : Option Files) → IfSome o (HoldQueue queue) → (r : Result Decision ToolFault) → IfErr r (IsDecisionFault wanted queue.config)
           → IfErr r (λ fault. IfSome o (λ files. IsUndecided wanted files fault))
@@ -94,7 +81,7 @@ module _ (a : Option Files) (wanted : TrimSettings) (queue : SavedQueue) (result
       by None holds (Err fault) is = tt
       by (Some files) holds (Err fault) (inl memory) =
           subst (λ (f : ToolFault). IsUndecided wanted files f) (sym memory) (inl (inr (tt, tt)))
-      by (Some files) holds (Err fault) (inr word) = inr (queue, record { lawful = lawful; held = holds; openable = can_whole }, word)
+      by (Some files) holds (Err fault) (inr word) = inr (queue, record { lawful = opened.lawful; held = holds; openable = can_whole }, word)
 
 -- the folder is of version 2, and it is decided or not
 pub minds_still : {T : Type 0} (a : Option Files) (result : Result T ToolFault) → IfSome a (λ files. HasVersion files version.Second)
@@ -109,11 +96,6 @@ pub minds_passed : {T : Type 0} (a : Option Files) (fault : ToolFault) (result :
 minds_passed None fault result is minds = tt
 minds_passed (Some files) fault (Ok value) is minds = absurd is
 minds_passed (Some files) fault (Err passed) is minds = subst (MindsFault (Some files)) (sym is) minds
-
-pub not_opened : (a : Option Files) (wanted : TrimSettings) (fault : ToolFault) → IfSome a (λ files. IsQueueFault files fault)
-    → IfSome a (λ files. IsUndecided wanted files fault)
-not_opened None wanted fault cause = tt
-not_opened (Some files) wanted fault cause = inl (inr cause)
 
 -- no failure is counted for it
 pub counts_still : {T : Type 0} (was now : ℕ) (wanted : TrimSettings) (settings : Settings) (result : Result T ToolFault) → was ≤ now

@@ -14,7 +14,7 @@ ghost use Rattle.cq_trim.specs.Trimmed.{AreChanges, IsFirstLoser, Loses, name_li
 use crate::floors::floor_for;
 use cq_config_text::write_config;
 use cq_cycle::LAST_CYCLE;
-use cq_files::{CycleImage, Retain, SavedQueue, can_be_opened, open_queue};
+use cq_files::{CycleImage, SavedQueue, open_whole_queue};
 use cq_folder::{Access, CONFIG_FILE, Folder, NewFile};
 use cq_model::{Config, Contents, Items};
 use cq_orders::TrimSettings;
@@ -45,8 +45,7 @@ pub(crate) enum Decision {
 /// Opens the queue of a folder, and decides what is done to it.
 ///
 /// Errors, in this order:
-/// - those of `open_queue`;
-/// - `BadContents`;
+/// - those of `open_whole_queue`;
 /// - those of `cycle_meant`.
 pub(crate) fn decide<F: Folder>(
     alloc: Global,
@@ -65,10 +64,7 @@ pub(crate) fn decide<F: Folder>(
         config,
         contents,
         images,
-    } = open_queue(alloc, folder, Access::Alone, Retain::All)?;
-    if !can_be_opened(&config, &contents) {
-        return Err(ToolFault::BadContents);
-    }
+    } = open_whole_queue(alloc, folder, Access::Alone)?;
     decision_for(alloc, &config, &contents, images, settings)
 }
 

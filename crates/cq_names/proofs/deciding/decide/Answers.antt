@@ -5,12 +5,12 @@ use Rattle.cq_names.proofs.deciding.decide.Goals as goal
 
 pub returns-clause-decides : goal.returns-clause-decides
 returns-clause-decides g c =
-    decided c.args.change.now (g.F.Folder.files c.args.folder.now) c.in_ok-config.field-0 c.decision_for.result c.in_ok-config.ensures.found
+    decided c.args.change.now (g.F.Folder.files c.args.folder.now) c.in_ok-config.field-0 c.decision_for.result c.in_ok-config.ensures.opened
     c.decision_for.ensures.decides
 
 pub returns-clause-cause : goal.returns-clause-cause
 returns-clause-cause g c =
-    undecided c.args.change.now (g.F.Folder.files c.args.folder.now) c.in_ok-config.field-0 c.decision_for.result c.in_ok-config.ensures.found
+    undecided c.args.change.now (g.F.Folder.files c.args.folder.now) c.in_ok-config.field-0 c.decision_for.result c.in_ok-config.ensures.opened
     c.decision_for.ensures.fault
 
 pub returns-clause-unprinted : goal.returns-clause-unprinted

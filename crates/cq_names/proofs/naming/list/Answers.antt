@@ -13,7 +13,7 @@ returns-clause-ends g c =
     ends_listed (files c.args.folder.now) (files c.end.new.self) _ _ c.as_slice-2.result.now c.print_outside.result
     (record {
       queue = queue;
-      found = c.in_ok-config.ensures.found;
+      opened = c.in_ok-config.ensures.opened;
       kept = subst (λ (after : Option Files). KeepsFiles (files c.args.folder.now) after) (sym c.end.ensures.kept) c.in_ok-config.ensures.kept;
       text_is = c.as_slice-2.ensures.value ∙ c.in_ok-text.ensures
           ∙ ap (λ (names : List (List ℕ)). name_lines names c.as_slice.result.now) c.names.ensures.value
@@ -23,4 +23,4 @@ returns-clause-ends g c =
 
 pub returns-clause-cause : goal.returns-clause-cause
 returns-clause-cause g c =
-    listed_fault (g.F.Folder.files c.args.folder.now) c.in_ok-config.field-0 c.print_outside.result c.in_ok-config.ensures.found c.print_outside.ensures.fault
+    listed_fault (g.F.Folder.files c.args.folder.now) c.in_ok-config.field-0 c.print_outside.result c.in_ok-config.ensures.opened c.print_outside.ensures.fault

@@ -1,40 +1,28 @@
-use Rattle.std.proofs.Common.{refl, rules}
+use Rattle.std.proofs.Common.{refl}
 use Rattle.std.specs.Prelude.{◌≢◌, IfSome}
 use Rattle.cq_files.proofs.CountLemmas.{counts_passed}
-use Rattle.cq_files.specs.Queue.{CanBeOpened}
 use Rattle.cq_text.proofs.FaultLemmas.{passed_on}
 use Rattle.cq_text.specs.declared.fault.ToolFault.TheVariants.{WriteFault}
 use Rattle.cq_trim.specs.Plans.{IsUndecided}
-use Rattle.cq_trim.proofs.PlanLemmas.{bad_decided, counts_still, decided, minds_passed, minds_still, not_opened, undecided, unprinted_still}
+use Rattle.cq_trim.proofs.PlanLemmas.{counts_still, decided, minds_passed, minds_still, not_decided, undecided, unprinted_still}
 use Rattle.cq_trim.proofs.planning.decide.Goals as goal
-
-pub returns-then-not-can_be_opened-clause-cause : goal.returns-then-not-can_be_opened-clause-cause
-returns-then-not-can_be_opened-clause-cause g c =
-    let queue = c.in_ok-config.field-0 in
-    let read = c.in_ok-config.ensures in
-    let bad : ¬ CanBeOpened queue.config queue.contents = search rules in
-    bad_decided (g.F.Folder.files c.args.folder.now) c.args.settings.now queue read.lawful read.held read.lists bad
 
 pub returns-clause-decides : goal.returns-clause-decides
 returns-clause-decides g c =
-    let queue = c.in_ok-config.field-0 in
-    let read = c.in_ok-config.ensures in
-    let can : CanBeOpened queue.config queue.contents = search rules in
-    decided (g.F.Folder.files c.args.folder.now) c.args.settings.now queue c.decision_for.result read.lawful read.held read.lists can c.decision_for.ensures.decides
+    decided (g.F.Folder.files c.args.folder.now) c.args.settings.now c.in_ok-config.field-0 c.decision_for.result
+    c.in_ok-config.ensures.opened c.decision_for.ensures.decides
 
 pub returns-clause-cause : goal.returns-clause-cause
 returns-clause-cause g c =
-    let queue = c.in_ok-config.field-0 in
-    let read = c.in_ok-config.ensures in
-    let can : CanBeOpened queue.config queue.contents = search rules in
-    undecided (g.F.Folder.files c.args.folder.now) c.args.settings.now queue c.decision_for.result read.lawful read.held read.lists can c.decision_for.ensures.fault
+    undecided (g.F.Folder.files c.args.folder.now) c.args.settings.now c.in_ok-config.field-0 c.decision_for.result
+    c.in_ok-config.ensures.opened c.decision_for.ensures.fault
 
 pub returns-in_err-config-clause-cause : goal.returns-in_err-config-clause-cause
 returns-in_err-config-clause-cause g c =
     let files = g.F.Folder.files c.args.folder.now in
     let fault = c.in_err-config.field-0.0 in
     passed_on c.from_residual.result (λ f. IfSome files (λ held. IsUndecided c.args.settings.now held f)) fault c.from_residual.ensures.1
-    (not_opened files c.args.settings.now fault c.in_err-config.ensures.cause)
+    (not_decided files c.args.settings.now fault c.in_err-config.ensures.cause)
 
 pub returns-in_err-config-clause-unprinted : goal.returns-in_err-config-clause-unprinted
 returns-in_err-config-clause-unprinted g c =
