@@ -27,6 +27,11 @@ pub enum ServiceFault {
 }
 
 impl From<LiveFault> for ServiceFault {
+    ghost use Rattle.std.specs.Prelude.{◌≡◌};
+    ghost use Rattle.cq_service.specs.Services.{of_live};
+
+    ghost from_gives = { λ cause fault. fault ≡ of_live cause };
+
     fn from(cause: LiveFault) -> ServiceFault {
         match cause {
             // The log that was saved is not in its place yet: the save lacked memory for that, and the next start does it.
@@ -39,6 +44,11 @@ impl From<LiveFault> for ServiceFault {
 }
 
 impl From<IngestFault> for ServiceFault {
+    ghost use Rattle.std.specs.Prelude.{◌≡◌};
+    ghost use Rattle.cq_service.specs.Services.{of_ingest};
+
+    ghost from_gives = { λ cause fault. fault ≡ of_ingest cause };
+
     fn from(cause: IngestFault) -> ServiceFault {
         match cause {
             // Its own text is for code that makes turns.
@@ -51,6 +61,11 @@ impl From<IngestFault> for ServiceFault {
 }
 
 impl From<AllocError> for ServiceFault {
+    ghost use Rattle.std.specs.Prelude.{◌≡◌};
+    ghost use Rattle.cq_service.specs.declared.fault.ServiceFault.TheVariants.{OutOfMemory};
+
+    ghost from_gives = { λ _ fault. fault ≡ OutOfMemory };
+
     fn from(_error: AllocError) -> ServiceFault {
         ServiceFault::OutOfMemory
     }

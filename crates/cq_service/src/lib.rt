@@ -8,6 +8,7 @@
 #![tactic(auto)]
 
 mod fault;
+mod served;
 mod service;
 
 pub use fault::ServiceFault;
