@@ -1,7 +1,7 @@
 -- Which orders are run over a folder that is seen with what its log gives.
 use Rattle.std.specs.Prelude.{⊤}
 use Rattle.cq_orders.specs.declared.order.Order.{Order}
-use Rattle.cq_orders.specs.declared.order.Order.TheVariants.{Explain, Log, New, Race}
+use Rattle.cq_orders.specs.declared.order.Order.TheVariants.{Explain, Follow, Log, New, Race, TakeBy, Write, WriteBy}
 
 -- the order is for one caller, and is run over such a folder, which is not used by one that is for no folder
 abbrev pub IsForOne : Order → Type 0
@@ -10,3 +10,15 @@ IsForOne (Log folder settings) = ⊥
 IsForOne (New folder settings) = ⊥
 IsForOne (Explain words) = ⊥
 IsForOne order = ⊤
+
+-- the order is for one caller, appends no message, and waits for none
+abbrev pub IsDoneAtOnce : Order → Type 0
+IsDoneAtOnce (Write folder moment) = ⊥
+IsDoneAtOnce (WriteBy folder settings) = ⊥
+IsDoneAtOnce (Log folder settings) = ⊥
+IsDoneAtOnce (Follow folder settings seconds) = ⊥
+IsDoneAtOnce (TakeBy folder name settings) = ⊥
+IsDoneAtOnce (Race messages) = ⊥
+IsDoneAtOnce (New folder settings) = ⊥
+IsDoneAtOnce (Explain words) = ⊥
+IsDoneAtOnce order = ⊤

@@ -12,7 +12,9 @@ use std::rt::Files;
 ///
 /// Errors: `Tool` with `FolderFault`: it could not be made, or a file has its name. With `OutOfMemory`: out of memory.
 pub(crate) fn make_folder<R: Files<File = File>>(rt: &R, path: &str) -> Result<bool, StartFault> {
-    if fs::metadata(rt, path).is_ok_and(|found| found.is_dir()) {
+    if let Ok(found) = fs::metadata(rt, path)
+        && found.is_dir()
+    {
         return Ok(false);
     }
     match fs::create_dir_all(rt, path) {

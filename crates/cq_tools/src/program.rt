@@ -1,8 +1,7 @@
 //! The program, as it is run for an order.
 
 ghost use Rattle.std.specs.Prelude.{◌≡◌, ◌↔◌, IfOk};
-ghost use Rattle.cq_orders.specs.OrderFolder.{IsPlain};
-ghost use Rattle.cq_tools.specs.Starts.{IsForOne};
+ghost use Rattle.cq_tools.specs.Starts.{IsForOne, IsDoneAtOnce};
 
 use crate::checking::print_news;
 use crate::fault::StartFault;
@@ -17,8 +16,7 @@ use cq_logged::{LogFault, LogNews, LoggedFolder, SystemLock};
 use cq_names::names;
 use cq_new::{init_line, settings_of};
 use cq_orders::{
-    InitSettings, InputForm, NameChange, NewSettings, Order, ReadSettings, TakeSettings,
-    TrimSettings, WriteSettings,
+    InitSettings, InputForm, NewSettings, Order, ReadSettings, TakeSettings, WriteSettings,
 };
 use cq_progress::{Progress, with_progress};
 use cq_race::{OpenGate, race};
@@ -36,7 +34,7 @@ use std::sync::Wait;
 use std::thread::Threads;
 
 /// What a command came to that did not fail.
-#[derive(Clone, Copy, Debug, PartialEq, Eq)]
+#[derive(Clone, Copy)]
 pub(crate) enum Outcome {
     /// It was done.
     Done,
@@ -97,6 +95,7 @@ where
         match order {
             Order::Race { messages } => {
                 race(self.rt, *messages, &OpenGate, &mut io::writer(self.rt))?;
+                Ok(Outcome::Done)
             }
             Order::Log { folder, settings } => {
                 log(
@@ -106,12 +105,12 @@ where
                     folder.as_str(),
                     settings,
                 )?;
+                Ok(Outcome::Done)
             }
-            Order::New { folder, settings } => self.make(folder.as_str(), settings)?,
-            Order::Explain { words } => return self.explain(words.as_slice()),
-            _ => return self.run_for_one(order),
+            Order::New { folder, settings } => self.make(folder.as_str(), settings),
+            Order::Explain { words } => self.explain(words.as_slice()),
+            _ => self.run_for_one(order),
         }
-        Ok(Outcome::Done)
     }
 
     /// Prints what faults mean.
@@ -123,18 +122,21 @@ where
     }
 
     /// Makes a folder with a queue, and prints the line of `init` that does the same.
-    fn make(&self, path: &str, given: &NewSettings) -> Result<(), StartFault> {
+    fn make(&self, path: &str, given: &NewSettings) -> Result<Outcome, StartFault> {
         let alloc = self.rt.alloc();
         let settings = settings_of(alloc, given)?;
-        let line = whole_line(init_line(alloc, path, &settings)?)?;
+        let line = line_of(alloc, path, &settings)?;
         self.make_queue(path, settings)?;
-        Ok(print(&mut io::writer(self.rt), line.as_bytes())?)
+        print(&mut io::writer(self.rt), line.as_bytes())?;
+        Ok(Outcome::Done)
     }
 
     /// Makes a folder with a queue of these settings.
     fn make_queue(&self, path: &str, settings: InitSettings) -> Result<(), StartFault> {
         let init = init_order(self.rt.alloc(), path, settings)?;
-        self.make_by(&init, path)
+        let made = self.make_by(&init, path);
+        drop(init);
+        made
     }
 
     /// Makes a folder with a queue, by the order to make the queue. A folder that was made is removed again if the queue is refused.
@@ -146,14 +148,15 @@ where
         if is_made && made.is_err() {
             remove_made(self.rt, path);
         }
-        made.map(|_| ())
+        made?;
+        Ok(())
     }
 
     /// Runs an order for one caller. On a terminal it says for how long, if it takes long and prints little.
     fn run_for_one(&self, order: &Order) -> Result<Outcome, StartFault>
         requires { IsForOne order.now }
     {
-        let Some(words) = self.lasting(order) else {
+        let Some(words) = lasting(self.terminals, order) else {
             return self.run_seen(order);
         };
         let progress = Progress::new();
@@ -178,26 +181,6 @@ where
         }
     }
 
-    /// Returns what is said of an order while it takes long; `None` if nothing is said. An order that prints messages may wait for whom
-    /// it prints them to.
-    fn lasting(&self, order: &Order) -> Option<&'static str> {
-        if !self.terminals.errors {
-            return None;
-        }
-        match order {
-            Order::Write { .. } | Order::WriteBy { .. } if !self.terminals.input => Some(AT_INPUT),
-            Order::Init { .. }
-            | Order::DropBefore { .. }
-            | Order::Trim { .. }
-            | Order::Check { .. }
-            | Order::Stat { .. }
-            | Order::Migrate { .. }
-            | Order::Names { .. }
-            | Order::Repair { .. } => Some(AT_WORK),
-            _ => None,
-        }
-    }
-
     /// Erases the line that says how long the work has taken.
     fn quiet(&self) {
         if let Some(progress) = self.progress {
@@ -219,8 +202,10 @@ where
     {
         let mut folder = self.logged_folder(order.folder().unwrap_or(""))?;
         let done = self.run_and_say(order, &mut folder);
-        let (_folder, cause) = folder.into_parts();
-        self.end(done, cause)
+        let (folder, cause) = folder.into_parts();
+        let ended = self.end(done, cause);
+        drop(folder);
+        ended
     }
 
     /// Runs an order for one caller over such a folder, and prints what it found of the log.
@@ -263,95 +248,65 @@ where
     {
         match order {
             Order::Write { folder: _, moment } => {
-                self.write(folder, *moment, InputForm::Lines)?;
+                let settings = WriteSettings {
+                    moment: Some(*moment),
+                    form: InputForm::Lines,
+                };
+                self.write(folder, settings)
             }
             Order::WriteBy {
                 folder: _,
                 settings,
-            } => self.write_by(folder, *settings)?,
+            } => self.write(folder, *settings),
             Order::Follow {
                 folder: path,
                 settings,
                 seconds,
-            } => self.follow(folder, path.as_str(), settings, *seconds)?,
+            } => self.follow(folder, path.as_str(), settings, *seconds),
             Order::TakeBy {
                 folder: path,
                 name,
                 settings,
-            } => return self.take_by(folder, path.as_str(), name.as_str(), settings),
-            Order::Trim {
-                folder: _,
-                settings,
-            } => self.trim(folder, settings)?,
-            Order::Names { folder: _, change } => self.names(folder, change)?,
-            Order::Repair {
-                folder: _,
-                file,
-                dry_run,
-            } => self.repair(folder, file.as_str(), *dry_run)?,
+            } => self.take_by(folder, path.as_str(), name.as_str(), settings),
             Order::Race { .. } | Order::Log { .. } | Order::New { .. } | Order::Explain { .. } => {
                 unreachable!()
             }
-            _ => self.run_plain(order, folder)?,
+            _ => self.run_at_once(order, folder),
+        }
+    }
+
+    /// Runs an order that appends no message and waits for none.
+    fn run_at_once<F: Folder>(&self, order: &Order, folder: &mut F) -> Result<Outcome, StartFault>
+        requires { IsDoneAtOnce order.now }
+    {
+        let alloc = self.rt.alloc();
+        let mut output = self.output();
+        match order {
+            Order::Trim { settings, .. } => trim(alloc, folder, settings, &mut output)?,
+            Order::Names { change, .. } => names(alloc, folder, change, &mut output)?,
+            Order::Repair { file, dry_run, .. } => {
+                repair(alloc, folder, file.as_str(), *dry_run, &mut output)?;
+            }
+            _ => run(alloc, order, folder, &mut self.rt.reader(), &mut output)?,
         }
         Ok(Outcome::Done)
     }
 
-    /// Runs an order that needs no more than a folder and the standard streams.
-    fn run_plain<F: Folder>(&self, order: &Order, folder: &mut F) -> Result<(), StartFault>
-        requires { IsPlain order.now }
-    {
-        let alloc = self.rt.alloc();
-        Ok(run(
-            alloc,
-            order,
-            folder,
-            &mut self.rt.reader(),
-            &mut self.output(),
-        )?)
-    }
-
-    /// Removes the images of dropped cycles.
-    fn trim<F: Folder>(&self, folder: &mut F, settings: &TrimSettings) -> Result<(), StartFault> {
-        Ok(trim(self.rt.alloc(), folder, settings, &mut self.output())?)
-    }
-
-    /// Prints or changes the names of a queue.
-    fn names<F: Folder>(&self, folder: &mut F, change: &NameChange) -> Result<(), StartFault> {
-        Ok(names(self.rt.alloc(), folder, change, &mut self.output())?)
-    }
-
-    /// Makes what `salvage` finds the image.
-    fn repair<F: Folder>(
-        &self,
-        folder: &mut F,
-        file: &str,
-        dry_run: bool,
-    ) -> Result<(), StartFault> {
-        Ok(repair(self.rt.alloc(), folder, file, dry_run, &mut self.output())?)
-    }
-
-    /// Appends the messages of the input as options say. Without a moment it is the time of the clock.
-    fn write_by<F: Folder>(
+    /// Appends the messages of the input as options say. Without a moment it is the time of the clock. On a terminal it says which
+    /// cycle begins.
+    fn write<F: Folder>(
         &self,
         folder: &mut F,
         settings: WriteSettings,
-    ) -> Result<(), StartFault> {
+    ) -> Result<Outcome, StartFault> {
         let moment = match settings.moment {
             Some(moment) => moment,
             None => moment_of(self.rt)?,
         };
-        self.write(folder, moment, settings.form)
-    }
-
-    /// Appends the messages of the input at a moment. On a terminal it says which cycle begins.
-    fn write<F: Folder>(
-        &self,
-        folder: &mut F,
-        moment: u64,
-        form: InputForm,
-    ) -> Result<(), StartFault> {
-        let batch = Batch { moment, form };
+        let batch = Batch {
+            moment,
+            form: settings.form,
+        };
         let begun = write_by(
             self.rt.alloc(),
             folder,
@@ -360,7 +315,7 @@ where
             &mut self.output(),
         )?;
         self.say_begun(begun);
-        Ok(())
+        Ok(Outcome::Done)
     }
 
     /// Says which cycle began, if errors are printed to a terminal. Seconds that were given as milliseconds are seen so.
@@ -380,10 +335,14 @@ where
         path: &str,
         settings: &ReadSettings,
         seconds: Option<u64>,
-    ) -> Result<(), StartFault> {
+    ) -> Result<Outcome, StartFault> {
         let mut watch = Watch::new(self.rt, FolderChanges::new(self.rt, path)?);
         let mut output = Pipe::new(io::writer(self.rt));
-        Ok(follow(&mut watch, folder, settings, seconds, &mut output)?)
+        let followed = follow(&mut watch, folder, settings, seconds, &mut output);
+        drop(output);
+        drop(watch);
+        followed?;
+        Ok(Outcome::Done)
     }
 
     /// Takes messages as options say.
@@ -395,8 +354,9 @@ where
         settings: &TakeSettings,
     ) -> Result<Outcome, StartFault> {
         let mut watch = Watch::new(self.rt, FolderChanges::new(self.rt, path)?);
-        let took = take_waiting(&mut watch, folder, name, settings, &mut io::writer(self.rt))?;
-        Ok(outcome_of(took))
+        let took = take_waiting(&mut watch, folder, name, settings, &mut io::writer(self.rt));
+        drop(watch);
+        Ok(outcome_of(took?))
     }
 
     /// Returns what an order came to, by why its log kept it out or was not shown. If the log is not shown, `errors` says so.
@@ -405,32 +365,36 @@ where
         done: Result<Outcome, StartFault>,
         cause: Option<LogFault>,
     ) -> Result<Outcome, StartFault> {
-        match cause {
-            None => done,
-            Some(cause) => self.end_without_log(done, cause),
-        }
-    }
-
-    /// Returns what an order came to whose log kept it out or was not shown.
-    fn end_without_log(
-        &self,
-        done: Result<Outcome, StartFault>,
-        cause: LogFault,
-    ) -> Result<Outcome, StartFault> {
+        let Some(cause) = cause else {
+            return done;
+        };
         if matches!(cause, LogFault::NotShown(_)) {
             self.quiet();
             let _ = eprintln!(self.errors; "cq: {cause}");
+            drop(cause);
             return done;
         }
-        kept_out(done, cause)
+        done.or(Err(StartFault::Log(cause)))
     }
 }
 
-/// Returns what an order came to that its log kept out.
-fn kept_out(done: Result<Outcome, StartFault>, cause: LogFault) -> Result<Outcome, StartFault> {
-    match done {
-        Ok(outcome) => Ok(outcome),
-        Err(_) => Err(StartFault::Log(cause)),
+/// Returns what is said of an order while it takes long; `None` if nothing is said. An order that prints messages may wait for whom
+/// it prints them to.
+fn lasting(terminals: Terminals, order: &Order) -> Option<&'static str> {
+    if !terminals.errors {
+        return None;
+    }
+    match order {
+        Order::Write { .. } | Order::WriteBy { .. } if !terminals.input => Some(AT_INPUT),
+        Order::Init { .. }
+        | Order::DropBefore { .. }
+        | Order::Trim { .. }
+        | Order::Check { .. }
+        | Order::Stat { .. }
+        | Order::Migrate { .. }
+        | Order::Names { .. }
+        | Order::Repair { .. } => Some(AT_WORK),
+        _ => None,
     }
 }
 
@@ -442,9 +406,9 @@ fn init_order(alloc: Global, path: &str, settings: InitSettings) -> Result<Order
     Ok(Order::Init { folder, settings })
 }
 
-/// Returns a line with its line feed.
-fn whole_line(text: String) -> Result<String, AllocError> {
-    let mut line = text;
+/// Returns the line of `init` that makes a queue with these settings in the folder of this path, with its line feed.
+fn line_of(alloc: Global, path: &str, settings: &InitSettings) -> Result<String, AllocError> {
+    let mut line = init_line(alloc, path, settings)?;
     line.push('\n')?;
     Ok(line)
 }

@@ -73,7 +73,11 @@ where
         progress: None,
     };
     match order_in(rt, words) {
-        Ok(order) => said_of(errors, program.run(&order)),
+        Ok(order) => {
+            let status = said_of(errors, program.run(&order));
+            drop(order);
+            status
+        }
         Err(unread) => said(rt, errors, unread),
     }
 }
@@ -83,7 +87,11 @@ fn said_of<E: Eprint>(errors: &E, done: Result<Outcome, StartFault>) -> u8 {
     match done {
         Ok(Outcome::Done) => DONE,
         Ok(Outcome::Nothing) => NOTHING,
-        Err(error) => fault(errors, &error),
+        Err(error) => {
+            let status = fault(errors, &error);
+            drop(error);
+            status
+        }
     }
 }
 
@@ -103,7 +111,10 @@ fn order_in<R: AllocGlobal>(rt: &R, words: io::Result<Vec<String>>) -> Result<Or
         Err(error) if error.kind() == ErrorKind::InvalidData => return Err(Unread::NoText),
         Err(_) => return Err(Unread::NoOrder(ParseFault::OutOfMemory)),
     };
-    parse(rt.alloc(), words.as_slice()).map_err(Unread::NoOrder)
+    match parse(rt.alloc(), words.as_slice()) {
+        Ok(order) => Ok(order),
+        Err(fault) => Err(Unread::NoOrder(fault)),
+    }
 }
 
 /// Prints why there is no order, or the version if that was asked for, and returns the exit status.
