@@ -8,9 +8,9 @@ use Rattle.cq_config_text.specs.ConfigText.{IsTextOf}
 use Rattle.cq_cycle.specs.Index.{index_text}
 use Rattle.cq_folder.specs.Folder.{Files, KeepsFiles, KeepsOrWrites, WritesFile}
 use Rattle.cq_folder.specs.declared.names.TheConstants.{CONFIG_FILE}
-use Rattle.cq_journal.specs.Journals.{Declares, JournalFacts, ReaderFacts}
+use Rattle.cq_journal.specs.Journals.{JournalFacts, ReaderFacts}
 use Rattle.cq_model.specs.Finds.{Placed}
-use Rattle.cq_model.specs.Settings.{Settings}
+use Rattle.cq_model.specs.Settings.{Declares, Settings}
 use Rattle.cq_model.specs.declared.contents.Contents.{Contents}
 use Rattle.cq_text.specs.Output.{AppendsBeginning}
 use Rattle.cq_text.specs.declared.fault.ToolFault.{ToolFault}

@@ -1,8 +1,7 @@
 -- Which faults of a folder's queue are answered.
 use Rattle.std.specs.Prelude.{◌≡◌, ◌≢◌, ◌⊎◌, ℕ, ◌^◌, ◌<◌, List, IsSomeAnd, Option, None, Some, option_map, string_bytes}
 use Rattle.cq_cycle.specs.Index.{index_text}
-use Rattle.cq_model.specs.Settings.{Settings}
-use Rattle.cq_journal.specs.Journals.{Declares}
+use Rattle.cq_model.specs.Settings.{Declares, Settings}
 use Rattle.cq_folder.specs.Folder.{Files}
 use Rattle.cq_orders.specs.declared.settings.ReadSettings.{ReadSettings}
 use Rattle.cq_tail.specs.declared.error.TakeFault.{TakeFault}

@@ -4,11 +4,12 @@ ghost use Rattle.std.specs.Prelude.{◌≡◌, ◌≢◌, ◌+◌, ◌⊎◌, �
 ghost use Rattle.std.specs.List.{flat_map};
 ghost use Rattle.std.specs.Io.KnownBytes.{Appends};
 ghost use Rattle.cq_folder.specs.Folder.{KeepsFiles};
-ghost use Rattle.cq_journal.specs.Journals.{Declares, HasTaken};
+ghost use Rattle.cq_journal.specs.Journals.{HasTaken};
 ghost use Rattle.cq_layout.specs.Layout.{IsLawfulLayout};
 ghost use Rattle.cq_model.specs.Finds.{Placed};
 ghost use Rattle.cq_model.specs.States.{AreLawfulContents};
 ghost use Rattle.cq_model.specs.declared.contents.Contents.{Contents};
+ghost use Rattle.cq_model.specs.Settings.{Declares};
 ghost use Rattle.cq_text.specs.Output.{AppendsBeginning};
 ghost use Rattle.cq_files.specs.Counted.{CountsFaults};
 ghost use Rattle.cq_files.specs.Queue.{CanBeOpened};

@@ -12,9 +12,10 @@ use Rattle.cq_cycle.specs.declared.roll.TheConstants.{ROLLS}
 use Rattle.cq_layout.specs.Layout.{layout_in}
 use Rattle.cq_layout.specs.Shape.{measures}
 use Rattle.cq_layout.specs.declared.store_record.StoreVersion.{StoreVersion}
-use Rattle.cq_config_text.specs.Version.{store_in, version_of, version_word}
-use Rattle.cq_config_text.specs.declared.version.FolderVersion.{FolderVersion}
-use Rattle.cq_config_text.specs.declared.version.FolderVersion.TheVariants.{First, Second}
+use Rattle.cq_origin.specs.Origins.{origin_of}
+use Rattle.cq_layout.specs.Version.{store_in, version_of, version_word}
+use Rattle.cq_layout.specs.declared.version.FolderVersion.{FolderVersion}
+use Rattle.cq_layout.specs.declared.version.FolderVersion.TheVariants.{First, Second}
 use Rattle.cq_model.specs.Settings.{IsLawfulSettings, Settings, settings_of}
 use Rattle.cq_config_text.specs.ConfigFault.{Judges, RefusesSaved, Saves}
 use Rattle.cq_config_text.specs.declared.config_fault.ConfigFault.{ConfigFault}
@@ -226,7 +227,7 @@ module _ (one other : Settings) (places places' : List ℕ) (floor floor' : ℕ)
       let version_is : version_of one.layout.store ≡ version_of other.layout.store =
       version_word_injective (version_of one.layout.store) (version_of other.layout.store) version.0 in
       let store_is : one.layout.store ≡ other.layout.store =
-      writable.store ∙ (λ i. store_in (version_is i) (roll_is i) (epoch_is i)) ∙ sym writable'.store in
+      writable.store ∙ (λ i. store_in (version_is i) (origin_of (roll_is i) (epoch_is i))) ∙ sym writable'.store in
       let cells_is : one.layout.cells ≡ other.layout.cells =
       decimal_injective one.layout.cells other.layout.cells writable.cells writable'.cells cells.0 in
       let count_is : one.layout.index_count ≡ other.layout.index_count =

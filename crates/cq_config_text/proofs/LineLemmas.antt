@@ -17,9 +17,9 @@ use Rattle.cq_cycle.specs.declared.roll.Roll.TheVariants.{Daily}
 use Rattle.cq_cycle.specs.declared.roll.TheConstants.{ROLLS}
 use Rattle.cq_model.specs.Settings.{IsNameByte}
 use Rattle.cq_config_text.specs.ConfigText.{Form, IsNameWord, has_form, is_name, is_name_byte, is_number, is_positive, is_roll, is_version}
-use Rattle.cq_config_text.specs.Version.{version_word}
-use Rattle.cq_config_text.specs.declared.version.FolderVersion.{FolderVersion}
-use Rattle.cq_config_text.specs.declared.version.FolderVersion.TheVariants.{First, Second}
+use Rattle.cq_layout.specs.Version.{version_word}
+use Rattle.cq_layout.specs.declared.version.FolderVersion.{FolderVersion}
+use Rattle.cq_layout.specs.declared.version.FolderVersion.TheVariants.{First, Second}
 use Rattle.cq_config_text.proofs.CutLemmas.{IsFree, all_pass, all_tested, and_false, and_is_true, and_true, not_equal, or_true}
 
 -- the words of a line

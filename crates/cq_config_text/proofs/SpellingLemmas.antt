@@ -10,7 +10,7 @@ use Rattle.cq_config_text.specs.ConfigText.{AreWritableNames, Form, IsNameWord, 
 use Rattle.cq_config_text.proofs.CutLemmas.{IsFree, equal}
 use Rattle.cq_config_text.proofs.FaultLemmas.{fault_behind, lines_in}
 use Rattle.cq_config_text.proofs.LineLemmas.{IsPrinted, decimal_printed, name_printed, printed_free, roll_printed, text_printed, version_printed, words_in}
-use Rattle.cq_config_text.specs.Version.{version_of}
+use Rattle.cq_layout.specs.Version.{version_of}
 
 -- no word holds a space or a line feed
 abbrev pub ArePrinted : List (List ℕ) → Type 0

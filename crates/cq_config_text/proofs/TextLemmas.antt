@@ -6,9 +6,10 @@ use Rattle.std.proofs.lemmas.List.Elements.{All-push, All-weaker}
 use Rattle.cq_cycle.specs.declared.roll.Roll.{Roll}
 use Rattle.cq_layout.specs.declared.store_record.StoreVersion.{StoreVersion}
 use Rattle.cq_layout.specs.declared.store_record.StoreVersion.TheVariants as store
-use Rattle.cq_config_text.specs.Version.{store_in, version_of}
-use Rattle.cq_config_text.specs.declared.version.FolderVersion.{FolderVersion}
-use Rattle.cq_config_text.specs.declared.version.FolderVersion.TheVariants.{First, Second}
+use Rattle.cq_origin.specs.Origins.{origin_of}
+use Rattle.cq_layout.specs.Version.{store_in, version_of}
+use Rattle.cq_layout.specs.declared.version.FolderVersion.{FolderVersion}
+use Rattle.cq_layout.specs.declared.version.FolderVersion.TheVariants.{First, Second}
 use Rattle.cq_model.specs.Settings.{IsLawfulSettings, IsStoreOf, IsTailerName, Settings, texts}
 use Rattle.cq_config_text.specs.ConfigText.{AreWritableNames, IsNameWord, IsWritable, config_text, floor_lines, head_lines, line_of, lines_text, name_lines, name_words}
 
@@ -104,11 +105,11 @@ pub fits_each : (positions : List ℕ) → ((i : ℕ) → Fits w64 (get_or posit
 fits_each positions fits k d below = omega (arith, fits k, get_or_default positions k d 0 below)
 
 own_store : (roll : Roll) (epoch : ℕ) (version : StoreVersion) → IsStoreOf roll epoch version
-    → version ≡ store_in (version_of version) roll epoch
+    → version ≡ store_in (version_of version) (origin_of roll epoch)
 own_store roll epoch store.First is = refl
 own_store roll epoch (store.Second origin) is = λ i. store.Second (record { epoch = is.0 i; roll_length = is.1 i })
 
-pub version_kept : (version : FolderVersion) (roll : Roll) (epoch : ℕ) → version_of (store_in version roll epoch) ≡ version
+pub version_kept : (version : FolderVersion) (roll : Roll) (epoch : ℕ) → version_of (store_in version (origin_of roll epoch)) ≡ version
 version_kept First roll epoch = refl
 version_kept Second roll epoch = refl
 

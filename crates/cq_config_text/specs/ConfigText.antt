@@ -9,8 +9,8 @@ use Rattle.std.specs.Str.Parse.{digits_value}
 use Rattle.cq_cycle.specs.declared.roll.TheConstants.{ROLLS}
 use Rattle.cq_cycle.specs.RollWord.{roll_word}
 use Rattle.cq_model.specs.Settings.{IsNameByte, Settings}
-use Rattle.cq_config_text.specs.declared.version.FolderVersion.TheVariants.{First, Second}
-use Rattle.cq_config_text.specs.Version.{store_in, version_of, version_word}
+use Rattle.cq_origin.specs.Origins.{origin_of}
+use Rattle.cq_layout.specs.Version.{store_in, version_of, version_word, versions}
 
 -- a word that says what its line sets, and the number
 abbrev pub setting_words : List ℕ → ℕ → List (List ℕ)
@@ -74,7 +74,7 @@ pub record IsWritable (settings : Settings) (positions : List ℕ) (floor : ℕ)
   pub cycles : settings.cycles < 2 ^ 64
   pub low : floor < 2 ^ 64
   pub declared : AreWritableNames settings.names positions
-  pub store : settings.layout.store ≡ store_in (version_of settings.layout.store) settings.roll settings.epoch
+  pub store : settings.layout.store ≡ store_in (version_of settings.layout.store) (origin_of settings.roll settings.epoch)
 
 -- the text is that of these settings, positions and floor
 pub record IsTextOf (settings : Settings) (positions : List ℕ) (floor : ℕ) (text : List ℕ) : Type 0 where
@@ -91,7 +91,7 @@ is_positive word = nat_lt 0 (digits_value 10 word) && is_number word
 
 -- the word names a version
 abbrev pub is_version : List ℕ → Bool
-is_version word = list_any (λ version. bytes_eq word (version_word version)) (First ∷ Second ∷ [])
+is_version word = list_any (λ version. bytes_eq word (version_word version)) versions
 
 -- the word names a roll
 abbrev pub is_roll : List ℕ → Bool

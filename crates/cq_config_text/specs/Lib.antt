@@ -1,4 +1,3 @@
 pub mod ConfigFault
 pub mod ConfigText
-pub mod Version
 pub mod Written

@@ -3,13 +3,14 @@ use Rattle.std.specs.Prelude.{ℕ, List}
 use Rattle.cq_layout.specs.Layout.{CycleLayout, layout_in}
 use Rattle.cq_layout.specs.Shape.{measures}
 use Rattle.cq_model.specs.Settings.{Settings, settings_of}
-use Rattle.cq_config_text.specs.Version.{store_in}
+use Rattle.cq_origin.specs.Origins.{origin_of}
+use Rattle.cq_layout.specs.Version.{store_in}
 use Rattle.cq_config_text.specs.declared.wanted.WantedConfig.{WantedConfig}
 
 -- its layout
 abbrev pub wanted_layout : WantedConfig → CycleLayout
 wanted_layout wanted =
-    layout_in (store_in wanted.version wanted.roll wanted.epoch)
+    layout_in (store_in wanted.version (origin_of wanted.roll wanted.epoch))
     (measures wanted.cells wanted.index_count wanted.index_spacing)
 
 -- these settings, with these names

@@ -4,10 +4,10 @@ ghost use Rattle.std.specs.Prelude.{◌≡◌, ◌≤◌, ◌++◌, ◌∷◌, [
 ghost use Rattle.std.specs.Fmt.{decimal};
 ghost use Rattle.cq_cycle.specs.RollWord.{roll_word};
 ghost use Rattle.cq_config_text.specs.ConfigText.{IsTextOf, floor_lines, head_lines, line_of, lines_text, name_words};
-ghost use Rattle.cq_config_text.specs.Version.{version_word};
+ghost use Rattle.cq_layout.specs.Version.{version_word};
 
-use crate::FolderVersion;
 use cq_cycle::{LAST_CYCLE, Roll};
+use cq_layout::FolderVersion;
 use cq_model::Config;
 use std::alloc::{AllocError, Global};
 use std::fmt::Write;

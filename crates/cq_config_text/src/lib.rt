@@ -5,7 +5,6 @@
 //! |---|---|
 //! | `write_config`, `read_config` | write the text, and read it again |
 //! | `SavedConfig` | what the text keeps |
-//! | `FolderVersion` | the version in its first line |
 //! | `WantedConfig` | settings before their limits are checked |
 //! | `ConfigFault` | why a text gives no configuration: its first faulty line, or a limit |
 //! | `laws` | laws and worked examples of the text |
@@ -16,12 +15,10 @@ mod config_text;
 mod config_writing;
 pub mod laws;
 mod lines;
-mod version;
 mod wanted;
 mod words;
 
 pub use config_fault::ConfigFault;
 pub use config_text::{SavedConfig, read_config};
 pub use config_writing::write_config;
-pub use version::FolderVersion;
 pub use wanted::WantedConfig;

@@ -5,12 +5,12 @@ ghost use Rattle.std.specs.Fmt.{decimal};
 ghost use Rattle.std.specs.Str.{bytes_eq};
 ghost use Rattle.cq_cycle.specs.RollWord.{roll_word};
 ghost use Rattle.cq_config_text.specs.ConfigText.{Form, IsNameWord, fault_from, floor_form, floor_forms, floor_lines, has_form, is_name, is_number, line_at, line_of, lines_text, name_form, name_words, roll_form, setting_form, setting_words, version_form};
-ghost use Rattle.cq_config_text.specs.Version.{version_word};
+ghost use Rattle.cq_layout.specs.Version.{version_word};
 
 use crate::config_fault::ConfigFault;
-use crate::version::{FolderVersion, version_named};
 use crate::words::{cut, name_of, number_of, positive_of, roll_of};
 use cq_cycle::Roll;
+use cq_layout::FolderVersion;
 
 /// A name of a tailer and its position.
 #[derive(Clone, Copy)]
@@ -149,7 +149,7 @@ fn version_in(line: &[u8]) -> Option<FolderVersion>
     ensures found { IfSome result (λ version. line.now ≡ line_of (codes "cq" ∷ version_word version ∷ [])) }
     ensures test { is_some result ≡ has_form version_form line.now }
 {
-    version_named(behind_word(line, b"cq")?)
+    FolderVersion::named(behind_word(line, b"cq")?)
 }
 
 /// Returns the roll that a line gives.

@@ -6,11 +6,11 @@ ghost use Rattle.cq_model.specs.Settings.{IsLawfulSettings, texts};
 ghost use Rattle.cq_config_text.specs.ConfigFault.{RefusesSettings};
 ghost use Rattle.cq_config_text.specs.Written.{settings_in, wanted_layout};
 
-use crate::FolderVersion;
 use crate::config_fault::ConfigFault;
 use cq_cycle::Roll;
-use cq_layout::{Layout, Shape};
+use cq_layout::{FolderVersion, Layout, Shape};
 use cq_model::Config;
+use cq_origin::origin_of;
 
 /// The settings that a queue is to have, without the names of its tailers. They may be outside the limits.
 #[derive(Clone, Copy)]
@@ -64,7 +64,7 @@ impl WantedConfig {
         let index_count = u32::try_from(self.index_count).ok()?;
         let index_spacing = u32::try_from(self.index_spacing).ok()?;
         let shape = Shape::new(cells, index_count, index_spacing).ok()?;
-        let layout = Layout::new(shape, self.version.store(self.roll, self.epoch));
+        let layout = Layout::new(shape, self.version.store(origin_of(self.roll, self.epoch)));
         // The readers of a layout ensure that it is lawful.
         let _cells = layout.cells();
         Some(layout)

@@ -1,5 +1,5 @@
 -- Which faults of a folder and its files are answered.
-use Rattle.std.specs.Prelude.{◌≡◌, ◌⊎◌, ⊤, ℕ, ◌+◌, true, false, ◌<◌, ◌≤◌, List, Contains, length, slice_get, take, Result, Ok, Err, IsOk, IsSome, IsSomeAnd, Some, string_bytes}
+use Rattle.std.specs.Prelude.{◌≡◌, ◌⊎◌, ⊤, ℕ, ◌+◌, true, false, ◌<◌, ◌≤◌, List, Contains, length, slice_get, take, Result, Ok, Err, IsOk, IsSome, IsSomeAnd, Some, string_bytes, Bool}
 use Rattle.std.specs.List.{AllByRecursion}
 use Rattle.std.specs.declared.cmp.Ordering.TheVariants.{Less}
 use Rattle.cq_cycle.specs.declared.roll.TheConstants.{LAST_CYCLE}
@@ -11,9 +11,7 @@ use Rattle.cq_config_text.specs.ConfigFault.{RefusesText}
 use Rattle.cq_config_text.specs.ConfigText.{IsTextOf}
 use Rattle.cq_folder.specs.Folder.{Files}
 use Rattle.cq_folder.specs.declared.names.TheConstants.{CONFIG_FILE}
-use Rattle.cq_config_text.specs.Version.{version_of}
-use Rattle.cq_config_text.specs.declared.version.FolderVersion.{FolderVersion}
-use Rattle.cq_config_text.specs.declared.version.FolderVersion.TheVariants as version
+use Rattle.cq_layout.specs.Version.{is_current}
 use Rattle.cq_config_text.specs.declared.config_fault.ConfigFault.{ConfigFault}
 use Rattle.cq_config_text.specs.declared.config_fault.ConfigFault.TheVariants as config
 use Rattle.cq_files.specs.declared.opening.CycleImage.{CycleImage}
@@ -73,13 +71,21 @@ pub record HasSettings (files : Files) (settings : Settings) : Type 0 where
   pub floor : ℕ
   pub spelled : IsSomeAnd (files CONFIG_FILE.now) (IsTextOf settings positions floor)
 
--- the files' configuration is within its limits, and tells this version
-pub record HasVersion (files : Files) (version : FolderVersion) : Type 0 where
+-- the files' configuration is within its limits, and of the version that new folders have, or of an older one
+pub record HasVersion (files : Files) (current : Bool) : Type 0 where
   pub settings : Settings
   pub configured : HasSettings files settings
   pub lawful : IsLawfulSettings settings
   pub low : configured.floor ≤ LAST_CYCLE
-  pub told : version_of settings.layout.store ≡ version
+  pub told : is_current settings.layout.store ≡ current
+
+-- it is of the version that new folders have
+abbrev pub IsCurrent : Files → Type 0
+IsCurrent files = HasVersion files true
+
+-- it is of an older one
+abbrev pub IsOld : Files → Type 0
+IsOld files = HasVersion files false
 
 -- the text of the files' configuration, which is small enough to be read, is refused so
 abbrev pub RefusesConfig : Files → ConfigFault → Type 0
@@ -134,7 +140,7 @@ HasCause files NoQueueHere = ¬ HoldsConfig files
 HasCause files (ConfigLine number) = RefusesConfig files (config.Line number)
 HasCause files BadShape = RefusesConfig files config.BadShape
 HasCause files BadConfig = RefusesConfig files config.BadConfig
-HasCause files OldVersion = HasVersion files version.First
+HasCause files OldVersion = IsOld files
 HasCause files (BadCycleName file) = NamesNoCycle files (string_bytes file)
 HasCause files (FaultyImage file fault) = HoldsFault files (string_bytes file) fault
 HasCause files (WrongEnd file) = EndsWrongly files (string_bytes file)
@@ -203,11 +209,11 @@ IsFolderFault BadShape = ⊤
 IsFolderFault BadConfig = ⊤
 IsFolderFault _ = ⊥
 
--- a command that changes files is done, or comes to a fault behind those of `queue.cqc`, in a folder of the second version
+-- a command that changes files is done, or comes to a fault behind those of `queue.cqc`, in a folder of the current version
 -- alone, and in one of the first is refused as old
 abbrev pub MindsVersion : {T : Type 0} → Files → Result T ToolFault → Type 0
-MindsVersion files (Ok done) = HasVersion files version.Second
-MindsVersion files (Err fault) = IsFolderFault fault ⊎ ((fault ≡ OldVersion) ⊎ HasVersion files version.Second)
+MindsVersion files (Ok done) = IsCurrent files
+MindsVersion files (Err fault) = IsFolderFault fault ⊎ ((fault ≡ OldVersion) ⊎ IsCurrent files)
 
 -- a fault of the names of images: the first one that names no cycle
 abbrev pub IsNamingFault : Files → ToolFault → Type 0

@@ -1,5 +1,5 @@
 -- What `migrate` makes of a folder of version 1.
-use Rattle.std.specs.Prelude.{◌≡◌, ◌⊎◌, ⊤, ℕ, ◌+◌, ◌≤◌, List, [], ◌∷◌, ◌++◌, Option, IfSome, IsOk, IsSomeAnd, Err, if◌then◌else◌, length, map, string_bytes}
+use Rattle.std.specs.Prelude.{◌≡◌, ◌⊎◌, ⊤, ℕ, ◌+◌, ◌≤◌, List, [], ◌∷◌, ◌++◌, Option, IfSome, IsOk, IsSomeAnd, Err, if◌then◌else◌, length, map, string_bytes, false}
 use Rattle.std.specs.List.{AllByRecursion}
 use Rattle.cq_cycle.specs.declared.roll.TheConstants.{LAST_CYCLE}
 use Rattle.cq_layout.specs.Layout.{CycleLayout}
@@ -12,22 +12,22 @@ use Rattle.cq_image.specs.declared.fault.ImageFault.{ImageFault}
 use Rattle.cq_config_text.specs.ConfigText.{IsTextOf}
 use Rattle.cq_folder.specs.Folder.{Files, KeepsFiles, NamedFile, WritesFiles}
 use Rattle.cq_folder.specs.declared.names.TheConstants.{CONFIG_FILE}
-use Rattle.cq_config_text.specs.Version.{version_of}
+use Rattle.cq_layout.specs.Version.{is_current}
+use Rattle.cq_layout.specs.declared.version.TheConstants.{MORE_CELLS}
 use Rattle.cq_config_text.specs.declared.config_text.SavedConfig.{SavedConfig}
-use Rattle.cq_config_text.specs.declared.version.FolderVersion.TheVariants.{First, Second}
 use Rattle.cq_text.specs.declared.fault.ToolFault.{ToolFault}
 use Rattle.cq_text.specs.declared.fault.ToolFault.TheVariants.{BadCycleName, FaultyImage, FileFault, FileTooLarge, OutOfMemory, WrongEnd}
 use Rattle.cq_files.specs.declared.files.TheConstants.{MOST_FILE_BYTES}
 use Rattle.cq_files.specs.declared.opening.CycleImage.{CycleImage}
 use Rattle.cq_files.specs.declared.opening.ImageFile.{ImageFile}
-use Rattle.cq_files.specs.FolderFaults.{EndsWronglyIn, HasCause, HasSettings, HasVersion, IsFirstFault, IsFolderFault, IsLimitFault, IsReached, TellsFile}
+use Rattle.cq_files.specs.FolderFaults.{EndsWronglyIn, HasCause, HasSettings, IsCurrent, IsFirstFault, IsFolderFault, IsLimitFault, IsReached, TellsFile}
 use Rattle.cq_files.specs.Queue.{AreImageFiles, HaveEnds, IsImageName, ListsImages, file_of}
 use Rattle.cq_files.specs.Saved.{first_file}
 
--- the same settings in version 2, with 3 more cells a cycle
+-- the same settings in version 2, with more cells a cycle, for its longer store record
 abbrev pub moved_settings : Settings → Settings
 moved_settings settings =
-    new_settings (measures (settings.layout.cells + 3) settings.layout.index_count settings.layout.index_spacing) settings.cycles
+    new_settings (measures (settings.layout.cells + MORE_CELLS) settings.layout.index_count settings.layout.index_spacing) settings.cycles
     settings.roll settings.epoch settings.names
 
 -- the layout by which an image is read: that of version 2 where it begins with a store record of that
@@ -78,7 +78,7 @@ pub record MovesFiles (saved : SavedConfig) (names : List (List ℕ)) (before af
 pub record IsMoved (before after : Option Files) : Type 0 where
   pub saved : SavedConfig
   pub moved : List NamedFile
-  pub old : version_of saved.config.layout.store ≡ First
+  pub old : is_current saved.config.layout.store ≡ false
   pub lawful : IsLawfulSettings saved.config
   pub low : saved.floor ≤ LAST_CYCLE
   pub configured : IfSome before (λ files.
@@ -88,7 +88,7 @@ pub record IsMoved (before after : Option Files) : Type 0 where
 
 -- the folder is of version 2, and no file changed; or it was of version 1, and was moved
 abbrev pub IsMigrated : Option Files → Option Files → Type 0
-IsMigrated before after = (IfSome before (λ files. HasVersion files Second) × KeepsFiles before after) ⊎ IsMoved before after
+IsMigrated before after = (IfSome before (λ files. IsCurrent files) × KeepsFiles before after) ⊎ IsMoved before after
 
 -- the folder was moved, and a file fault names the first file that was written
 abbrev pub TellsMoved : Option Files → Option Files → ToolFault → Type 0
@@ -158,7 +158,7 @@ pub record RefusesMove (files : Files) (fault : ToolFault) : Type 0 where
   pub configured : HasSettings files settings
   pub lawful : IsLawfulSettings settings
   pub low : configured.floor ≤ LAST_CYCLE
-  pub old : version_of settings.layout.store ≡ First
+  pub old : is_current settings.layout.store ≡ false
   pub cause : IsMoveFault settings files fault
 
 -- why a folder is not made one of version 2: it is not opened, or it is of version 1 and not moved

@@ -7,9 +7,10 @@ ghost use Rattle.cq_files.specs.Saving.{KeepsOrSaves};
 ghost use Rattle.cq_files.specs.Counted.{CountsFaults};
 
 use crate::files::{has_name, listed, write_file};
-use cq_config_text::{FolderVersion, WantedConfig, write_config};
+use cq_config_text::{WantedConfig, write_config};
 use cq_cycle::{Roll, roll_named};
 use cq_folder::{Access, CONFIG_FILE, Folder};
+use cq_layout::CURRENT_VERSION;
 use cq_model::{Config, copied_names};
 use cq_settings::InitSettings;
 use cq_text::ToolFault;
@@ -83,7 +84,7 @@ fn config_for(alloc: Global, roll: Roll, settings: &InitSettings) -> Result<Conf
     ensures fault { IfErr result (IsLimitFault (wanted_settings settings.now roll)) }
 {
     let wanted = WantedConfig {
-        version: FolderVersion::Second,
+        version: CURRENT_VERSION,
         roll,
         epoch: settings.epoch,
         cells: settings.cells,

@@ -2,9 +2,8 @@
 use Rattle.std.specs.Prelude.{◌≡◌, ◌⊎◌, ⊤, ℕ, ◌<◌, ◌≤◌, List, [], ◌∷◌, ◌++◌, Option, None, Some, length, option_map, set, slice_get, slice_index_or, string_bytes}
 use Rattle.std.specs.List.{flat_map, remove, zip}
 use Rattle.cq_config_text.specs.ConfigText.{IsTextOf}
-pub use Rattle.cq_journal.specs.Journals.{Declares}
 use Rattle.cq_cycle.specs.Index.{index_text}
-use Rattle.cq_model.specs.Settings.{IsTailerName, Settings, settings_of}
+use Rattle.cq_model.specs.Settings.{Declares, IsTailerName, Settings, settings_of}
 use Rattle.cq_model.specs.States.{end_of}
 use Rattle.cq_model.specs.declared.config.TheConstants.{MAX_NAMES}
 use Rattle.cq_model.specs.declared.contents.Contents.{Contents}

@@ -10,7 +10,7 @@ ghost use Rattle.std.specs.Prelude.{◌≡◌};
 ghost use Rattle.cq_origin.specs.Origins.{layout_of, origin_of};
 
 use cq_cycle::Roll;
-use cq_layout::{Layout, Origin, Shape, StoreVersion};
+use cq_layout::{CURRENT_VERSION, Layout, Origin, Shape};
 
 /// Returns the origin that a store record has in a queue with this roll and this epoch. The epoch is in milliseconds of
 /// Unix time.
@@ -23,10 +23,10 @@ pub fn origin_of(roll: Roll, epoch: u64) -> Origin
     }
 }
 
-/// Returns the layout of a cycle of this shape with a store record of version 2, in a queue with this roll and this
-/// epoch. The epoch is in milliseconds of Unix time.
+/// Returns the layout of a cycle of this shape with a store record of the current version, in a queue with this roll and
+/// this epoch. The epoch is in milliseconds of Unix time.
 pub fn layout_of(shape: Shape, roll: Roll, epoch: u64) -> Layout
     ensures { result ≡ layout_of shape roll epoch }
 {
-    Layout::new(shape, StoreVersion::Second(origin_of(roll, epoch)))
+    Layout::new(shape, CURRENT_VERSION.store(origin_of(roll, epoch)))
 }

@@ -1,13 +1,11 @@
 -- How an image is found among the files of a folder.
-use Rattle.std.proofs.Common.{◌≡◌, ◌≢◌, ℕ, zero, suc, ◌+◌, ◌<◌, ◌≤◌, List, [], ◌∷◌, ◌++◌, length, get_or, take, refl, ap, sym, subst, arith, inl, inr, rules, string_bytes}
+use Rattle.std.proofs.Common.{◌≡◌, ◌≢◌, ℕ, zero, suc, ◌+◌, ◌<◌, ◌≤◌, List, [], ◌∷◌, ◌++◌, length, get_or, take, refl, ap, sym, subst, arith, inl, inr, rules, string_bytes, true, false, Bool}
 use Rattle.std.proofs.lemmas.List.{take_more}
 use Rattle.std.specs.Prelude.{Contains, String, Option, None, Some, IfSome, IsSomeAnd}
 use Rattle.std.specs.List.{AllByRecursion}
 use Rattle.cq_config_text.specs.ConfigText.{IsTextOf}
-use Rattle.cq_config_text.specs.Version.{version_of}
+use Rattle.cq_layout.specs.Version.{is_current}
 use Rattle.cq_config_text.specs.declared.config_text.SavedConfig.{SavedConfig}
-use Rattle.cq_config_text.specs.declared.version.FolderVersion.{FolderVersion}
-use Rattle.cq_config_text.specs.declared.version.FolderVersion.TheVariants as version
 use Rattle.cq_cycle.specs.declared.roll.TheConstants.{LAST_CYCLE}
 use Rattle.cq_folder.specs.Folder.{Files, KeepsFiles, ListsFiles}
 use Rattle.cq_folder.specs.declared.names.TheConstants.{CONFIG_FILE}
@@ -58,9 +56,9 @@ module _ {saved : SavedConfig} {names : List (List ℕ)} where
   abbrev settings_in : (files : Files) → IsEntered (Some files) saved names → HasSettings files saved.config
   settings_in files entered = record { positions = saved.positions.items; floor = saved.floor; spelled = entered.config }
 
-  version_in : (files : Files) (version : FolderVersion) → IsEntered (Some files) saved names → version_of saved.config.layout.store ≡ version
-      → HasVersion files version
-  version_in files version entered is = record {
+  version_in : (files : Files) (current : Bool) → IsEntered (Some files) saved names → is_current saved.config.layout.store ≡ current
+      → HasVersion files current
+  version_in files current entered is = record {
     settings = saved.config;
     configured = settings_in files entered;
     lawful = entered.lawful;
@@ -101,7 +99,7 @@ module _ {saved : SavedConfig} {names : List (List ℕ)} where
     settings = saved.config;
     configured = settings_in a entered;
     lawful = entered.lawful;
-    cause = inr (record { ending = why.0; there = entered.names.held file why.1 }, inr (why.2, inl (refl, version_in a version.First entered why.3)));
+    cause = inr (record { ending = why.0; there = entered.names.held file why.1 }, inr (why.2, inl (refl, version_in a false entered why.3)));
   })
   not_placed (Some a) file _ entered why = absurd why
 
@@ -120,7 +118,7 @@ module _ {saved : SavedConfig} {names : List (List ℕ)} where
         lawful = entered.lawful;
         cause = inr (
           record { ending = placed.ending; there = entered.names.held file placed.listed },
-          inr ((cycle, placed.named), inr (version_in a version.Second entered placed.version, (is, why))),
+          inr ((cycle, placed.named), inr (version_in a true entered placed.version, (is, why))),
         );
       })
 

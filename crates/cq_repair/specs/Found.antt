@@ -1,12 +1,11 @@
 -- The image that is to be repaired, and why none is found.
-use Rattle.std.specs.Prelude.{◌≡◌, ◌⊎◌, ⊤, ℕ, ◌<◌, ◌≤◌, List, Contains, IfSome, IsSomeAnd, IsTrue, Option, Some, length, string_bytes}
+use Rattle.std.specs.Prelude.{◌≡◌, ◌⊎◌, ⊤, ℕ, ◌<◌, ◌≤◌, List, Contains, IfSome, IsSomeAnd, IsTrue, Option, Some, length, string_bytes, true, false}
 use Rattle.cq_config_text.specs.ConfigText.{IsTextOf}
-use Rattle.cq_config_text.specs.Version.{version_of}
-use Rattle.cq_config_text.specs.declared.version.FolderVersion.TheVariants as version
+use Rattle.cq_layout.specs.Version.{is_current}
 use Rattle.cq_cycle.specs.declared.roll.TheConstants.{LAST_CYCLE}
 use Rattle.cq_folder.specs.Folder.{Files, ListsFiles}
 use Rattle.cq_folder.specs.declared.names.TheConstants.{CONFIG_FILE}
-use Rattle.cq_files.specs.FolderFaults.{HasVersion, IsUnreadFault}
+use Rattle.cq_files.specs.FolderFaults.{IsCurrent, IsOld, IsUnreadFault}
 use Rattle.cq_files.specs.Queue.{IsImageName, ends_as_image}
 use Rattle.cq_files.specs.declared.files.TheConstants.{MOST_FILE_BYTES}
 use Rattle.cq_model.specs.Settings.{IsLawfulSettings, Settings, texts}
@@ -27,7 +26,7 @@ pub record IsPlaced (settings : Settings) (names : List (List ℕ)) (file : List
   pub listed : Contains names file
   pub ending : IsTrue (ends_as_image file)
   pub named : IsImageName settings cycle file
-  pub version : version_of settings.layout.store ≡ version.Second
+  pub version : is_current settings.layout.store ≡ true
 
 -- why it is not: no image has its name; else this names no cycle; else the folder is of version 1
 abbrev pub IsUnplaced : Settings → List (List ℕ) → List ℕ → ToolFault → Type 0
@@ -37,7 +36,7 @@ IsUnplaced settings names file (NoSuchFile name) =
 IsUnplaced settings names file (BadCycleName name) = (string_bytes name ≡ file) × IsTrue (ends_as_image file) × Contains names file
     × ((cycle : ℕ) → ¬ IsImageName settings cycle file)
 IsUnplaced settings names file OldVersion = IsTrue (ends_as_image file) × Contains names file
-    × ((cycle : ℕ) × IsImageName settings cycle file) × (version_of settings.layout.store ≡ version.First)
+    × ((cycle : ℕ) × IsImageName settings cycle file) × (is_current settings.layout.store ≡ false)
 IsUnplaced settings names file _ = ⊥
 
 -- the image of a queue of version 2 that these files hold, with what else it has
@@ -54,5 +53,5 @@ pub record IsFound (file : List ℕ) (files : Option Files) (found : Found) : Ty
 
 -- why the bytes of an image are not read: the folder is of version 1; else it is of version 2, and the file is not read
 abbrev pub IsOldOrUnread : List ℕ → Settings → Files → ToolFault → Type 0
-IsOldOrUnread file settings files fault = ((fault ≡ OldVersion) × HasVersion files version.First)
-    ⊎ (HasVersion files version.Second × IsUnreadFault file settings files fault)
+IsOldOrUnread file settings files fault = ((fault ≡ OldVersion) × IsOld files)
+    ⊎ (IsCurrent files × IsUnreadFault file settings files fault)

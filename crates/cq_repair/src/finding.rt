@@ -7,7 +7,7 @@ ghost use Rattle.cq_files.specs.Queue.{ends_as_image};
 ghost use Rattle.cq_model.specs.Settings.{texts};
 ghost use Rattle.cq_repair.specs.Found.{HasLater, IsFound, IsLater, IsOldOrUnread, IsPlaced, IsUnplaced};
 
-use cq_config_text::{FolderVersion, SavedConfig};
+use cq_config_text::SavedConfig;
 use cq_files::{cycle_of_file, has_name, is_image_name, listed, read_file, read_saved};
 use cq_folder::{Access, CONFIG_FILE, Folder};
 use cq_model::Config;
@@ -63,7 +63,7 @@ pub(crate) fn find<F: Folder>(
     })
 }
 
-/// Returns the cycle whose image has this name, if it is in the folder and that is of version 2.
+/// Returns the cycle whose image has this name, if it is in the folder and that is of the current version.
 fn placed(alloc: Global, config: &Config, names: &[String], file: &str) -> Result<u32, ToolFault>
     ensures placed { IfOk result (IsPlaced config.now (texts names.now) file.now) }
     ensures fault { IfErr result (IsUnplaced config.now (texts names.now) file.now) }
@@ -75,9 +75,10 @@ fn placed(alloc: Global, config: &Config, names: &[String], file: &str) -> Resul
     let Some(cycle) = cycle_of_file(config, file) else {
         return Err(ToolFault::BadCycleName(name));
     };
-    match FolderVersion::of(config.layout().store()) {
-        FolderVersion::First => Err(ToolFault::OldVersion),
-        FolderVersion::Second => Ok(cycle),
+    if config.layout().store().is_current() {
+        Ok(cycle)
+    } else {
+        Err(ToolFault::OldVersion)
     }
 }
 

@@ -11,14 +11,6 @@ use Rattle.cq_row.specs.declared.place.Place.{Place}
 use Rattle.cq_row.specs.declared.row.AtLimit.{AtLimit}
 use Rattle.cq_row.specs.declared.row.Row.{Row}
 
--- the name with this place among the declared ones
-abbrev pub IsNameAt : Settings → List ℕ → ℕ → Type 0
-IsNameAt settings name place = slice_get settings.names place ≡ Some name
-
--- queues with these settings declare this name
-abbrev pub Declares : Settings → List ℕ → Type 0
-Declares settings name = (place : ℕ) × IsNameAt settings name place
-
 -- the first endpoint of a new queue with these settings, whose first cycle is that of this moment
 pub record BeginsAt (settings : Settings) (moment : ℕ) (e : EndpointFacts) : Type 0 where
   pub in_cycle : LiesInCycle settings moment

@@ -1,6 +1,6 @@
 //! At which queue a name takes.
 ghost use Rattle.std.specs.Prelude.{MatchOption};
-ghost use Rattle.cq_row.specs.Rows.{Declares, IsNameAt};
+ghost use Rattle.cq_model.specs.Settings.{Declares, IsNameAt};
 
 use crate::row::{Row, raise};
 use std::sync::atomic::Ordering;
@@ -10,13 +10,7 @@ impl Row {
     pub fn name_index(&self, name: &str) -> Option<usize>
         ensures { MatchOption result (¬ Declares self.now.config name.now) (IsNameAt self.now.config name.now) }
     {
-        let names = self.config().names();
-        for (place, declared) in names.iter().enumerate() {
-            if declared.as_str() == name {
-                return Some(place);
-            }
-        }
-        None
+        self.config().place_of(name)
     }
 
     /// The number of the queue at which a name takes, or of the oldest that may live, if that is later.

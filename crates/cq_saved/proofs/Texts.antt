@@ -6,9 +6,9 @@ use Rattle.std.proofs.lemmas.List.Elements.{recursion_from_All}
 use Rattle.std.specs.Fmt.{decimal}
 use Rattle.std.specs.List.{AllByRecursion, zip}
 use Rattle.cq_config_text.specs.ConfigText.{IsTextOf, config_text, floor_lines, head_lines, line_of, lines_text, name_lines, name_words, setting_words}
-use Rattle.cq_config_text.specs.Version.{version_of, version_word}
-use Rattle.cq_config_text.specs.declared.version.FolderVersion.{FolderVersion}
-use Rattle.cq_config_text.specs.declared.version.FolderVersion.TheVariants.{First, Second}
+use Rattle.cq_layout.specs.Version.{version_of, version_word}
+use Rattle.cq_layout.specs.declared.version.FolderVersion.{FolderVersion}
+use Rattle.cq_layout.specs.declared.version.FolderVersion.TheVariants.{First, Second}
 use Rattle.cq_cycle.specs.RollWord.{roll_word}
 use Rattle.cq_cycle.specs.declared.roll.Roll.{Roll}
 use Rattle.cq_cycle.specs.declared.roll.Roll.TheVariants.{Daily, Hourly, Minutely}

@@ -1,7 +1,6 @@
 -- What is made of a shelf and of its endpoints.
 use Rattle.std.specs.Prelude.{◌≡◌, List, ℕ, string_bytes}
-use Rattle.cq_model.specs.Settings.{Settings}
-use Rattle.cq_row.specs.Rows.{Declares, IsNameAt}
+use Rattle.cq_model.specs.Settings.{Declares, IsNameAt, Settings}
 use Rattle.cq_row.specs.Ways.{Enters}
 use Rattle.cq_row.specs.declared.fault.ShelfFault.{ShelfFault}
 use Rattle.cq_row.specs.declared.fault.ShelfFault.TheVariants.{Busy, NoSuchName, OutOfMemory}

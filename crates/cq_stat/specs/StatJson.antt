@@ -2,8 +2,8 @@
 use Rattle.std.specs.Prelude.{ℕ, List, [], ◌∷◌, ◌++◌, Bool, true, false, Option, None, Some, codes, string_bytes}
 use Rattle.std.specs.Fmt.{decimal}
 use Rattle.std.specs.List.{flat_map}
-use Rattle.cq_config_text.specs.Version.{version_of, version_word}
-use Rattle.cq_config_text.specs.declared.version.FolderVersion.{FolderVersion}
+use Rattle.cq_layout.specs.Version.{version_of, version_word}
+use Rattle.cq_layout.specs.declared.version.FolderVersion.{FolderVersion}
 use Rattle.cq_cycle.specs.Index.{index_text}
 use Rattle.cq_cycle.specs.RollWord.{roll_word}
 use Rattle.cq_cycle.specs.declared.roll.Roll.{Roll}

@@ -5,9 +5,8 @@ ghost use Rattle.std.specs.List.{flat_map};
 ghost use Rattle.cq_stat.specs.StatJson.{cycle_cells, cycle_end, cycle_front, cycle_json, cycles_json, end_json, first_json, json_of, more_cycles_json, more_names_json, name_end, name_front, name_json, names_json, settings_json, shape_json};
 
 use crate::{CycleStat, CycleState, NameStat, QueueStat};
-use cq_config_text::FolderVersion;
 use cq_cycle::{Index, Roll};
-use cq_layout::Layout;
+use cq_layout::{FolderVersion, Layout};
 use std::alloc::{AllocError, Global};
 use std::fmt::Write;
 

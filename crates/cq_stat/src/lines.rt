@@ -3,14 +3,14 @@
 ghost use Rattle.std.specs.Prelude.{◌≡◌, ◌++◌, IfOk, OnOk, codes, string_bytes};
 ghost use Rattle.std.specs.Fmt.{decimal};
 ghost use Rattle.std.specs.List.{flat_map};
-ghost use Rattle.cq_config_text.specs.Version.{version_of, version_word};
+ghost use Rattle.cq_layout.specs.Version.{version_of, version_word};
 ghost use Rattle.cq_cycle.specs.Index.{index_text};
 ghost use Rattle.cq_cycle.specs.RollWord.{roll_word};
 ghost use Rattle.cq_stat.specs.StatText.{cycle_line, end_lines, first_line, lines_of, name_line, settings_lines, shape_lines, state_word};
 
 use crate::{CycleStat, NameStat, QueueStat};
-use cq_config_text::FolderVersion;
 use cq_cycle::Index;
+use cq_layout::FolderVersion;
 use cq_model::Config;
 use std::alloc::{AllocError, Global};
 use std::fmt::Write;

@@ -1,12 +1,11 @@
 -- What is decided of a queue that is opened.
 use Rattle.std.proofs.Common.{◌≡◌, ◌≢◌, ◌≤◌, ℕ, List, arith, inl, inr, max, min, subst, sym}
 use Rattle.std.specs.Prelude.{Option, None, Some, IfErr, IfOk, IfSome, IsErrAnd, Result, Ok, Err, option_map, string_bytes}
-use Rattle.cq_config_text.specs.declared.version.FolderVersion.TheVariants as version
 use Rattle.cq_cycle.specs.declared.roll.TheConstants.{LAST_CYCLE}
 use Rattle.cq_folder.specs.Folder.{Files}
 use Rattle.cq_files.proofs.CauseLemmas.{MindsFault}
 use Rattle.cq_files.specs.Counted.{CountsFaults}
-use Rattle.cq_files.specs.FolderFaults.{HasVersion, MindsVersion}
+use Rattle.cq_files.specs.FolderFaults.{IsCurrent, MindsVersion}
 use Rattle.cq_files.specs.Openable.{IsOpenFault, IsOpened}
 use Rattle.cq_files.specs.Queue.{CanBeOpened, HoldQueue, contents_in}
 use Rattle.cq_files.specs.declared.opening.SavedQueue.{SavedQueue}
@@ -84,7 +83,7 @@ module _ (a : Option Files) (wanted : TrimSettings) (queue : SavedQueue) (result
       by (Some files) holds (Err fault) (inr word) = inr (queue, record { lawful = opened.lawful; held = holds; openable = can_whole }, word)
 
 -- the folder is of version 2, and it is decided or not
-pub minds_still : {T : Type 0} (a : Option Files) (result : Result T ToolFault) → IfSome a (λ files. HasVersion files version.Second)
+pub minds_still : {T : Type 0} (a : Option Files) (result : Result T ToolFault) → IfSome a (λ files. IsCurrent files)
     → IfSome a (λ files. MindsVersion files result)
 minds_still None result second = tt
 minds_still (Some files) (Ok done) second = second

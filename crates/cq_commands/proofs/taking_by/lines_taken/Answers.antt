@@ -1,8 +1,8 @@
 use Rattle.std.proofs.Common.{◌≡◌, ◌++◌, ◌+◌, Option, arith, rules, subst, sym}
 use Rattle.std.specs.Prelude.{IfSome}
-use Rattle.cq_journal.specs.Journals.{Declares, HasTaken}
+use Rattle.cq_journal.specs.Journals.{HasTaken}
 use Rattle.cq_model.specs.Finds.{Placed}
-use Rattle.cq_model.specs.Settings.{Settings}
+use Rattle.cq_model.specs.Settings.{Declares, Settings}
 use Rattle.cq_commands.specs.Messages.{message_line}
 use Rattle.cq_contents.proofs.FewLemmas.{few_in}
 use Rattle.cq_commands.proofs.TakingByLemmas.{all_done, none_came, one_came}

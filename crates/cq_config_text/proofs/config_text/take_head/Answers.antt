@@ -1,8 +1,9 @@
 use Rattle.std.proofs.Common.{refl, lit<, ◌≡◌, ◌∙◌, ◌++◌, ◌∷◌, [], List, ℕ, ap, codes, drop, sym}
 use Rattle.cq_model.specs.Settings.{Settings}
 use Rattle.cq_config_text.specs.ConfigText.{IsWritable, fault_from, faulty_line, floor_forms, head_forms, head_lines, line_at, line_of, lines_text, setting_words}
-use Rattle.cq_config_text.specs.Version.{store_in, version_of, version_word}
-use Rattle.cq_config_text.specs.declared.version.FolderVersion.{FolderVersion}
+use Rattle.cq_origin.specs.Origins.{origin_of}
+use Rattle.cq_layout.specs.Version.{store_in, version_of, version_word}
+use Rattle.cq_layout.specs.declared.version.FolderVersion.{FolderVersion}
 use Rattle.cq_cycle.specs.RollWord.{roll_word}
 use Rattle.cq_config_text.specs.Written.{settings_in}
 use Rattle.cq_config_text.proofs.FaultLemmas.{line_refused}
@@ -66,7 +67,7 @@ returns-clause-next c =
       cycles = c.in_ok-cycles.ensures.found.0;
       low = lit< tt;
       declared = none_declared;
-      store = ap (λ (v : FolderVersion). store_in v c.in_ok-roll.roll c.in_ok-epoch.epoch) (sym kept);
+      store = ap (λ (v : FolderVersion). store_in v (origin_of c.in_ok-roll.roll c.in_ok-epoch.epoch)) (sym kept);
     } in
     let found : text ≡ lines_text (head_lines settings) ++ rest = returns-clause-found c in
     let forms = floor_forms (line_at text 7) in

@@ -9,5 +9,5 @@ returns-in_err-behind_word-clause-test c =
 
 pub returns-clause-test : goal.returns-clause-test
 returns-clause-test c =
-    version_found c.in_ok-behind_word.field-0.now c.version_named.result c.version_named.ensures.found c.version_named.ensures.only
+    version_found c.in_ok-behind_word.field-0.now c.named.result c.named.ensures.found c.named.ensures.only
     ∙ sym (c.in_ok-behind_word.ensures.form (is_version ∷ []))

@@ -1,5 +1,5 @@
 use Rattle.std.proofs.Common.{◌≡◌, ◌∙◌, Bool, false, true, ap, sym}
-use Rattle.cq_config_text.specs.Version.{version_of}
+use Rattle.cq_layout.specs.Version.{is_current}
 use Rattle.cq_layout.specs.Layout.{CycleLayout}
 use Rattle.cq_repair.proofs.finding.placed.Goals as goal
 
@@ -22,21 +22,24 @@ returns-in_default-clause-fault c =
           cc,
     )
 
-pub returns-in-First-clause-fault : goal.returns-in-First-clause-fault
-returns-in-First-clause-fault c =
+pub returns-clause-fault : goal.returns-clause-fault
+returns-clause-fault c =
     let both = c.is_image.ensures.0 c.if-not-is_image.false in (
       both.0,
       both.1,
       (c.in-Some.cycle, c.in-Some.ensures.found),
-      sym (c.in-First.ensures ∙ ap version_of (c.store.ensures.value ∙ ap (λ (layout : CycleLayout). layout.store) c.layout.ensures.value)),
+      sym (c.is_current.ensures ∙ ap is_current (c.store.ensures.value ∙ ap (λ (layout : CycleLayout). layout.store) c.layout.ensures.value))
+          ∙ c.if-is_current.false,
     )
 
-pub returns-clause-placed : goal.returns-clause-placed
-returns-clause-placed c =
+pub returns-then-is_current-clause-placed : goal.returns-then-is_current-clause-placed
+returns-then-is_current-clause-placed c =
     let both = c.is_image.ensures.0 c.if-not-is_image.false in
     record {
       listed = both.1;
       ending = both.0;
       named = c.in-Some.ensures.found;
-      version = sym (c.in-Second.ensures ∙ ap version_of (c.store.ensures.value ∙ ap (λ (layout : CycleLayout). layout.store) c.layout.ensures.value));
+      version =
+          sym (c.is_current.ensures ∙ ap is_current (c.store.ensures.value ∙ ap (λ (layout : CycleLayout). layout.store) c.layout.ensures.value))
+              ∙ c.if-is_current.true;
     }

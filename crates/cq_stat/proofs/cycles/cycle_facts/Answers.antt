@@ -22,8 +22,8 @@ few layout messages lengths lawful entries are =
     let as_many = ap length are ∙ length-map messages length in
     omega (arith, as_many, entries, message_limit-le layout lawful)
 
-pub cells_for-cells_used-requires-clause-lengths : goal.cells_for-cells_used-requires-clause-lengths
-cells_for-cells_used-requires-clause-lengths c =
+pub needs_in-cells_used-requires-clause-lengths : goal.needs_in-cells_used-requires-clause-lengths
+needs_in-cells_used-requires-clause-lengths c =
     let messages = c.args.list.now.messages in
     let lengths : c.as_slice-2.result.now ≡ map length messages =
     c.as_slice-2.ensures.value ∙ c.in_ok-lengths.ensures ∙ ap (map length) c.as_slice.ensures in
@@ -35,8 +35,8 @@ lengths_of-requires c =
     let messages = c.args.list.now.messages in
     subst (λ (ms : List (List ℕ)). All IsMessage ms) (sym c.as_slice.ensures) (each-all IsMessage messages c.requires.lawful)
 
-pub cells_for-cells_used-requires-clause-count : goal.cells_for-cells_used-requires-clause-count
-cells_for-cells_used-requires-clause-count c =
+pub needs_in-cells_used-requires-clause-count : goal.needs_in-cells_used-requires-clause-count
+needs_in-cells_used-requires-clause-count c =
     few c.args.config.now.layout c.args.list.now.messages c.as_slice-2.result.now c.layout-layout.ensures.lawful.layout c.requires.entries
     (c.as_slice-2.ensures.value ∙ c.in_ok-lengths.ensures ∙ ap (map length) c.as_slice.ensures)
 
