@@ -44,7 +44,7 @@ GoesOn old (step.Skipped n) new = (0 < n) × Enters (arc_value old.row) (suc old
 GoesOn old step.NotBegun new = new ≡ old
 GoesOn old step.Ended new = new ≡ old
 
--- a step was refused for this reason, and the place stayed where it was
+-- a step, a move or a read elsewhere failed for this reason, and the place stayed where it was
 abbrev pub StaysThere : Place → Place → ShelfFault → Type 0
 StaysThere old new fault = (new ≡ old) × IsStepFault fault
 

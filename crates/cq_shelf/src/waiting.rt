@@ -55,7 +55,8 @@ impl Patience {
     }
 }
 
-/// Makes a call until its answer does not say to wait, or this time is up. It sleeps between its tries.
+/// Makes a call until its answer does not say to wait, or this time is up. It sleeps between its tries. Each of its ways
+/// out ends the function that it is written in, with the last answer.
 macro_rules! while_waiting {
     ($rt:ident, $time:ident, $call:expr, $waits:path) => {{
         let Some(mut patience) = Patience::new($rt, $time) else {

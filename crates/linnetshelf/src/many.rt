@@ -33,7 +33,7 @@ pub(crate) struct Appended {
 }
 
 impl Appended {
-    /// Says how far it came, and why it stopped.
+    /// How many messages were appended, the last index, and why no more.
     pub(crate) fn new(count: usize, last: u64, stop: Option<AppendStop>) -> Appended
         ensures { result ≡ record { count = count; last = last; stop = stop } }
     {
@@ -62,7 +62,7 @@ pub(crate) struct ManyRead {
 }
 
 impl ManyRead {
-    /// Says how far it came, and why it stopped.
+    /// How many messages were read, the last index, and why no more.
     pub(crate) fn new(count: usize, last: u64, stop: Option<NextInto>) -> ManyRead
         ensures { result ≡ record { count = count; last = last; stop = stop } }
     {
