@@ -1,8 +1,6 @@
 //! The files of a queue's folder.
 
 ghost use Rattle.std.specs.Prelude.{◌≡◌, ◌≢◌, ◌≤◌, ◌∷◌, [], length, map, string_bytes, IfOk, IfErr, IfSome, OnOk, OnErr, Some, IsSome, None};
-ghost use Rattle.std.specs.List.{list_any};
-ghost use Rattle.std.specs.Str.{bytes_eq};
 ghost use Rattle.cq_model.specs.Settings.{texts};
 ghost use Rattle.cq_folder.specs.Folder.{KeepsFiles, KeepsOrWrites, ListsFiles, WritesFile, WritesFiles, named_file};
 ghost use Rattle.cq_files.specs.FolderFaults.{HasCause, HoldsConfig, IsFileFault, IsListFault, IsSaveFault, TellsFile};
@@ -55,13 +53,6 @@ fn list_fault(fault: FolderFault) -> ToolFault
         FolderFault::OutOfMemory => ToolFault::OutOfMemory,
         FolderFault::Device | FolderFault::TooLarge => ToolFault::FolderFault,
     }
-}
-
-/// Returns whether a file has this name.
-pub fn has_name(names: &[String], name: &str) -> bool
-    ensures { result ≡ list_any (λ listed. bytes_eq (string_bytes listed) name.now) names.now }
-{
-    names.iter().any(|listed| listed.as_str() == name)
 }
 
 /// Returns the bytes of a file that was listed.

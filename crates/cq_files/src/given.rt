@@ -6,10 +6,10 @@ ghost use Rattle.cq_files.specs.FolderFaults.{IsGivingFault, IsShowFault, IsUnre
 ghost use Rattle.cq_files.specs.Looking.{Looks};
 ghost use Rattle.cq_files.specs.Shown.{IsGiven, IsGivenFile};
 
-use crate::files::{has_name, read_file};
+use crate::files::read_file;
 use crate::opening::{ImageFile, QueueFolder, image_file, open_folder};
 use cq_config_text::SavedConfig;
-use cq_folder::{Access, Folder};
+use cq_folder::{Access, Folder, has_name};
 use cq_model::Config;
 use cq_text::ToolFault;
 use std::alloc::Global;

@@ -6,10 +6,10 @@ ghost use Rattle.cq_files.specs.Initialised.{IsInitFault, IsInitialText, IsListi
 ghost use Rattle.cq_files.specs.Saving.{KeepsOrSaves};
 ghost use Rattle.cq_files.specs.Counted.{CountsFaults};
 
-use crate::files::{has_name, listed, write_file};
+use crate::files::{listed, write_file};
 use cq_config_text::{WantedConfig, write_config};
 use cq_cycle::{Roll, roll_named};
-use cq_folder::{Access, CONFIG_FILE, Folder};
+use cq_folder::{Access, CONFIG_FILE, Folder, has_name};
 use cq_layout::CURRENT_VERSION;
 use cq_model::{Config, copied_names};
 use cq_settings::InitSettings;

@@ -14,7 +14,7 @@
 //! | `save_fault` | the error for a file that could not be written |
 //! | `print_outside` | writes the output of a command that has left the folder |
 //! | `listed`, `read_file`, `read_saved` | enter a folder and list it, read a file, and read `queue.cqc` |
-//! | `has_name`, `is_image_name`, `cycle_of_file` | whether a file is there, may be an image, and of which cycle |
+//! | `is_image_name`, `cycle_of_file` | whether a file may be an image, and of which cycle |
 //! | `MOST_FILE_BYTES` | the limit of a file's bytes |
 //!
 //! What holds of each command here, and of those in `cq_commands`:
@@ -40,7 +40,7 @@ mod saving;
 pub use checking::check;
 pub use dumping::dump;
 pub use files::{
-    MOST_FILE_BYTES, has_name, listed, print_outside, read_file, save_fault, save_files, write_file,
+    MOST_FILE_BYTES, listed, print_outside, read_file, save_fault, save_files, write_file,
 };
 pub use initialising::init;
 pub use migrating::migrate;

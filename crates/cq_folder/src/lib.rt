@@ -10,6 +10,7 @@
 //! | `MemoryFolder` | a folder in memory, whose files contracts see |
 //! | `FailingFolder` | a folder of which one call fails, for tests |
 //! | `CONFIG_FILE`, `IMAGE_ENDING`, `LOG_FILE`, `RECORD_FILE`, `PART_ENDING` | the names of a queue's files |
+//! | `has_name` | whether a file is among those listed |
 #![tactic(auto)]
 
 mod failing;
@@ -19,5 +20,5 @@ mod storage;
 
 pub use failing::FailingFolder;
 pub use memory::MemoryFolder;
-pub use names::{CONFIG_FILE, IMAGE_ENDING, LOG_FILE, PART_ENDING, RECORD_FILE};
+pub use names::{CONFIG_FILE, IMAGE_ENDING, LOG_FILE, PART_ENDING, RECORD_FILE, has_name};
 pub use storage::{Access, Folder, FolderFault, NewFile, fault_of};

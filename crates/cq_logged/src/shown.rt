@@ -3,8 +3,7 @@ ghost use Rattle.std.specs.Prelude.{◌≡◌, IfOk, MatchOption, Some, map};
 ghost use Rattle.cq_folder.specs.Folder.{Files, IsCounted, ListsFiles, after_writes, named_file};
 ghost use Rattle.cq_model.specs.Settings.{texts};
 
-use cq_files::has_name;
-use cq_folder::{FolderFault, NewFile};
+use cq_folder::{FolderFault, NewFile, has_name};
 use std::alloc::{AllocError, Global};
 
 /// Counts a failure of the device.

@@ -1,9 +1,7 @@
 ghost use Rattle.std.specs.Prelude.{◌≡◌, ◌↔◌, ◌+◌, ◌++◌, ◌<◌, ◌^◌, ℕ, IfOk, IfSome, IsSomeAnd, IsTrue, List, OnOk, String, codes, map, string_bytes, vec_len};
-ghost use Rattle.std.specs.List.{list_any};
-ghost use Rattle.std.specs.Str.{bytes_eq};
 ghost use Rattle.cq_real_folder.specs.Record.{AreFileNames, BeginsWithNoName, HasParts, IsFileName, IsKeptName, IsPartName, IsRecord, IsRecordOf, form_of, name_text, part_name, record_lines, record_text, removal_text};
 
-use cq_folder::{CONFIG_FILE, IMAGE_ENDING, LOG_FILE, PART_ENDING, RECORD_FILE};
+use cq_folder::{CONFIG_FILE, IMAGE_ENDING, LOG_FILE, PART_ENDING, RECORD_FILE, has_name};
 use std::alloc::{AllocError, Global};
 
 /// The ending of the names of files that are kept when others replace them, as `repair` does.
@@ -110,13 +108,6 @@ impl Record {
             removed,
         }))
     }
-}
-
-/// Returns whether a name is one of these.
-pub(crate) fn has_name(names: &[String], name: &str) -> bool
-    ensures { result ≡ list_any (λ named. bytes_eq (string_bytes named) name.now) names.now }
-{
-    names.iter().any(|named| named.as_str() == name)
 }
 
 /// Adds names to a text, each on a line.

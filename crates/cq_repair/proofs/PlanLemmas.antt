@@ -5,9 +5,9 @@ use Rattle.std.specs.Prelude.{Contains, Option, None, Some, IsTrue, String}
 use Rattle.std.specs.Option.{is_none}
 use Rattle.std.specs.Str.{bytes_eq}
 use Rattle.cq_config_text.specs.ConfigText.{IsTextOf}
-use Rattle.cq_folder.specs.Folder.{NamedFile, named_file}
+use Rattle.cq_folder.specs.Folder.{NamedFile, is_named, named_file}
 use Rattle.cq_folder.specs.declared.storage.NewFile.{NewFile}
-use Rattle.cq_files.proofs.QueueLemmas.{contained, is_named, named}
+use Rattle.cq_folder.proofs.NamedLemmas.{contained, named}
 use Rattle.cq_image.specs.Image.{AreNext}
 use Rattle.cq_image.specs.declared.fault.ImageFault.{ImageFault}
 use Rattle.cq_image.specs.declared.found.Salvaged.{Salvaged}

@@ -8,8 +8,8 @@ ghost use Rattle.cq_model.specs.Settings.{texts};
 ghost use Rattle.cq_repair.specs.Found.{HasLater, IsFound, IsLater, IsOldOrUnread, IsPlaced, IsUnplaced};
 
 use cq_config_text::SavedConfig;
-use cq_files::{cycle_of_file, has_name, is_image_name, listed, read_file, read_saved};
-use cq_folder::{Access, CONFIG_FILE, Folder};
+use cq_files::{cycle_of_file, is_image_name, listed, read_file, read_saved};
+use cq_folder::{Access, CONFIG_FILE, Folder, has_name};
 use cq_model::Config;
 use cq_text::ToolFault;
 use std::alloc::Global;

@@ -1,7 +1,7 @@
 //! Lists a folder and reads its files, through the record of a save that was cut short.
 
 use super::Directory;
-use crate::record::has_name;
+use cq_folder::has_name;
 use std::alloc::{AllocError, Global};
 use std::fs::{self, File};
 use std::io::{self, BufRead, BufReader, ErrorKind, Read};

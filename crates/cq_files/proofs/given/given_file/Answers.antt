@@ -7,7 +7,7 @@ use Rattle.cq_files.specs.FolderFaults.{IsGivingFault}
 use Rattle.cq_files.specs.Queue.{IsImageName}
 use Rattle.cq_files.specs.Shown.{IsGivenFile}
 use Rattle.cq_files.specs.declared.opening.ImageFile.{ImageFile}
-use Rattle.cq_files.proofs.QueueLemmas.{named, unnamed}
+use Rattle.cq_folder.proofs.NamedLemmas.{named, unnamed}
 use Rattle.cq_files.proofs.given.given_file.Goals as goal
 
 module _ (settings : Settings) (names : List (List ℕ)) (name : String Global) (file : List ℕ) (is : string_bytes name ≡ file)

@@ -1,6 +1,7 @@
 use Rattle.std.proofs.Common.{ap, sym, ◌∙◌}
 use Rattle.cq_folder.specs.declared.names.TheConstants.{CONFIG_FILE}
-use Rattle.cq_files.proofs.QueueLemmas.{file_named, file_unnamed, is_named}
+use Rattle.cq_folder.specs.Folder.{is_named}
+use Rattle.cq_folder.proofs.NamedLemmas.{file_named, file_unnamed}
 use Rattle.cq_files.proofs.initialising.check_new.Goals as goal
 
 pub returns-then-has_name-clause-fault : goal.returns-then-has_name-clause-fault

@@ -1,7 +1,7 @@
 use Rattle.std.proofs.Common.{◌≡◌, ◌+◌, ◌++◌, ◌∷◌, ◌∙◌, [], Global, List, String, ap, arith, map, string_bytes, subst, sym, take, ℕ}
 use Rattle.std.proofs.lemmas.List.{map-append, take_all}
-use Rattle.cq_files.proofs.QueueLemmas.{is_named, named, unnamed}
-use Rattle.cq_folder.specs.Folder.{ListsFiles, after_writes, named_file}
+use Rattle.cq_folder.proofs.NamedLemmas.{named, unnamed}
+use Rattle.cq_folder.specs.Folder.{ListsFiles, after_writes, is_named, named_file}
 use Rattle.cq_folder.specs.declared.storage.NewFile.{NewFile}
 use Rattle.cq_model.specs.Settings.{texts}
 use Rattle.cq_logged.proofs.Seen.{lists_more, lists_still}

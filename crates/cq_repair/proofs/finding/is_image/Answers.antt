@@ -1,5 +1,5 @@
 use Rattle.std.proofs.Common.{sym, ◌∙◌}
-use Rattle.cq_files.proofs.QueueLemmas.{contained, named}
+use Rattle.cq_folder.proofs.NamedLemmas.{contained, named}
 use Rattle.cq_repair.proofs.finding.is_image.Goals as goal
 
 pub returns : goal.returns

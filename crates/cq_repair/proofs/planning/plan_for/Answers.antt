@@ -4,7 +4,7 @@ use Rattle.cq_image.specs.Image.{AreNext}
 use Rattle.cq_repair.specs.Kept.{bad_name, salvaged}
 use Rattle.cq_repair.specs.Plans.{IsKept}
 use Rattle.cq_repair.specs.declared.planning.Kept.{Kept}
-use Rattle.cq_files.proofs.QueueLemmas.{is_named}
+use Rattle.cq_folder.specs.Folder.{is_named}
 use Rattle.cq_repair.proofs.PlanLemmas.{taken_is}
 use Rattle.cq_repair.proofs.planning.plan_for.Goals as goal
 
