@@ -1,6 +1,7 @@
 //! A start of the program: from its command line to its exit status.
 
 ghost use Rattle.std.specs.Prelude.{◌≡◌};
+ghost use Rattle.cq_tools.specs.Statuses.{IsStatus, IsStatusFor, status_of};
 
 use crate::fault::StartFault;
 use crate::program::{Outcome, Program, Terminals};
@@ -40,8 +41,9 @@ pub struct Start {
 /// `errors`, and returns the exit status. On a terminal it also says, on standard error, for how long a command has worked that takes more
 /// than a second, and which cycle a `write` begins.
 ///
-/// It is proved, on a private function, that a command's error gives status 1. How words, folder, streams and statuses
-/// come together is only tested.
+/// It is proved that the exit status is `DONE`, `FAULT`, `NOT_UNDERSTOOD` or `NOTHING`. Which of them an outcome has, an
+/// error, or a command line that is not understood, is proved on private functions. What a command comes to over a real
+/// folder and real streams is tested.
 pub fn status<'a, R, E>(rt: &'a R, errors: &'a E, start: Start) -> u8
 where
     R: AllocGlobal
@@ -59,6 +61,7 @@ where
         + 'static,
     R::Reader: Send + Drop + 'static,
     E: Eprint,
+    ensures { IsStatus result }
 {
     let Start {
         words,
@@ -83,7 +86,9 @@ where
 }
 
 /// Prints the error of a command, and returns the exit status.
-fn said_of<E: Eprint>(errors: &E, done: Result<Outcome, StartFault>) -> u8 {
+fn said_of<E: Eprint>(errors: &E, done: Result<Outcome, StartFault>) -> u8
+    ensures { result ≡ status_of done }
+{
     match done {
         Ok(Outcome::Done) => DONE,
         Ok(Outcome::Nothing) => NOTHING,
@@ -118,7 +123,9 @@ fn order_in<R: AllocGlobal>(rt: &R, words: io::Result<Vec<String>>) -> Result<Or
 }
 
 /// Prints why there is no order, or the version if that was asked for, and returns the exit status.
-fn said<R: Print, E: Eprint>(rt: &R, errors: &E, unread: Unread) -> u8 {
+fn said<R: Print, E: Eprint>(rt: &R, errors: &E, unread: Unread) -> u8
+    ensures { IsStatusFor unread result }
+{
     match unread {
         Unread::NoText => {
             let _ = eprintln!(errors; "error: an argument is not UTF-8 text");

@@ -41,5 +41,5 @@ returns-then-is_current-clause-placed c =
       named = c.in-Some.ensures.found;
       version =
           sym (c.is_current.ensures ∙ ap is_current (c.store.ensures.value ∙ ap (λ (layout : CycleLayout). layout.store) c.layout.ensures.value))
-              ∙ c.if-is_current.true;
+          ∙ c.if-is_current.true;
     }
