@@ -1,8 +1,13 @@
 -- The record of a save: the renames and the removals that are still to be done.
-use Rattle.std.specs.Prelude.{◌≡◌, ◌≢◌, ◌⊎◌, ◌+◌, ◌<◌, ◌^◌, ℕ, List, ◌∷◌, [], ◌++◌, All, Contains, IsTrue, String, codes, length, map, nat_eq, string_bytes}
+use Rattle.std.specs.Prelude.{◌≡◌, ◌≢◌, ◌⊎◌, ◌+◌, ◌<◌, ◌≤◌, ◌^◌, ℕ, List, ◌∷◌, [], ◌++◌, All, Bool, Contains, IsSomeAnd, IsTrue, String, codes, if◌then◌else◌, length, map, nat_eq, not, pos, string_bytes}
 use Rattle.std.specs.Fmt.{decimal}
 use Rattle.std.specs.Global.{Global}
-use Rattle.std.specs.List.{ends_with, flat_map}
+use Rattle.std.specs.IoError.{error_kind, raw_os_error}
+use Rattle.std.specs.List.{ends_with, filter, flat_map, list_any}
+use Rattle.std.specs.Str.{bytes_eq}
+use Rattle.std.specs.declared.io.Error.{Error}
+use Rattle.std.specs.declared.io.ErrorKind.TheVariants.{InvalidData, InvalidFilename, OutOfMemory}
+use Rattle.cq_folder.specs.declared.storage.NewFile.{NewFile}
 use Rattle.cq_real_folder.specs.declared.record.Record.{Record}
 use Rattle.cq_real_folder.specs.declared.record.TheConstants.{KEPT_ENDING}
 use Rattle.cq_folder.specs.declared.names.TheConstants.{CONFIG_FILE, IMAGE_ENDING, LOG_FILE, PART_ENDING, RECORD_FILE}
@@ -16,6 +21,14 @@ IsFileName name = ((name ≡ CONFIG_FILE.now) ⊎ ((name ≡ LOG_FILE.now) ⊎ I
 -- names that a record can have
 abbrev pub AreFileNames : List (String Global) → Type 0
 AreFileNames names = All (λ name. IsFileName (string_bytes name)) names
+
+-- a record can be made of a save that replaces these files and removes those of these names
+abbrev pub CanBeRecorded : List NewFile → List (String Global) → Type 0
+CanBeRecorded changes removed = All (λ file. IsFileName (string_bytes file.name)) changes × AreFileNames removed
+
+-- why no record is made: out of memory, or it cannot have one of the names, which must then hold
+abbrev pub IsNamingError : Type 0 → Error → Type 0
+IsNamingError Unnamed error = (error_kind error ≡ OutOfMemory) ⊎ ((error_kind error ≡ InvalidFilename) × Unnamed)
 
 -- the form of a record's text: 1 if no file is removed, and else 2
 abbrev pub form_of : List (String Global) → ℕ
@@ -55,6 +68,34 @@ pub record IsRecord (process : ℕ) (names removed : List (String Global)) : Typ
   pub files : AreFileNames names
   pub removals : AreFileNames removed
 
+-- the text is that of a save's record
+pub record IsRecordText (text : List ℕ) : Type 0 where
+  pub process : ℕ
+  pub names : List (String Global)
+  pub removed : List (String Global)
+  pub lawful : IsRecord process names removed
+  pub spelled : text ≡ record_text process names removed
+
+-- why a text is not read as a record: out of memory, or it is none, or longer than this
+abbrev pub IsReadingError : ℕ → List ℕ → Error → Type 0
+IsReadingError most text error = (error_kind error ≡ OutOfMemory)
+    ⊎ ((error_kind error ≡ InvalidData) × (length text ≤ most → ¬ IsRecordText text))
+
+-- whether one of these names is this
+abbrev pub is_listed : List (List ℕ) → List ℕ → Bool
+is_listed names name = list_any (λ (listed : List ℕ). bytes_eq listed name) names
+
+-- these names, and then those of the files that are saved and not among them, each once
+abbrev pub with_saved : List (List ℕ) → List (List ℕ) → List (List ℕ)
+with_saved names [] = names
+with_saved names (saved ∷ more) =
+    with_saved (if is_listed names saved then names else names ++ saved ∷ []) more
+
+-- what a folder lists once a save is done that replaces files and removes others
+abbrev pub names_after : List (List ℕ) → List (List ℕ) → List (List ℕ) → List (List ℕ)
+names_after saved removed names =
+    filter (λ name. not (is_listed removed name)) (with_saved names saved)
+
 -- the record is of this process, and names these files
 pub record IsRecordOf (found : Record) (process : ℕ) (names removed : List (String Global)) : Type 0 where
   pub number : found.process ≡ process
@@ -80,3 +121,13 @@ pub record IsPartName (name : List ℕ) : Type 0 where
   pub whose : HasParts file
   pub number : process < 2 ^ 32
   pub spelled : name ≡ part_name file process
+
+-- a folder lists itself and its parent by these names
+abbrev pub IsFolderName : List ℕ → Type 0
+IsFolderName name = (name ≡ codes ".") ⊎ (name ≡ codes "..")
+
+-- the errors by which the system says that it has no locks on a folder: a bad descriptor, an invalid argument, no locks, no
+-- such call, not supported
+abbrev pub SaysNoLocks : Error → Type 0
+SaysNoLocks error = IsSomeAnd (raw_os_error error) (λ code. (code ≡ pos 9) ⊎ ((code ≡ pos 22) ⊎ ((code ≡ pos 37) ⊎ ((code ≡ pos 38)
+    ⊎ (code ≡ pos 95)))))

@@ -1,5 +1,7 @@
-ghost use Rattle.std.specs.Prelude.{◌≡◌, ◌≢◌, Err, IfOk, None, Ok, option_map};
+ghost use Rattle.std.specs.Prelude.{◌≡◌, ◌≢◌, ◌↔◌, ◌≤◌, ◌+◌, ◌++◌, Err, IfErr, IfOk, IsErrAnd, None, Ok, codes, option_map, string_bytes};
+ghost use Rattle.std.specs.IoError.{error_kind};
 ghost use Rattle.cq_folder.specs.Folder.{IsCounted};
+ghost use Rattle.cq_real_folder.specs.Record.{part_name};
 
 mod entering;
 mod locking;
@@ -76,23 +78,34 @@ struct Directory<'a, R: Files<File = File> + AllocGlobal + Clone + Drop> {
 }
 
 impl<'a, R: Files<File = File> + AllocGlobal + Clone + Drop> Directory<'a, R> {
-    fn path_of(&self, name: &str) -> Result<String, AllocError> {
+    /// Returns the path of the file of this name.
+    fn path_of(&self, name: &str) -> Result<String, AllocError>
+        ensures { IfOk result (λ path. string_bytes path ≡ string_bytes self.now.path ++ (codes "/" ++ name.now)) }
+    {
         format!(in self.rt.alloc(); "{}/{name}", self.path)
     }
 
-    fn part_of(&self, name: &str, process: u32) -> Result<String, AllocError> {
+    /// Returns the path of the part of the file of this name that the process with this number writes.
+    fn part_of(&self, name: &str, process: u32) -> Result<String, AllocError>
+        ensures { IfOk result (λ path. string_bytes path
+            ≡ string_bytes self.now.path ++ (codes "/" ++ part_name name.now process)) }
+    {
         let part = part_name(self.rt.alloc(), name, process)?;
         self.path_of(part.as_str())
     }
 
-    /// Syncs what the folder lists to the device.
+    /// Syncs what the folder lists to the device. Of that no call of std promises anything.
     fn sync(&self) -> io::Result<()> {
         File::open(self.rt, self.path.as_str())?.sync_all()
     }
 }
 
 /// Ignores the error that there is no such file.
-fn unless_missing(done: io::Result<()>) -> io::Result<()> {
+fn unless_missing(done: io::Result<()>) -> io::Result<()>
+    ensures done { IfOk done (λ _. result ≡ done) }
+    ensures missing { IfErr done (λ error. error_kind error ≡ ErrorKind.NotFound → result ≡ Ok tt) }
+    ensures others { IfErr done (λ error. error_kind error ≢ ErrorKind.NotFound → result ≡ Err error) }
+{
     match done {
         Err(error) if error.kind() == ErrorKind::NotFound => Ok(()),
         done => done,
@@ -101,9 +114,12 @@ fn unless_missing(done: io::Result<()>) -> io::Result<()> {
 
 /// Returns what a call did, or the fault for its error. A fault of the device is counted.
 fn counted<T>(failures: &mut u64, done: io::Result<T>) -> Result<T, FolderFault>
+    ensures passed { IfOk done (λ value. result ≡ Ok value) }
     ensures same { IfOk result (λ value. done ≡ Ok value) }
+    ensures memory { IfErr done (λ error. (result ≡ Err FolderFault.OutOfMemory) ↔ (error_kind error ≡ ErrorKind.OutOfMemory)) }
     ensures fits { result ≢ Err FolderFault.TooLarge }
     ensures counted { IsCounted failures.old failures.new result }
+    ensures once { failures.new ≤ failures.old + 1 }
 {
     match done {
         Ok(value) => Ok(value),

@@ -1,5 +1,5 @@
-ghost use Rattle.std.specs.Prelude.{◌≡◌, ◌↔◌, ◌+◌, ◌++◌, ◌<◌, ◌^◌, ℕ, IfOk, IfSome, IsSomeAnd, IsTrue, List, OnOk, String, codes, map, string_bytes, vec_len};
-ghost use Rattle.cq_real_folder.specs.Record.{AreFileNames, BeginsWithNoName, HasParts, IsFileName, IsKeptName, IsPartName, IsRecord, IsRecordOf, form_of, name_text, part_name, record_lines, record_text, removal_text};
+ghost use Rattle.std.specs.Prelude.{◌≡◌, ◌↔◌, ◌+◌, ◌++◌, ◌∷◌, ◌<◌, ◌^◌, ℕ, [], IfOk, IfSome, IsSomeAnd, IsTrue, List, OnErr, OnOk, String, codes, map, string_bytes, take, vec_len};
+ghost use Rattle.cq_real_folder.specs.Record.{AreFileNames, BeginsWithNoName, HasParts, IsFileName, IsKeptName, IsPartName, IsRecord, IsRecordOf, form_of, name_text, names_after, part_name, record_lines, record_text, removal_text, with_saved};
 
 use cq_folder::{CONFIG_FILE, IMAGE_ENDING, LOG_FILE, PART_ENDING, RECORD_FILE, has_name};
 use std::alloc::{AllocError, Global};
@@ -75,12 +75,16 @@ impl Record {
         self.names.is_empty() && self.removed.is_empty()
     }
 
-    /// Makes the names of the files in a folder those that the folder has once the save is done.
-    pub fn apply(&self, alloc: Global, names: &mut Vec<String>) -> Result<(), AllocError> {
+    /// Makes the names of the files in a folder those that the folder has once the save is done. After an error no name is
+    /// removed, and only some of those that the save adds are there.
+    pub fn apply(&self, alloc: Global, names: &mut Vec<String>) -> Result<(), AllocError>
+        ensures done { OnOk result (map string_bytes names.new.items ≡ names_after
+            (map string_bytes self.now.names.items) (map string_bytes self.now.removed.items) (map string_bytes names.old.items)) }
+        ensures begun { OnErr result ((k : ℕ) × (map string_bytes names.new.items
+            ≡ with_saved (map string_bytes names.old.items) (map string_bytes (take k self.now.names.items)))) }
+    {
         for name in &self.names {
-            if !has_name(names.as_slice(), name.as_str()) {
-                names.push(String::from_str(alloc, name.as_str())?)?;
-            }
+            push_new(alloc, names, name.as_str())?;
         }
         names.retain(|name| !has_name(self.removed.as_slice(), name.as_str()));
         Ok(())
@@ -108,6 +112,19 @@ impl Record {
             removed,
         }))
     }
+}
+
+/// Adds a name, unless it is among them. After an error it is not added.
+fn push_new(alloc: Global, names: &mut Vec<String>, name: &str) -> Result<(), AllocError>
+    ensures added { OnOk result (map string_bytes names.new.items
+        ≡ with_saved (map string_bytes names.old.items) (name.now ∷ [])) }
+    ensures kept { OnErr result (names.new.items ≡ names.old.items) }
+{
+    if has_name(names.as_slice(), name) {
+        return Ok(());
+    }
+    names.push(String::from_str(alloc, name)?)?;
+    Ok(())
 }
 
 /// Adds names to a text, each on a line.

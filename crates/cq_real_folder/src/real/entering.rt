@@ -1,6 +1,8 @@
 //! Enters a folder: takes the lock, and looks for what is left of a save that was cut short.
 
-ghost use Rattle.std.specs.Prelude.{◌≡◌, IfOk, None, OnOk, Some, option_map};
+ghost use Rattle.std.specs.Prelude.{◌≡◌, ◌≢◌, ◌≤◌, ◌<◌, ◌+◌, IfErr, IfOk, IfSome, None, OnErr, OnOk, Some, false, length, option_map, vec_len};
+ghost use Rattle.std.specs.IoError.{error_kind};
+ghost use Rattle.cq_real_folder.specs.Record.{AreFileNames, IsReadingError, record_text};
 
 use super::locking::Lock;
 use super::{Directory, RealFolder, unless_missing};
@@ -18,6 +20,9 @@ impl<'a, R: Files<File = File> + AllocGlobal + Clone + Drop> RealFolder<'a, R> {
     /// Waits for the lock, and looks for a save that was cut short.
     pub(super) fn enter(&mut self, alloc: Global, access: Access) -> io::Result<()>
         ensures failures { self.new.failures ≡ self.old.failures }
+        ensures path { self.new.files.path ≡ self.old.files.path }
+        ensures process { self.new.files.process ≡ self.old.files.process }
+        ensures done { access ≡ Access.Alone → OnOk result (self.new.files.record ≡ None) }
         ensures inside { OnOk result (option_map (λ lock. lock.access) self.new.lock ≡ Some access) }
     {
         self.leave();
@@ -31,6 +36,10 @@ impl<'a, R: Files<File = File> + AllocGlobal + Clone + Drop> RealFolder<'a, R> {
     pub(super) fn leave(&mut self)
         ensures failures { self.new.failures ≡ self.old.failures }
         ensures outside { self.new.lock ≡ None }
+        ensures record { self.new.files.record ≡ None }
+        ensures path { self.new.files.path ≡ self.old.files.path }
+        ensures process { self.new.files.process ≡ self.old.files.process }
+        ensures again { self.new.files.may_come_back ≡ self.old.files.may_come_back }
     {
         self.lock = None;
         self.files.record = None;
@@ -38,7 +47,7 @@ impl<'a, R: Files<File = File> + AllocGlobal + Clone + Drop> RealFolder<'a, R> {
 }
 
 impl<'a, R: Files<File = File> + AllocGlobal + Clone + Drop> Directory<'a, R> {
-    /// Returns the folder, opened and locked.
+    /// Returns the folder, opened and locked. std promises nothing of what the system opens and locks.
     fn locked(&self, access: Access) -> io::Result<Lock>
         ensures { IfOk result (λ lock. lock.access ≡ access) }
     {
@@ -51,7 +60,11 @@ impl<'a, R: Files<File = File> + AllocGlobal + Clone + Drop> Directory<'a, R> {
 
     /// Looks for a save that was cut short. A command that is alone does what is left of it, and removes the parts that are left
     /// if the lock is held: without locks, a part may be that of a process that is running.
-    fn resume(&mut self, alloc: Global, access: Access, is_held: bool) -> io::Result<()> {
+    fn resume(&mut self, alloc: Global, access: Access, is_held: bool) -> io::Result<()>
+        ensures done { access ≡ Access.Alone → OnOk result (self.new.record ≡ None) }
+        ensures path { self.new.path ≡ self.old.path }
+        ensures process { self.new.process ≡ self.old.process }
+    {
         self.record = self.record_there(alloc)?;
         if access == Access::Alone {
             self.finish_earlier()?;
@@ -63,7 +76,11 @@ impl<'a, R: Files<File = File> + AllocGlobal + Clone + Drop> Directory<'a, R> {
     }
 
     /// Returns the record that is there. A file of that name that is no record, or too long for one, is an error.
-    fn record_there(&self, alloc: Global) -> io::Result<Option<Record>> {
+    fn record_there(&self, alloc: Global) -> io::Result<Option<Record>>
+        ensures names { IfOk result (λ there. IfSome there (λ found. AreFileNames found.names.items)) }
+        ensures removed { IfOk result (λ there. IfSome there (λ found. AreFileNames found.removed.items)) }
+        ensures missing { IfErr result (λ error. error_kind error ≢ ErrorKind.NotFound) }
+    {
         let path = self.path_of(RECORD_FILE)?;
         match self.read_plain(alloc, path.as_str(), MOST_RECORD_BYTES) {
             Ok(text) => Ok(Some(record_in(alloc, text.as_slice())?)),
@@ -76,7 +93,12 @@ impl<'a, R: Files<File = File> + AllocGlobal + Clone + Drop> Directory<'a, R> {
     /// or an error kept this one from it.
     ///
     /// The record may not be on the device yet: without it, a crash could keep some of the renames and lose the others.
-    pub(super) fn finish_earlier(&mut self) -> io::Result<()> {
+    pub(super) fn finish_earlier(&mut self) -> io::Result<()>
+        ensures done { OnOk result (self.new.record ≡ None) }
+        ensures synced { OnOk result (self.new.may_come_back ≡ false) }
+        ensures path { self.new.path ≡ self.old.path }
+        ensures process { self.new.process ≡ self.old.process }
+    {
         if self.record.is_some() {
             self.confirm()?;
             self.settle()?;
@@ -85,7 +107,12 @@ impl<'a, R: Files<File = File> + AllocGlobal + Clone + Drop> Directory<'a, R> {
     }
 
     /// Does what is left of the save whose record is there, and on the device.
-    pub(super) fn settle(&mut self) -> io::Result<()> {
+    pub(super) fn settle(&mut self) -> io::Result<()>
+        ensures done { OnOk result (self.new.record ≡ None) }
+        ensures left { OnErr result (self.new.record ≡ self.old.record) }
+        ensures path { self.new.path ≡ self.old.path }
+        ensures process { self.new.process ≡ self.old.process }
+    {
         if let Some(record) = &self.record {
             self.finish(record)?;
         }
@@ -95,7 +122,7 @@ impl<'a, R: Files<File = File> + AllocGlobal + Clone + Drop> Directory<'a, R> {
     }
 
     /// Renames the parts that are left, removes the files that are to go, and syncs that. A part that is gone has been renamed, and a
-    /// file that is gone has been removed.
+    /// file that is gone has been removed. std promises nothing of that.
     fn finish(&self, record: &Record) -> io::Result<()> {
         for name in &record.names {
             unless_missing(self.place(name.as_str(), record.process))?;
@@ -106,7 +133,7 @@ impl<'a, R: Files<File = File> + AllocGlobal + Clone + Drop> Directory<'a, R> {
         self.sync()
     }
 
-    /// Removes the parts of saves that were cut short before their record was there.
+    /// Removes the parts of saves that were cut short before their record was there. std promises nothing of that.
     fn sweep(&self, alloc: Global) -> io::Result<()> {
         let names = self.list(alloc)?;
         for name in &names {
@@ -118,8 +145,15 @@ impl<'a, R: Files<File = File> + AllocGlobal + Clone + Drop> Directory<'a, R> {
     }
 }
 
-/// Returns the record with this text. A text that is no record, or too long for one, is an error.
-fn record_in(alloc: Global, text: &[u8]) -> io::Result<Record> {
+/// Returns the record with this text. The error is `InvalidData` for a text that is no record, or too long for one.
+fn record_in(alloc: Global, text: &[u8]) -> io::Result<Record>
+    ensures form { IfOk result (λ found. text.now ≡ record_text found.process found.names.items found.removed.items) }
+    ensures small { IfOk result (λ _. length text.now ≤ MOST_RECORD_BYTES) }
+    ensures some { IfOk result (λ found. 0 < vec_len found.names + vec_len found.removed) }
+    ensures names { IfOk result (λ found. AreFileNames found.names.items) }
+    ensures removed { IfOk result (λ found. AreFileNames found.removed.items) }
+    ensures error { IfErr result (IsReadingError MOST_RECORD_BYTES text.now) }
+{
     if text.len() <= MOST_RECORD_BYTES
         && let Some(record) = Record::read(alloc, text)?
     {

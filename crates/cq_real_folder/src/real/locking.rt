@@ -1,6 +1,7 @@
 //! The lock of a folder.
 
-ghost use Rattle.std.specs.Prelude.{◌≡◌, IfOk};
+ghost use Rattle.std.specs.Prelude.{◌≡◌, ◌↔◌, IfErr, IfOk, IsTrue};
+ghost use Rattle.cq_real_folder.specs.Record.{SaysNoLocks};
 
 use cq_folder::Access;
 use std::fs::File;
@@ -21,7 +22,9 @@ impl Lock {
     /// Waits for the lock of an open folder. If the system, or the file system, has no locks on folders, it is used
     /// without.
     pub fn of(folder: File, access: Access) -> io::Result<Lock>
-        ensures { IfOk result (λ lock. lock.access ≡ access) }
+        ensures access { IfOk result (λ lock. lock.access ≡ access) }
+        ensures folder { IfOk result (λ lock. lock.folder ≡ folder) }
+        ensures refused { IfErr result (λ error. ¬ SaysNoLocks error) }
     {
         let locked = match access {
             Access::Alone => folder.lock(),
@@ -49,6 +52,8 @@ impl Lock {
 
 /// Returns whether the error means that the system, or this file system, has no locks on folders: a bad descriptor, an
 /// invalid argument, no locks, no such call, not supported.
-fn has_no_locks(error: &io::Error) -> bool {
+fn has_no_locks(error: &io::Error) -> bool
+    ensures { IsTrue result ↔ SaysNoLocks error.now }
+{
     matches!(error.raw_os_error(), Some(9 | 22 | 37 | 38 | 95))
 }

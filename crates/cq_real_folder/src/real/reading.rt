@@ -1,5 +1,11 @@
 //! Lists a folder and reads its files, through the record of a save that was cut short.
 
+ghost use Rattle.std.specs.Prelude.{◌≡◌, ◌≢◌, ◌++◌, ◌∷◌, [], IfErr, IfSome, IsErrAnd, IsTrue, Ok, OnErr, OnOk, map, string_bytes};
+ghost use Rattle.std.specs.Str.Lossy.{utf8_lossy};
+ghost use Rattle.std.specs.IoError.{error_kind};
+ghost use Rattle.cq_folder.specs.Folder.{is_named};
+ghost use Rattle.cq_real_folder.specs.Record.{IsFolderName};
+
 use super::Directory;
 use cq_folder::has_name;
 use std::alloc::{AllocError, Global};
@@ -8,7 +14,8 @@ use std::io::{self, BufRead, BufReader, ErrorKind, Read};
 use std::rt::Files;
 
 impl<'a, R: Files<File = File> + AllocGlobal + Clone + Drop> Directory<'a, R> {
-    /// Returns the names in the folder, with those of the record that is there, and without those that it removes.
+    /// Returns the names in the folder, with those of the record that is there, and without those that it removes. std
+    /// promises nothing of what the system lists.
     pub(super) fn list_through(&self, alloc: Global) -> io::Result<Vec<String>> {
         let mut names = self.list(alloc)?;
         if let Some(record) = &self.record {
@@ -18,7 +25,7 @@ impl<'a, R: Files<File = File> + AllocGlobal + Clone + Drop> Directory<'a, R> {
     }
 
     /// Returns the names in the folder. In a name that is not UTF-8, U+FFFD replaces what is no text; no file can be
-    /// read by that name.
+    /// read by that name. std promises nothing of what the system lists.
     pub(super) fn list(&self, alloc: Global) -> io::Result<Vec<String>> {
         names_in(alloc, self.rt.open_dir(self.path_of("")?.as_str())?)
     }
@@ -30,7 +37,10 @@ impl<'a, R: Files<File = File> + AllocGlobal + Clone + Drop> Directory<'a, R> {
         alloc: Global,
         name: &str,
         limit: usize,
-    ) -> io::Result<Vec<u8>> {
+    ) -> io::Result<Vec<u8>>
+        ensures { IfSome self.now.record (λ there. IsTrue (is_named there.removed.items name.now)
+            → IsErrAnd result (λ error. error_kind error ≡ ErrorKind.NotFound)) }
+    {
         if let Some(record) = &self.record
             && has_name(record.removed.as_slice(), name)
         {
@@ -48,7 +58,8 @@ impl<'a, R: Files<File = File> + AllocGlobal + Clone + Drop> Directory<'a, R> {
         self.read_plain(alloc, self.path_of(name)?.as_str(), limit)
     }
 
-    /// Reads the file at a path, in the same way. A link is not followed, and only a plain file is opened.
+    /// Reads the file at a path, in the same way. A link is not followed, and only a plain file is opened. std promises
+    /// nothing of what the system reads.
     pub(super) fn read_plain(
         &self,
         alloc: Global,
@@ -62,8 +73,11 @@ impl<'a, R: Files<File = File> + AllocGlobal + Clone + Drop> Directory<'a, R> {
     }
 }
 
-/// Reads the bytes of an open file, at most `limit + 1` of them.
-fn bytes_in(alloc: Global, file: File, limit: usize) -> io::Result<Vec<u8>> {
+/// Reads the bytes of an open file, at most `limit + 1` of them. It goes on after an interruption. Which bytes a file
+/// gives std does not promise.
+fn bytes_in(alloc: Global, file: File, limit: usize) -> io::Result<Vec<u8>>
+    ensures { IfErr result (λ error. error_kind error ≢ ErrorKind.Interrupted) }
+{
     let mut bytes = Vec::new(alloc);
     file.take((limit as u64).saturating_add(1))
         .read_to_end(&mut bytes)?;
@@ -81,7 +95,13 @@ fn names_in<D: Read + Drop>(alloc: Global, folder: D) -> io::Result<Vec<String>>
 }
 
 /// Adds a name that a folder lists, unless it is that of the folder itself or of its parent.
-fn push_name(alloc: Global, names: &mut Vec<String>, name: &[u8]) -> Result<(), AllocError> {
+fn push_name(alloc: Global, names: &mut Vec<String>, name: &[u8]) -> Result<(), AllocError>
+    ensures own { IsFolderName name.now → result ≡ Ok tt }
+    ensures passed { IsFolderName name.now → names.new.items ≡ names.old.items }
+    ensures added { ¬ IsFolderName name.now → OnOk result (map string_bytes names.new.items
+        ≡ map string_bytes names.old.items ++ utf8_lossy name.now ∷ []) }
+    ensures kept { OnErr result (names.new.items ≡ names.old.items) }
+{
     if matches!(name, b"." | b"..") {
         return Ok(());
     }

@@ -1,5 +1,9 @@
 //! Replaces files, each as a whole, and removes files: all of a save or nothing of it.
 
+ghost use Rattle.std.specs.Prelude.{◌≡◌, ◌≢◌, [], Err, IfErr, IfOk, IsErrAnd, IsOk, IsOkAnd, IsSomeAnd, None, Ok, OnErr, OnOk, false, true};
+ghost use Rattle.std.specs.Fs.{IsFile, file_type, metadata_mode, permissions_mode};
+ghost use Rattle.std.specs.IoError.{error_kind};
+
 use super::entering::MOST_RECORD_BYTES;
 use super::{Directory, unless_missing};
 use crate::record::Record;
@@ -10,8 +14,13 @@ use std::io::{self, ErrorKind, Write};
 use std::rt::Files;
 
 impl<'a, R: Files<File = File> + AllocGlobal + Clone + Drop> Directory<'a, R> {
-    /// Writes a file. It then holds all of the bytes or what it held, also if the system stops in between.
-    pub(super) fn replace(&mut self, name: &str, bytes: &[u8]) -> io::Result<()> {
+    /// Writes a file. It then holds all of the bytes or what it held, also if the system stops in between. std promises
+    /// nothing of that.
+    pub(super) fn replace(&mut self, name: &str, bytes: &[u8]) -> io::Result<()>
+        ensures done { OnOk result (self.new.record ≡ None) }
+        ensures path { self.new.path ≡ self.old.path }
+        ensures process { self.new.process ≡ self.old.process }
+    {
         self.finish_earlier()?;
         let placed = match self.prepare(name, bytes) {
             Ok(()) => self.place(name, self.process),
@@ -30,7 +39,12 @@ impl<'a, R: Files<File = File> + AllocGlobal + Clone + Drop> Directory<'a, R> {
         &mut self,
         changes: &[NewFile],
         removed: &[String],
-    ) -> io::Result<()> {
+    ) -> io::Result<()>
+        ensures nothing { changes.now ≡ [] → removed.now ≡ [] → result ≡ Ok tt }
+        ensures unchanged { changes.now ≡ [] → removed.now ≡ [] → self.new ≡ self.old }
+        ensures path { self.new.path ≡ self.old.path }
+        ensures process { self.new.process ≡ self.old.process }
+    {
         match (changes, removed) {
             ([], []) => Ok(()),
             ([file], []) => self.replace(file.name.as_str(), file.bytes.as_slice()),
@@ -41,7 +55,10 @@ impl<'a, R: Files<File = File> + AllocGlobal + Clone + Drop> Directory<'a, R> {
     /// Writes files and removes others, together. Either all of that is done, or all files hold what they held. Once the
     /// record is on the device the files are saved. An error after that is not returned while the record is there: the next
     /// save, or the next command that is alone, does what is left.
-    fn replace_all(&mut self, changes: &[NewFile], removed: &[String]) -> io::Result<()> {
+    fn replace_all(&mut self, changes: &[NewFile], removed: &[String]) -> io::Result<()>
+        ensures path { self.new.path ≡ self.old.path }
+        ensures process { self.new.process ≡ self.old.process }
+    {
         self.finish_earlier()?;
         let record = record_of(self.rt.alloc(), self.process, changes, removed)?;
         if let Err(error) = self.promise(&record, changes) {
@@ -57,7 +74,8 @@ impl<'a, R: Files<File = File> + AllocGlobal + Clone + Drop> Directory<'a, R> {
         self.confirm_removal()
     }
 
-    /// Writes the parts of files, and then their record. It returns an error if what is to be removed is no plain file.
+    /// Writes the parts of files, and then their record. It returns an error if what is to be removed is no plain file. std
+    /// promises nothing of what the system does.
     fn promise(&self, record: &Record, changes: &[NewFile]) -> io::Result<()> {
         for name in &record.removed {
             self.permissions(name.as_str())?;
@@ -76,7 +94,11 @@ impl<'a, R: Files<File = File> + AllocGlobal + Clone + Drop> Directory<'a, R> {
 
     /// Removes what a save wrote whose record is not there. A rename may return an error and be done nevertheless, so
     /// the record is removed first. If it cannot be, or may come back after a crash, the parts stay.
-    fn give_up(&mut self, changes: &[NewFile]) {
+    fn give_up(&mut self, changes: &[NewFile])
+        ensures record { self.new.record ≡ self.old.record }
+        ensures path { self.new.path ≡ self.old.path }
+        ensures process { self.new.process ≡ self.old.process }
+    {
         if self.remove_record().is_err() || self.confirm_removal().is_err() {
             return;
         }
@@ -87,7 +109,13 @@ impl<'a, R: Files<File = File> + AllocGlobal + Clone + Drop> Directory<'a, R> {
     }
 
     /// Removes the record, if there is one. After an error it may be gone too.
-    pub(super) fn remove_record(&mut self) -> io::Result<()> {
+    pub(super) fn remove_record(&mut self) -> io::Result<()>
+        ensures missing { IfErr result (λ error. error_kind error ≢ ErrorKind.NotFound) }
+        ensures later { self.old.may_come_back ≡ true → self.new.may_come_back ≡ true }
+        ensures record { self.new.record ≡ self.old.record }
+        ensures path { self.new.path ≡ self.old.path }
+        ensures process { self.new.process ≡ self.old.process }
+    {
         match fs::remove_file(self.rt, self.path_of(RECORD_FILE)?.as_str()) {
             Err(error) if error.kind() == ErrorKind::NotFound => Ok(()),
             removed => {
@@ -98,18 +126,21 @@ impl<'a, R: Files<File = File> + AllocGlobal + Clone + Drop> Directory<'a, R> {
     }
 
     /// Removes a file, if there is one.
-    pub(super) fn remove(&self, name: &str) -> io::Result<()> {
+    pub(super) fn remove(&self, name: &str) -> io::Result<()>
+        ensures { IfErr result (λ error. error_kind error ≢ ErrorKind.NotFound) }
+    {
         unless_missing(fs::remove_file(self.rt, self.path_of(name)?.as_str()))
     }
 
-    /// Removes the part of a file, if there is one.
+    /// Removes the part of a file, if there is one. std promises nothing of that.
     fn discard(&self, name: &str) {
         if let Ok(part) = self.part_of(name, self.process) {
             let _ = fs::remove_file(self.rt, part.as_str());
         }
     }
 
-    /// Writes the part of a file, anew. Anything that has its name is removed first, a link or a FIFO too.
+    /// Writes the part of a file, anew. Anything that has its name is removed first, a link or a FIFO too. std promises
+    /// nothing of that.
     fn prepare(&self, name: &str, bytes: &[u8]) -> io::Result<()> {
         let permissions = self.permissions(name)?;
         let part = self.part_of(name, self.process)?;
@@ -122,13 +153,17 @@ impl<'a, R: Files<File = File> + AllocGlobal + Clone + Drop> Directory<'a, R> {
     }
 
     /// Returns the permissions of the file, if it is there already. It returns an error if that is no plain file.
-    fn permissions(&self, name: &str) -> io::Result<Option<Permissions>> {
+    fn permissions(&self, name: &str) -> io::Result<Option<Permissions>>
+        ensures { IfErr result (λ error. error_kind error ≢ ErrorKind.NotFound) }
+    {
         permissions_in(fs::symlink_metadata(self.rt, self.path_of(name)?.as_str()))
     }
 
     /// Syncs what the folder lists to the device, after a rename from which on the new bytes are seen. So its error
     /// never says out of memory, after which no file has changed.
-    pub(super) fn confirm(&self) -> io::Result<()> {
+    pub(super) fn confirm(&self) -> io::Result<()>
+        ensures { IfErr result (λ error. error_kind error ≢ ErrorKind.OutOfMemory) }
+    {
         match self.sync() {
             Err(error) if error.kind() == ErrorKind::OutOfMemory => {
                 Err(io::Error::from(ErrorKind::Other))
@@ -139,7 +174,15 @@ impl<'a, R: Files<File = File> + AllocGlobal + Clone + Drop> Directory<'a, R> {
 
     /// Syncs that the record of a save was removed. Else the record could come back after the machine stops, when a later save of
     /// this process has written parts of the same names. If the sync fails, the next save tries it again first.
-    pub(super) fn confirm_removal(&mut self) -> io::Result<()> {
+    pub(super) fn confirm_removal(&mut self) -> io::Result<()>
+        ensures none { self.old.may_come_back ≡ false → IsOk result }
+        ensures done { OnOk result (self.new.may_come_back ≡ false) }
+        ensures again { OnErr result (self.new.may_come_back ≡ self.old.may_come_back) }
+        ensures memory { IfErr result (λ error. error_kind error ≢ ErrorKind.OutOfMemory) }
+        ensures record { self.new.record ≡ self.old.record }
+        ensures path { self.new.path ≡ self.old.path }
+        ensures process { self.new.process ≡ self.old.process }
+    {
         if self.may_come_back {
             self.confirm()?;
             self.may_come_back = false;
@@ -147,7 +190,7 @@ impl<'a, R: Files<File = File> + AllocGlobal + Clone + Drop> Directory<'a, R> {
         Ok(())
     }
 
-    /// Renames the part of a file that the process with this number wrote to the file.
+    /// Renames the part of a file that the process with this number wrote to the file. std promises nothing of that.
     pub(super) fn place(&self, name: &str, process: u32) -> io::Result<()> {
         let part = self.part_of(name, process)?;
         fs::rename(self.rt, part.as_str(), self.path_of(name)?.as_str())
@@ -155,7 +198,14 @@ impl<'a, R: Files<File = File> + AllocGlobal + Clone + Drop> Directory<'a, R> {
 }
 
 /// Returns the permissions of a file of which this was found; `None` if it is not there.
-fn permissions_in(found: io::Result<Metadata>) -> io::Result<Option<Permissions>> {
+fn permissions_in(found: io::Result<Metadata>) -> io::Result<Option<Permissions>>
+    ensures file { IfOk found (λ seen. IsFile (file_type seen) → IsOkAnd result (λ there.
+        IsSomeAnd there (λ permissions. permissions_mode permissions ≡ metadata_mode seen))) }
+    ensures other { IfOk found (λ seen. ¬ IsFile (file_type seen) → IsErrAnd result (λ error.
+        error_kind error ≡ ErrorKind.InvalidInput)) }
+    ensures missing { IfErr found (λ error. error_kind error ≡ ErrorKind.NotFound → result ≡ Ok None) }
+    ensures unseen { IfErr found (λ error. error_kind error ≢ ErrorKind.NotFound → result ≡ Err error) }
+{
     match found {
         Ok(data) if data.is_file() => Ok(Some(data.permissions())),
         Ok(_) => Err(io::Error::from(ErrorKind::InvalidInput)),
@@ -164,7 +214,7 @@ fn permissions_in(found: io::Result<Metadata>) -> io::Result<Option<Permissions>
     }
 }
 
-/// Writes a new file to the device.
+/// Writes a new file to the device. std promises nothing of that.
 fn fill(mut file: File, permissions: Option<Permissions>, bytes: &[u8]) -> io::Result<()> {
     if let Some(permissions) = permissions {
         file.set_permissions(permissions)?;
