@@ -9,6 +9,7 @@ ghost use Rattle.std.specs.Io.KnownBytes.{Appends};
 ghost use Rattle.cq_text.specs.Faults.{IsDeviceFault};
 ghost use Rattle.cq_text.specs.Output.{AppendsBeginning};
 ghost use Rattle.cq_files.specs.Counted.{CountsFaults};
+ghost use Rattle.cq_files.specs.Looking.{Enters, Stays};
 
 use cq_folder::{Access, Folder, FolderFault, NewFile};
 use cq_text::{ToolFault, print};
@@ -31,9 +32,7 @@ pub fn listed<F: Folder>(
     ensures listed { IfOk result (λ names. IfSome (F.files folder.old) (ListsFiles (texts names.items))) }
     ensures fault { IfErr result IsListFault }
     ensures cause { IfErr result (λ fault. IfSome (F.files folder.old) (λ files. HasCause files fault)) }
-    ensures kept { KeepsFiles (F.files folder.old) (F.files folder.new) }
-    ensures counted { CountsFaults (F.failed folder.old) (F.failed folder.new) result }
-    ensures inside { OnOk result (F.entered folder.new ≡ Some access) }
+    ensures enters { Enters F.files F.failed F.entered access folder.old folder.new result }
 {
     if let Err(fault) = folder.begin(alloc, access) {
         return Err(list_fault(fault));
@@ -67,9 +66,7 @@ pub fn read_file<F: Folder>(alloc: Global, folder: &mut F, name: &str) -> Result
     ensures small { IfOk result (λ bytes. length bytes.items ≤ MOST_FILE_BYTES) }
     ensures fault { IfErr result (IsFileFault name.now) }
     ensures cause { IfErr result (λ fault. IfSome (F.files folder.old) (λ files. HoldsConfig files → HasCause files fault)) }
-    ensures kept { KeepsFiles (F.files folder.old) (F.files folder.new) }
-    ensures counted { CountsFaults (F.failed folder.old) (F.failed folder.new) result }
-    ensures inside { F.entered folder.new ≡ F.entered folder.old }
+    ensures stays { Stays F.files F.failed F.entered folder.old folder.new result }
 {
     match folder.read(alloc, name, MOST_FILE_BYTES) {
         Ok(bytes) => Ok(bytes),

@@ -5,6 +5,7 @@ ghost use Rattle.cq_files.specs.FolderFaults.{HoldsConfig, IsLimitFault};
 ghost use Rattle.cq_files.specs.Initialised.{IsInitFault, IsInitialText, IsListingFault, IsNew, IsTextFor, wanted_settings};
 ghost use Rattle.cq_files.specs.Saving.{KeepsOrSaves};
 ghost use Rattle.cq_files.specs.Counted.{CountsFaults};
+ghost use Rattle.cq_files.specs.Looking.{Enters};
 
 use crate::files::{listed, write_file};
 use cq_config_text::{WantedConfig, write_config};
@@ -56,9 +57,7 @@ pub fn init<F: Folder>(
 fn check_new<F: Folder>(alloc: Global, folder: &mut F) -> Result<(), ToolFault>
     ensures new { OnOk result (IsNew (F.files folder.old)) }
     ensures fault { IfErr result (IsListingFault (F.files folder.old)) }
-    ensures kept { KeepsFiles (F.files folder.old) (F.files folder.new) }
-    ensures counted { CountsFaults (F.failed folder.old) (F.failed folder.new) result }
-    ensures inside { OnOk result (F.entered folder.new ≡ Some Access.Alone) }
+    ensures enters { Enters F.files F.failed F.entered Access.Alone folder.old folder.new result }
 {
     let files = listed(alloc, folder, Access::Alone)?;
     if has_name(files.as_slice(), CONFIG_FILE) {

@@ -6,12 +6,6 @@ use Rattle.cq_files.proofs.CauseLemmas.{of_any}
 use Rattle.cq_files.proofs.CountLemmas.{counts_scarce}
 use Rattle.cq_files.proofs.files.read_file.Goals as goal
 
-pub returns-in_ok-from_str-in-Err-TooLarge-clause-counted : goal.returns-in_ok-from_str-in-Err-TooLarge-clause-counted
-returns-in_ok-from_str-in-Err-TooLarge-clause-counted g c = record {
-  later = c.in-Err-TooLarge.ensures.counted.later;
-  device = λ is. absurd is;
-}
-
 pub returns-in_err-from_str-in-Err-Device-clause-fault : goal.returns-in_err-from_str-in-Err-Device-clause-fault
 returns-in_err-from_str-in-Err-Device-clause-fault g c = passed_on c.from_residual.result (IsFileFault c.args.name.now) OutOfMemory c.from_residual.ensures.1 tt
 
@@ -21,10 +15,6 @@ returns-in_err-from_str-in-Err-Device-clause-cause g c =
     passed_on c.from_residual.result (λ fault. IfSome before (λ files. HoldsConfig files → HasCause files fault)) OutOfMemory
     c.from_residual.ensures.1 (of_any before _ (λ files there. tt))
 
-pub returns-in_err-from_str-in-Err-Device-clause-counted : goal.returns-in_err-from_str-in-Err-Device-clause-counted
-returns-in_err-from_str-in-Err-Device-clause-counted g c =
-    counts_scarce _ _ c.from_residual.result c.in-Err-Device.ensures.counted.later c.from_residual.ensures.1
-
 pub returns-in_err-from_str-in-Err-TooLarge-clause-fault : goal.returns-in_err-from_str-in-Err-TooLarge-clause-fault
 returns-in_err-from_str-in-Err-TooLarge-clause-fault g c = passed_on c.from_residual-in_err-from_str-in-Err-TooLarge.result (IsFileFault c.args.name.now) OutOfMemory c.from_residual-in_err-from_str-in-Err-TooLarge.ensures.1 tt
 
@@ -33,7 +23,3 @@ returns-in_err-from_str-in-Err-TooLarge-clause-cause g c =
     let before = g.F.Folder.files c.args.folder.now in
     passed_on c.from_residual-in_err-from_str-in-Err-TooLarge.result (λ fault. IfSome before (λ files. HoldsConfig files → HasCause files fault))
     OutOfMemory c.from_residual-in_err-from_str-in-Err-TooLarge.ensures.1 (of_any before _ (λ files there. tt))
-
-pub returns-in_err-from_str-in-Err-TooLarge-clause-counted : goal.returns-in_err-from_str-in-Err-TooLarge-clause-counted
-returns-in_err-from_str-in-Err-TooLarge-clause-counted g c =
-    counts_scarce _ _ c.from_residual-in_err-from_str-in-Err-TooLarge.result c.in-Err-TooLarge.ensures.counted.later c.from_residual-in_err-from_str-in-Err-TooLarge.ensures.1

@@ -43,8 +43,8 @@ returns-in_err-bytes-clause-looks g c =
     let fault = c.in_err-bytes.field-0.0 in
     let told = c.in_err-bytes.ensures in
     let image = found g (goal.at.returns-in_err-bytes-clause-looks g c).After-read_file in
-    looks_passed c.from_residual-in_err-bytes.ensures.1 (keeps-trans _ _ _ opened.looks.kept told.kept)
-    (counts_from _ _ _ (Err fault) opened.looks.counted.later told.counted) (λ printed. subst (IsFileFault file) printed told.fault)
+    looks_passed c.from_residual-in_err-bytes.ensures.1 (keeps-trans _ _ _ opened.looks.kept told.stays.kept)
+    (counts_from _ _ _ (Err fault) opened.looks.counted.later told.stays.counted) (λ printed. subst (IsFileFault file) printed told.fault)
     (given_refused (IsUnreadFault file) _ file _ fault opened.opened image.listed image.named
     (unread_opened _ _ file fault opened.looks.kept opened.opened told.fault told.cause))
 
@@ -64,4 +64,4 @@ pub returns-clause-looks : goal.returns-clause-looks
 returns-clause-looks g c =
     let opened = c.in_ok-saved.ensures.looks in
     let held = c.in_ok-bytes.ensures in
-    looks_done (keeps-trans _ _ _ opened.kept held.kept) (omega (arith, opened.counted.later, held.counted.later))
+    looks_done (keeps-trans _ _ _ opened.kept held.stays.kept) (omega (arith, opened.counted.later, held.stays.counted.later))

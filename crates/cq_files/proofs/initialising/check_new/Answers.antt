@@ -13,6 +13,3 @@ pub returns-clause-new : goal.returns-clause-new
 returns-clause-new g c =
     file_unnamed (g.F.Folder.files c.args.folder.now) c.in_ok-files.files.items CONFIG_FILE.now c.in_ok-files.ensures.listed
     (ap (λ names. is_named names CONFIG_FILE.now) (sym c.as_slice.ensures.value) ∙ sym c.has_name.ensures ∙ c.if-has_name.false)
-
-pub returns-clause-inside : goal.returns-clause-inside
-returns-clause-inside g c = c.in_ok-files.ensures.inside

@@ -28,14 +28,14 @@ entered g c =
       lawful = told.lawful;
       low = told.low;
       config = of_before _ _ (λ files. IsSomeAnd (files CONFIG_FILE.now) (IsTextOf saved.config saved.positions.items saved.floor))
-          c.listed.ensures.kept told.config;
+          c.listed.ensures.enters.kept told.config;
       names = c.in_ok-names.ensures.listed;
     }
 
 pub returns-then-not-has_name-clause-looks : goal.returns-then-not-has_name-clause-looks
 returns-then-not-has_name-clause-looks g c = record {
-  kept = c.listed.ensures.kept;
-  counted = uncounted c.listed.ensures.counted.later (λ device. device);
+  kept = c.listed.ensures.enters.kept;
+  counted = uncounted c.listed.ensures.enters.counted.later (λ device. device);
   fault = unprinted NoQueueHere tt;
   cause = not_opened (IsOldOrUnread c.args.file.now) (g.F.Folder.files c.args.folder.now) c.args.file.now NoQueueHere tt
       (file_unnamed (g.F.Folder.files c.args.folder.now) c.in_ok-names.names.items CONFIG_FILE.now c.in_ok-names.ensures.listed
@@ -48,10 +48,10 @@ returns-in_err-saved-clause-looks g c =
     let before = g.F.Folder.files c.args.folder.now in
     let fault = c.in_err-saved.field-0.0 in
     let told = c.in_err-saved.ensures in
-    looks_passed c.from_residual-in_err-saved.ensures.1 (keeps-trans _ _ _ c.listed.ensures.kept told.kept)
-    (counts_from _ _ _ (Err fault) c.listed.ensures.counted.later told.counted) (unprinted fault told.first)
+    looks_passed c.from_residual-in_err-saved.ensures.1 (keeps-trans _ _ _ c.listed.ensures.enters.kept told.stays.kept)
+    (counts_from _ _ _ (Err fault) c.listed.ensures.enters.counted.later told.stays.counted) (unprinted fault told.first)
     (not_opened (IsOldOrUnread c.args.file.now) before c.args.file.now fault told.first
-    (cause_there before (g.F.Folder.files c.listed.new.folder) fault c.listed.ensures.kept
+    (cause_there before (g.F.Folder.files c.listed.new.folder) fault c.listed.ensures.enters.kept
     (file_named before c.in_ok-names.names.items CONFIG_FILE.now c.in_ok-names.ensures.listed
     (ap (λ (names : List (String Global)). is_named names CONFIG_FILE.now) (sym c.as_slice.ensures.value)
     ∙ (sym c.has_name.ensures ∙ c.if-not-has_name.false)))
@@ -64,8 +64,8 @@ returns-in_err-cycle-clause-looks g c =
     let saved = c.in_ok-saved.saved in
     let why = subst (λ (names : List (String Global)). IsUnplaced saved.config (texts names) file fault) c.as_slice-2.ensures.value c.in_err-cycle.ensures.fault in
     let other = not_placed_else _ _ file fault why in
-    looks_passed c.from_residual-in_err-cycle.ensures.1 (keeps-trans _ _ _ c.listed.ensures.kept c.read_saved.ensures.kept)
-    (uncounted {T = ℕ} (omega (arith, c.listed.ensures.counted.later, c.read_saved.ensures.counted.later)) other.1) other.0
+    looks_passed c.from_residual-in_err-cycle.ensures.1 (keeps-trans _ _ _ c.listed.ensures.enters.kept c.read_saved.ensures.stays.kept)
+    (uncounted {T = ℕ} (omega (arith, c.listed.ensures.enters.counted.later, c.read_saved.ensures.stays.counted.later)) other.1) other.0
     (not_placed _ file fault (entered g (goal.at.returns-in_err-cycle-clause-looks g c).After-placed) why)
 
 pub returns-in_err-bytes-clause-looks : goal.returns-in_err-bytes-clause-looks
@@ -74,10 +74,10 @@ returns-in_err-bytes-clause-looks g c =
     let fault = c.in_err-bytes.field-0.0 in
     let saved = c.in_ok-saved.saved in
     let told = c.in_err-bytes.ensures in
-    let kept = keeps-trans _ _ _ c.listed.ensures.kept c.read_saved.ensures.kept in
+    let kept = keeps-trans _ _ _ c.listed.ensures.enters.kept c.read_saved.ensures.stays.kept in
     let placed = subst (λ (names : List (String Global)). IsPlaced saved.config (texts names) file c.in_ok-cycle.cycle) c.as_slice-2.ensures.value c.in_ok-cycle.ensures.placed in
-    looks_passed c.from_residual-in_err-bytes.ensures.1 (keeps-trans _ _ _ kept told.kept)
-    (counts_from _ _ _ (Err fault) (omega (arith, c.listed.ensures.counted.later, c.read_saved.ensures.counted.later)) told.counted)
+    looks_passed c.from_residual-in_err-bytes.ensures.1 (keeps-trans _ _ _ kept told.stays.kept)
+    (counts_from _ _ _ (Err fault) (omega (arith, c.listed.ensures.enters.counted.later, c.read_saved.ensures.stays.counted.later)) told.stays.counted)
     (λ printed. subst (IsFileFault file) printed told.fault)
     (not_read _ _ file c.in_ok-cycle.cycle fault kept (entered g (goal.at.returns-in_err-bytes-clause-looks g c).After-placed) placed told.fault told.cause)
 
@@ -93,11 +93,11 @@ returns-clause-found g c =
       names = into.names;
       placed = subst (λ (names : List (String Global)). IsPlaced saved.config (texts names) c.args.file.now c.in_ok-cycle.cycle) c.as_slice-2.ensures.value c.in_ok-cycle.ensures.placed;
       held = of_before _ _ (λ files. files c.args.file.now ≡ Some c.in_ok-bytes.bytes.items)
-          (keeps-trans _ _ _ c.listed.ensures.kept c.read_saved.ensures.kept) c.in_ok-bytes.ensures.held;
+          (keeps-trans _ _ _ c.listed.ensures.enters.kept c.read_saved.ensures.stays.kept) c.in_ok-bytes.ensures.held;
       small = c.in_ok-bytes.ensures.small;
     }
 
 pub returns-clause-looks : goal.returns-clause-looks
 returns-clause-looks g c =
-    looks_done (keeps-trans _ _ _ c.listed.ensures.kept (keeps-trans _ _ _ c.read_saved.ensures.kept c.read_file.ensures.kept))
-    (omega (arith, c.listed.ensures.counted.later, c.read_saved.ensures.counted.later, c.read_file.ensures.counted.later))
+    looks_done (keeps-trans _ _ _ c.listed.ensures.enters.kept (keeps-trans _ _ _ c.read_saved.ensures.stays.kept c.read_file.ensures.stays.kept))
+    (omega (arith, c.listed.ensures.enters.counted.later, c.read_saved.ensures.stays.counted.later, c.read_file.ensures.stays.counted.later))
