@@ -10,7 +10,7 @@ use Rattle.clap.specs.declared.builder.ArgAction.TheVariants.{Append, Set, SetTr
 use Rattle.clap.specs.declared.builder.value_parser.ValueParser.TheVariants.{Unsigned}
 use Rattle.cq_command_line.specs.declared.arguments.Argument.{Argument}
 use Rattle.cq_command_line.specs.declared.commands.Description.{Description}
-use Rattle.cq_command_line.specs.declared.arguments.Argument.TheVariants.{Word, Number, Between, Words, Flag, Option, OptionBetween, FlagAgainst, OptionAgainst, CountAgainst, Maybe}
+use Rattle.cq_command_line.specs.declared.arguments.Argument.TheVariants.{Word, Number, Between, Words, Flag, Option, OptionBetween, FlagAgainst, OptionAgainst, Count, CountAgainst, Maybe}
 use Rattle.cq_orders.specs.declared.order.Order.{Order}
 use Rattle.cq_orders.specs.declared.order.Order.TheVariants.{Echo, Cycle, Init, Write, WriteBy, Log, Read, Follow, Take, TakeBy, Check, Stat, Dump, Salvage, Race, DropBefore, Trim, Migrate, Names, New, Repair, Explain}
 
@@ -67,6 +67,10 @@ option_rule name = record (new_rule name) { long = Some name; action = Some Set;
 abbrev pub option_between_rule : List ℕ → ℕ → ℕ → Rule
 option_between_rule name low high = record (option_rule name) { parser = Some (Unsigned low high) }
 
+-- an option with a number from 1 to 2^32 - 1
+abbrev pub count_rule : List ℕ → Rule
+count_rule name = option_between_rule name 1 (2 ^ 32 - 1)
+
 -- an argument that cannot be given with any of these others. Its rule does not say which they are, but that there are some
 abbrev pub against : {A : Type 0} → List A → Rule → Rule
 against others rule = record rule { is_free = rule.is_free && is_empty others }
@@ -90,7 +94,8 @@ rule_for (Option name value_name help) = option_rule name.now
 rule_for (OptionBetween name value_name low high help) = option_between_rule name.now low high
 rule_for (FlagAgainst name others help) = against others.now (flag_rule name.now)
 rule_for (OptionAgainst name value_name others help) = against others.now (option_rule name.now)
-rule_for (CountAgainst name value_name high others help) = against others.now (option_between_rule name.now 1 high)
+rule_for (Count name value_name help) = count_rule name.now
+rule_for (CountAgainst name value_name others help) = against others.now (count_rule name.now)
 rule_for (Maybe name help) = maybe_rule name.now
 
 -- the command with these arguments behind those that it has
@@ -154,16 +159,16 @@ write_command =
 -- the command `log`
 abbrev pub log_command : App
 log_command =
-    with_rule (with_rule (with_rule (with_rule (new_app (codes "log")) (word_rule (codes "DIR"))) (option_between_rule (codes "for") 1 (2 ^ 32 - 1)))
-    (option_between_rule (codes "syncs") 0 2)) (option_between_rule (codes "checkpoint") 1 (2 ^ 32 - 1))
+    with_rule (with_rule (with_rule (with_rule (new_app (codes "log")) (word_rule (codes "DIR"))) (count_rule (codes "for")))
+    (option_between_rule (codes "syncs") 0 2)) (count_rule (codes "checkpoint"))
 
 -- the rules of `read`: the folder, which messages are printed, and in which form
 abbrev pub read_rules : List Rule
 read_rules =
-    word_rule (codes "DIR") ∷ flag_rule (codes "back") ∷ option_rule (codes "from") ∷ option_between_rule (codes "limit") 1 (2 ^ 32 - 1)
-    ∷ bound (option_between_rule (codes "last") 1 (2 ^ 32 - 1)) ∷ bound (option_rule (codes "since")) ∷ option_rule (codes "until")
+    word_rule (codes "DIR") ∷ flag_rule (codes "back") ∷ option_rule (codes "from") ∷ count_rule (codes "limit")
+    ∷ bound (count_rule (codes "last")) ∷ bound (option_rule (codes "since")) ∷ option_rule (codes "until")
     ∷ bound (flag_rule (codes "text")) ∷ bound (flag_rule (codes "null")) ∷ bound (flag_rule (codes "hex")) ∷ flag_rule (codes "json")
-    ∷ bound (flag_rule (codes "follow")) ∷ option_between_rule (codes "for") 1 (2 ^ 32 - 1) ∷ []
+    ∷ bound (flag_rule (codes "follow")) ∷ count_rule (codes "for") ∷ []
 
 -- the command `read`
 abbrev pub read_command : App
@@ -173,7 +178,7 @@ read_command = fold with_rule (new_app (codes "read")) read_rules
 abbrev pub take_command : App
 take_command =
     with_rule (with_rule (with_rule (with_rule (with_rule (new_app (codes "take")) (word_rule (codes "DIR"))) (word_rule (codes "NAME")))
-    (option_between_rule (codes "limit") 1 (2 ^ 32 - 1))) (flag_rule (codes "peek"))) (option_between_rule (codes "wait") 1 (2 ^ 32 - 1))
+    (count_rule (codes "limit"))) (flag_rule (codes "peek"))) (count_rule (codes "wait"))
 
 -- the command `drop`
 abbrev pub drop_command : App
@@ -182,7 +187,7 @@ drop_command = with_rule (with_rule (new_app (codes "drop")) (word_rule (codes "
 -- the command `trim`
 abbrev pub trim_command : App
 trim_command =
-    with_rule (with_rule (with_rule (with_rule (with_rule (new_app (codes "trim")) (word_rule (codes "DIR"))) (option_between_rule (codes "keep") 1 (2 ^ 32 - 1)))
+    with_rule (with_rule (with_rule (with_rule (with_rule (new_app (codes "trim")) (word_rule (codes "DIR"))) (count_rule (codes "keep")))
     (option_rule (codes "before"))) (flag_rule (codes "force"))) (flag_rule (codes "dry-run"))
 
 -- the command `check`

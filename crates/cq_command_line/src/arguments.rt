@@ -2,7 +2,7 @@
 ghost use Rattle.std.specs.Prelude.{◌≡◌, [], false, IfOk};
 ghost use Rattle.clap.specs.Words.{rule_of};
 ghost use Rattle.cq_command_line.specs.CommandLine.{FollowAll, Follows, rule_for};
-ghost use Rattle.cq_command_line.specs.CommandLine.{against, between_rule, flag_rule, number_rule, option_between_rule, option_rule, word_rule, words_rule, maybe_rule};
+ghost use Rattle.cq_command_line.specs.CommandLine.{against, between_rule, count_rule, flag_rule, number_rule, option_between_rule, option_rule, word_rule, words_rule, maybe_rule};
 
 use clap::builder::ValueParser;
 use clap::{Arg, ArgAction, value_parser};
@@ -29,8 +29,10 @@ pub(crate) enum Argument {
     FlagAgainst(&'static str, &'static [&'static str], &'static str),
     /// An option with one word as its value, which cannot be given with any of these others.
     OptionAgainst(&'static str, &'static str, &'static [&'static str], &'static str),
-    /// An option with a number from 1 to a last one as its value, which cannot be given with any of these others.
-    CountAgainst(&'static str, &'static str, u64, &'static [&'static str], &'static str),
+    /// An option with a number from 1 to 2^32 - 1 as its value, which may be left out. Help calls the number by the second name.
+    Count(&'static str, &'static str, &'static str),
+    /// The same, which cannot be given with any of these others.
+    CountAgainst(&'static str, &'static str, &'static [&'static str], &'static str),
     /// A word that may be left out, after all others.
     Maybe(&'static str, &'static str),
 }
@@ -64,10 +66,10 @@ fn arg<'a>(alloc: Global, argument: Argument) -> Result<Arg<'a>, AllocError>
         Argument::OptionAgainst(name, value_name, others, help) => {
             against(option(alloc, name, value_name, help), others)
         }
-        Argument::CountAgainst(name, value_name, high, others, help) => against(
-            option_between(alloc, name, value_name, 1, high, help),
-            others,
-        ),
+        Argument::Count(name, value_name, help) => Ok(count(alloc, name, value_name, help)),
+        Argument::CountAgainst(name, value_name, others, help) => {
+            against(count(alloc, name, value_name, help), others)
+        }
         Argument::Maybe(name, help) => Ok(maybe(alloc, name, help)),
     }
 }
@@ -133,6 +135,13 @@ fn option_between<'a>(
     ensures { Follows result (option_between_rule name.entry.now low high) }
 {
     option(alloc, name, value_name, help).value_parser(ValueParser::unsigned(low, high))
+}
+
+/// Returns an option with a number from 1 to 2^32 - 1 as its value, which may be left out.
+fn count<'a>(alloc: Global, name: &'a str, value_name: &'a str, help: &'a str) -> Arg<'a>
+    ensures { Follows result (count_rule name.entry.now) }
+{
+    option_between(alloc, name, value_name, 1, u64::from(u32::MAX), help)
 }
 
 /// Returns an option with one word as its value, which may be left out.

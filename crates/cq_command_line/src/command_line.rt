@@ -179,11 +179,9 @@ static LOG: Description = Description {
      Example:\n  printf 'hello\\nworld\\n' | cq log journal",
     arguments: &[
         FOLDER,
-        Argument::OptionBetween(
+        Argument::Count(
             "for",
             "SECONDS",
-            1,
-            4_294_967_295,
             "Ends after this time too. A line that has not ended by then is not appended",
         ),
         Argument::OptionBetween(
@@ -195,11 +193,9 @@ static LOG: Description = Description {
              power. 1 survives one that leaves of each byte the old one or the new one. 0 survives the end of\n\
              the process alone",
         ),
-        Argument::OptionBetween(
+        Argument::Count(
             "checkpoint",
             "BYTES",
-            1,
-            4_294_967_295,
             "Saves the images each time that this many bytes of lines came: 4,194,304 by default",
         ),
     ],
@@ -221,17 +217,14 @@ static READ: Description = Description {
             "INDEX",
             "The index to begin at: 16 lower-case hexadecimal digits",
         ),
-        Argument::OptionBetween(
+        Argument::Count(
             "limit",
             "N",
-            1,
-            4_294_967_295,
             "Prints the first N of these messages, and no more",
         ),
         Argument::CountAgainst(
             "last",
             "N",
-            4_294_967_295,
             &["back", "from", "limit"],
             "Prints the last N messages, in order. Not with --back, --from and --limit",
         ),
@@ -267,13 +260,7 @@ static READ: Description = Description {
             &["back"],
             "Then waits, and prints the messages that come. Not with --back",
         ),
-        Argument::OptionBetween(
-            "for",
-            "SECONDS",
-            1,
-            4_294_967_295,
-            "With --follow: ends after this time",
-        ),
+        Argument::Count("for", "SECONDS", "With --follow: ends after this time"),
     ],
 };
 
@@ -289,22 +276,18 @@ static TAKE: Description = Description {
             "NAME",
             "The name of the tailer: one of the names of the queue, which 'name DIR list' prints",
         ),
-        Argument::OptionBetween(
+        Argument::Count(
             "limit",
             "N",
-            1,
-            4_294_967_295,
             "Takes the next N messages at once, or as many as have come",
         ),
         Argument::Flag(
             "peek",
             "Prints what it would take, and does not move the tailer",
         ),
-        Argument::OptionBetween(
+        Argument::Count(
             "wait",
             "SECONDS",
-            1,
-            4_294_967_295,
             "Waits up to this time where no message has come",
         ),
     ],
@@ -332,11 +315,9 @@ static TRIM: Description = Description {
      Example:\n  cq trim journal --keep 30",
     arguments: &[
         FOLDER,
-        Argument::OptionBetween(
+        Argument::Count(
             "keep",
             "N",
-            1,
-            4_294_967_295,
             "Drops all cycles but the last N that have begun",
         ),
         Argument::Option(

@@ -360,29 +360,26 @@ fn dump_order(alloc: Global, values: &ArgMatches<'_>) -> Result<Order, OrderFaul
     ensures named { IfOk result (λ order. word_of order ≡ codes "dump") }
     ensures values { IfOk result (λ order. TakesValues (rows_of (found_of values.now)) order) }
 {
-    Ok(Order::Dump {
-        folder: word(alloc, values, "DIR")?,
-        file: word(alloc, values, "FILE")?,
-    })
+    let (folder, file) = folder_and_file(alloc, values)?;
+    Ok(Order::Dump { folder, file })
 }
 
 fn salvage_order(alloc: Global, values: &ArgMatches<'_>) -> Result<Order, OrderFault>
     ensures named { IfOk result (λ order. word_of order ≡ codes "salvage") }
     ensures values { IfOk result (λ order. TakesValues (rows_of (found_of values.now)) order) }
 {
-    Ok(Order::Salvage {
-        folder: word(alloc, values, "DIR")?,
-        file: word(alloc, values, "FILE")?,
-    })
+    let (folder, file) = folder_and_file(alloc, values)?;
+    Ok(Order::Salvage { folder, file })
 }
 
 fn repair_order(alloc: Global, values: &ArgMatches<'_>) -> Result<Order, OrderFault>
     ensures named { IfOk result (λ order. word_of order ≡ codes "repair") }
     ensures values { IfOk result (λ order. TakesValues (rows_of (found_of values.now)) order) }
 {
+    let (folder, file) = folder_and_file(alloc, values)?;
     Ok(Order::Repair {
-        folder: word(alloc, values, "DIR")?,
-        file: word(alloc, values, "FILE")?,
+        folder,
+        file,
         dry_run: flag(values, "dry-run"),
     })
 }
@@ -425,31 +422,38 @@ fn names_order(alloc: Global, values: &ArgMatches<'_>) -> Result<Order, OrderFau
     })
 }
 
+/// The words that were given to `name` after its action.
+#[derive(Drop)]
+struct NameWords {
+    name: Option<String>,
+    at: Option<String>,
+    to: Option<String>,
+}
+
 /// Returns what is done with the names of a queue.
 fn name_change(alloc: Global, values: &ArgMatches<'_>) -> Result<NameChange, OrderFault>
     ensures { IfOk result (IsNameChange (rows_of (found_of values.now))) }
 {
     let action = word(alloc, values, "ACTION")?;
-    let name = option(alloc, values, "NAME")?;
-    let at = option(alloc, values, "at")?;
-    let to = option(alloc, values, "to")?;
+    let given = NameWords {
+        name: option(alloc, values, "NAME")?,
+        at: option(alloc, values, "at")?,
+        to: option(alloc, values, "to")?,
+    };
     match action.as_str() {
-        "list" => listing(name, at, to),
-        "add" => adding(name, at, to),
-        "remove" => removing(name, at, to),
-        "move" => moving(name, at, to),
+        "list" => listing(given),
+        "add" => adding(given),
+        "remove" => removing(given),
+        "move" => moving(given),
         _ => Err(OrderFault::NoAction),
     }
 }
 
 /// Returns the change that lists the names, if nothing else was given.
-fn listing(
-    name: Option<String>,
-    at: Option<String>,
-    to: Option<String>,
-) -> Result<NameChange, OrderFault>
-    ensures { IfOk result (λ change. (change ≡ NameChange.List) × (name ≡ None) × (at ≡ None) × (to ≡ None)) }
+fn listing(given: NameWords) -> Result<NameChange, OrderFault>
+    ensures { IfOk result (λ change. (change ≡ NameChange.List) × (given.name ≡ None) × (given.at ≡ None) × (given.to ≡ None)) }
 {
+    let NameWords { name, at, to } = given;
     match (name, at, to) {
         (None, None, None) => Ok(NameChange::List),
         _ => Err(OrderFault::NoAction),
@@ -457,13 +461,10 @@ fn listing(
 }
 
 /// Returns the change that adds a name, if one was given.
-fn adding(
-    name: Option<String>,
-    at: Option<String>,
-    to: Option<String>,
-) -> Result<NameChange, OrderFault>
-    ensures { IfOk result (λ change. IsSomeAnd name (λ given. change ≡ NameChange.Add given at) × (to ≡ None)) }
+fn adding(given: NameWords) -> Result<NameChange, OrderFault>
+    ensures { IfOk result (λ change. IsSomeAnd given.name (λ name. change ≡ NameChange.Add name given.at) × (given.to ≡ None)) }
 {
+    let NameWords { name, at, to } = given;
     match (name, to) {
         (Some(name), None) => Ok(NameChange::Add { name, at }),
         _ => Err(OrderFault::NoAction),
@@ -471,13 +472,10 @@ fn adding(
 }
 
 /// Returns the change that removes a name, if one was given.
-fn removing(
-    name: Option<String>,
-    at: Option<String>,
-    to: Option<String>,
-) -> Result<NameChange, OrderFault>
-    ensures { IfOk result (λ change. IsSomeAnd name (λ given. change ≡ NameChange.Remove given) × (at ≡ None) × (to ≡ None)) }
+fn removing(given: NameWords) -> Result<NameChange, OrderFault>
+    ensures { IfOk result (λ change. IsSomeAnd given.name (λ name. change ≡ NameChange.Remove name) × (given.at ≡ None) × (given.to ≡ None)) }
 {
+    let NameWords { name, at, to } = given;
     match (name, at, to) {
         (Some(name), None, None) => Ok(NameChange::Remove { name }),
         _ => Err(OrderFault::NoAction),
@@ -485,17 +483,24 @@ fn removing(
 }
 
 /// Returns the change that moves a name, if one was given with a position.
-fn moving(
-    name: Option<String>,
-    at: Option<String>,
-    to: Option<String>,
-) -> Result<NameChange, OrderFault>
-    ensures { IfOk result (λ change. IsSomeAnd name (λ given. IsSomeAnd to (λ word. change ≡ NameChange.Move given word)) × (at ≡ None)) }
+fn moving(given: NameWords) -> Result<NameChange, OrderFault>
+    ensures { IfOk result (λ change. IsSomeAnd given.name (λ name. IsSomeAnd given.to (λ word. change ≡ NameChange.Move name word)) × (given.at ≡ None)) }
 {
+    let NameWords { name, at, to } = given;
     match (name, at, to) {
         (Some(name), None, Some(to)) => Ok(NameChange::Move { name, to }),
         _ => Err(OrderFault::NoAction),
     }
+}
+
+/// Returns the words for the folder and for the file.
+fn folder_and_file(alloc: Global, values: &ArgMatches<'_>) -> Result<(String, String), OrderFault>
+    ensures { IfOk result (λ given. IsWord (rows_of (found_of values.now)) (codes "DIR") given.0
+        × IsWord (rows_of (found_of values.now)) (codes "FILE") given.1) }
+{
+    let folder = word(alloc, values, "DIR")?;
+    let file = word(alloc, values, "FILE")?;
+    Ok((folder, file))
 }
 
 /// Returns the word that was given under this name.

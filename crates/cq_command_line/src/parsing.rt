@@ -5,6 +5,7 @@ ghost use Rattle.clap.specs.Words.{subcommand_of};
 ghost use Rattle.cq_command_line.specs.CommandLine.{Makes, command_line, word_of};
 ghost use Rattle.cq_command_line.specs.Faults.{HasOwnKind};
 ghost use Rattle.cq_command_line.specs.OrderValues.{TakesValues};
+ghost use Rattle.cq_command_line.specs.Parsed.{ParsesTo};
 
 use crate::command_line::command_line;
 use crate::orders::{OrderFault, order_met};
@@ -88,13 +89,7 @@ fn order_in<'a>(
     words: &'a [String],
 ) -> Result<Order, ParseFault>
     requires { Makes command.now command_line }
-    ensures named { IfOk result (λ order.
-        option_map (λ met. met.0) (subcommand_of command_line (map string_bytes words.now)) ≡ Some (word_of order)) }
-    ensures values { IfOk result (λ order.
-        IfSome (subcommand_of command_line (map string_bytes words.now)) (λ met. TakesValues met.1 order)) }
-    ensures kind { IfErr result HasOwnKind }
-    ensures echo { (program : List ℕ) → map string_bytes words.now ≡ program ∷ codes "echo" ∷ []
-        → MatchResult result (λ order. order ≡ Order.Echo) (λ fault. fault ≡ ParseFault.OutOfMemory) }
+    ensures { ParsesTo (map string_bytes words.now) result }
 {
     let matches = command.try_get_matches_from_mut(words)?;
     match order_met(alloc, &matches) {

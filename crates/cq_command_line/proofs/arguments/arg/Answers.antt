@@ -24,6 +24,9 @@ returns-in-Option c = rw c.in-Option.is c.option.ensures
 pub returns-in-OptionBetween : goal.returns-in-OptionBetween
 returns-in-OptionBetween c = rw c.in-OptionBetween.is c.option_between.ensures
 
+pub returns-in-Count : goal.returns-in-Count
+returns-in-Count c = rw c.in-Count.is c.count.ensures
+
 pub returns-in-Maybe : goal.returns-in-Maybe
 returns-in-Maybe c = rw c.in-Maybe.is c.maybe.ensures
 
@@ -44,9 +47,9 @@ returns-in-OptionAgainst c =
     c.option-in-OptionAgainst.ensures.is c.against-in-OptionAgainst.ensures)
 
 pub against-requires-in-CountAgainst : goal.against-requires-in-CountAgainst
-against-requires-in-CountAgainst c = without_conflicts _ _ refl c.option_between-in-CountAgainst.ensures
+against-requires-in-CountAgainst c = without_conflicts _ _ refl c.count-in-CountAgainst.ensures
 
 pub returns-in-CountAgainst : goal.returns-in-CountAgainst
 returns-in-CountAgainst c =
     rw c.in-CountAgainst.is (subst (λ rule. IfOk c.against-in-CountAgainst.result (λ made. Follows made (against c.in-CountAgainst.others.now rule)))
-    c.option_between-in-CountAgainst.ensures.is c.against-in-CountAgainst.ensures)
+    c.count-in-CountAgainst.ensures.is c.against-in-CountAgainst.ensures)

@@ -1,4 +1,4 @@
-use Rattle.std.proofs.Common.{◌≡◌, List, [], ◌∷◌, option_map, codes, true, Option, Some, Result, Ok, Err, IfErr, IfSome, IsErrAnd, MatchResult, refl, sym, ap, ap₂, subst, ◌∙◌}
+use Rattle.std.proofs.Common.{◌≡◌, List, [], ◌∷◌, option_map, codes, true, Option, Some, Result, Ok, Err, IfErr, IfSome, IsErrAnd, MatchResult, refl, rules, sym, ap, ap₂, subst, ◌∙◌}
 use Rattle.clap.specs.Words.{App, HasMatchesOf, Row, Text, is_simple, kind_of, subcommand_of, subcommand_rows_of, takes}
 use Rattle.clap.specs.declared.error.Error.{Error}
 use Rattle.clap.specs.declared.error.kind.ErrorKind.TheVariants as kind
@@ -59,30 +59,34 @@ same_order r x y a b = cc
 not_both : {A E : Type 0} (r : Result A E) (x : A) (e : E) → r ≡ Ok x → r ≡ Err e → ⊥
 not_both r x e a b = cc
 
-pub returns-in-Ok-clause-named : goal.returns-in-Ok-clause-named
-returns-in-Ok-clause-named c =
+pub returns-in-Ok : goal.returns-in-Ok
+returns-in-Ok c =
     let met = meets _ _ c.in_ok-matches.matches c.requires.is c.in_ok-matches.ensures.ok.2 in
-    ap (option_map (λ met. met.0)) (sym met) ∙ c.in-Ok.ensures.named
+    record {
+      named = ap (option_map (λ met. met.0)) (sym met) ∙ c.in-Ok.ensures.named;
+      values = values_given _ _ c.in-Ok.order met c.in-Ok.ensures.values;
+      kind = tt;
+      echo = λ program words.
+          same_order c.order_met.result _ c.in-Ok.order (c.order_met.ensures.echo (meets_echo _ program _ met words)) c.in-Ok.is;
+    }
 
-pub returns-in-Ok-clause-values : goal.returns-in-Ok-clause-values
-returns-in-Ok-clause-values c =
+pub returns-in_err-matches : goal.returns-in_err-matches
+returns-in_err-matches c = record {
+  named = search rules;
+  values = search rules;
+  kind = own_kinds c.from_residual.result _ c.from_residual.ensures.1;
+  echo = λ program words.
+      let memory = c.in_err-matches.ensures.passes (ap₂ takes c.requires.is words ∙ is_taken program) in
+      only_memory c.from_residual.result _ _ memory c.from_residual.ensures.1;
+}
+
+pub returns : goal.returns
+returns c =
     let met = meets _ _ c.in_ok-matches.matches c.requires.is c.in_ok-matches.ensures.ok.2 in
-    values_given _ _ c.in-Ok.order met c.in-Ok.ensures.values
-
-pub returns-in_err-matches-clause-kind : goal.returns-in_err-matches-clause-kind
-returns-in_err-matches-clause-kind c = own_kinds c.from_residual.result _ c.from_residual.ensures.1
-
-pub returns-in_err-matches-clause-echo : goal.returns-in_err-matches-clause-echo
-returns-in_err-matches-clause-echo c program words =
-    let memory = c.in_err-matches.ensures.passes (ap₂ takes c.requires.is words ∙ is_taken program) in
-    only_memory c.from_residual.result _ _ memory c.from_residual.ensures.1
-
-pub returns-in-Ok-clause-echo : goal.returns-in-Ok-clause-echo
-returns-in-Ok-clause-echo c program words =
-    let met = meets _ _ c.in_ok-matches.matches c.requires.is c.in_ok-matches.ensures.ok.2 in
-    same_order c.order_met.result _ c.in-Ok.order (c.order_met.ensures.echo (meets_echo _ program _ met words)) c.in-Ok.is
-
-pub returns-clause-echo : goal.returns-clause-echo
-returns-clause-echo c program words =
-    let met = meets _ _ c.in_ok-matches.matches c.requires.is c.in_ok-matches.ensures.ok.2 in
-    absurd (not_both c.order_met.result _ c.in-Err.fault (c.order_met.ensures.echo (meets_echo _ program _ met words)) c.in-Err.is)
+    record {
+      named = tt;
+      values = tt;
+      kind = c.said.ensures;
+      echo = λ program words.
+          absurd (not_both c.order_met.result _ c.in-Err.fault (c.order_met.ensures.echo (meets_echo _ program _ met words)) c.in-Err.is);
+    }
