@@ -3,7 +3,6 @@ use Rattle.cq_text.specs.declared.fault.ToolFault.TheVariants.{OutOfMemory}
 use Rattle.cq_files.specs.FolderFaults.{HasCause, HoldsConfig, IsFileFault}
 use Rattle.cq_text.proofs.FaultLemmas.{passed_on}
 use Rattle.cq_files.proofs.CauseLemmas.{of_any}
-use Rattle.cq_files.proofs.CountLemmas.{counts_scarce}
 use Rattle.cq_files.proofs.files.read_file.Goals as goal
 
 pub returns-in_err-from_str-in-Err-Device-clause-fault : goal.returns-in_err-from_str-in-Err-Device-clause-fault
