@@ -1,4 +1,4 @@
-ghost use Rattle.std.specs.Prelude.{◌≡◌, ℕ, List, IfErr, IfOk, IfSome, OnOk, Some};
+ghost use Rattle.std.specs.Prelude.{◌≡◌, ℕ, List, IfErr, IfOk, IfSome, OnOk};
 ghost use Rattle.cq_model.specs.Settings.{IsLawfulSettings};
 ghost use Rattle.cq_folder.specs.Folder.{KeepsFiles, WritesFile};
 ghost use Rattle.cq_files.specs.FolderFaults.{HoldsConfig, IsLimitFault};

@@ -1,5 +1,5 @@
 -- Why names are refused.
-use Rattle.std.proofs.Common.{◌≡◌, ◌∙◌, ◌<◌, All, Global, List, String, get_or, inl, inr, length, subst, sym, ℕ}
+use Rattle.std.proofs.Common.{◌≡◌, ◌<◌, All, Global, List, String, get_or, inl, inr, length, subst, sym, ℕ}
 use Rattle.std.proofs.lemmas.List.Elements.{All-get_or}
 use Rattle.std.specs.declared.io.Error.{Error}
 use Rattle.cq_folder.specs.declared.storage.NewFile.{NewFile}

@@ -1,4 +1,4 @@
-ghost use Rattle.std.specs.Prelude.{◌≡◌, ◌≢◌, ◌↔◌, ◌≤◌, ◌+◌, ◌++◌, Err, IfErr, IfOk, IsErrAnd, None, Ok, codes, option_map, string_bytes};
+ghost use Rattle.std.specs.Prelude.{◌≡◌, ◌≢◌, ◌↔◌, ◌≤◌, ◌+◌, ◌++◌, Err, IfErr, IfOk, None, Ok, codes, option_map, string_bytes};
 ghost use Rattle.std.specs.IoError.{error_kind};
 ghost use Rattle.cq_folder.specs.Folder.{IsCounted};
 ghost use Rattle.cq_real_folder.specs.Record.{part_name};

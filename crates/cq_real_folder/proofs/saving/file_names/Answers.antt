@@ -1,6 +1,5 @@
 use Rattle.std.proofs.Common.{◌≡◌, ◌∙◌, ◌+◌, ◌++◌, ◌∷◌, ◌<◌, ◌≤◌, [], Global, List, String, ap, get_or, length, map, rules, string_bytes, sym, take, ℕ}
 use Rattle.std.proofs.lemmas.List.{map_push, take_all, take_more}
-use Rattle.std.specs.IoError.{error_kind}
 use Rattle.cq_real_folder.specs.Record.{AreFileNames, IsNamingError}
 use Rattle.cq_real_folder.proofs.NamingLemmas.{one_refused}
 use Rattle.cq_real_folder.proofs.saving.file_names.Goals as goal
