@@ -2,6 +2,7 @@
 
 ghost use Rattle.std.specs.Prelude.{◌≡◌, ◌≢◌, ◌≤◌, ◌<◌, ◌+◌, IfErr, IfOk, IfSome, None, OnErr, OnOk, Some, false, length, option_map, vec_len};
 ghost use Rattle.std.specs.IoError.{error_kind};
+ghost use Rattle.cq_real_folder.specs.Place.{IsSamePlace};
 ghost use Rattle.cq_real_folder.specs.Record.{AreFileNames, IsReadingError, record_text};
 
 use super::locking::Lock;
@@ -20,8 +21,7 @@ impl<'a, R: Files<File = File> + AllocGlobal + Clone + Drop> RealFolder<'a, R> {
     /// Waits for the lock, and looks for a save that was cut short.
     pub(super) fn enter(&mut self, alloc: Global, access: Access) -> io::Result<()>
         ensures failures { self.new.failures ≡ self.old.failures }
-        ensures path { self.new.files.path ≡ self.old.files.path }
-        ensures process { self.new.files.process ≡ self.old.files.process }
+        ensures place { IsSamePlace self.old.files self.new.files }
         ensures done { access ≡ Access.Alone → OnOk result (self.new.files.record ≡ None) }
         ensures inside { OnOk result (option_map (λ lock. lock.access) self.new.lock ≡ Some access) }
     {
@@ -37,8 +37,7 @@ impl<'a, R: Files<File = File> + AllocGlobal + Clone + Drop> RealFolder<'a, R> {
         ensures failures { self.new.failures ≡ self.old.failures }
         ensures outside { self.new.lock ≡ None }
         ensures record { self.new.files.record ≡ None }
-        ensures path { self.new.files.path ≡ self.old.files.path }
-        ensures process { self.new.files.process ≡ self.old.files.process }
+        ensures place { IsSamePlace self.old.files self.new.files }
         ensures again { self.new.files.may_come_back ≡ self.old.files.may_come_back }
     {
         self.lock = None;
@@ -62,8 +61,7 @@ impl<'a, R: Files<File = File> + AllocGlobal + Clone + Drop> Directory<'a, R> {
     /// if the lock is held: without locks, a part may be that of a process that is running.
     fn resume(&mut self, alloc: Global, access: Access, is_held: bool) -> io::Result<()>
         ensures done { access ≡ Access.Alone → OnOk result (self.new.record ≡ None) }
-        ensures path { self.new.path ≡ self.old.path }
-        ensures process { self.new.process ≡ self.old.process }
+        ensures place { IsSamePlace self.old self.new }
     {
         self.record = self.record_there(alloc)?;
         if access == Access::Alone {
@@ -96,8 +94,7 @@ impl<'a, R: Files<File = File> + AllocGlobal + Clone + Drop> Directory<'a, R> {
     pub(super) fn finish_earlier(&mut self) -> io::Result<()>
         ensures done { OnOk result (self.new.record ≡ None) }
         ensures synced { OnOk result (self.new.may_come_back ≡ false) }
-        ensures path { self.new.path ≡ self.old.path }
-        ensures process { self.new.process ≡ self.old.process }
+        ensures place { IsSamePlace self.old self.new }
     {
         if self.record.is_some() {
             self.confirm()?;
@@ -110,8 +107,7 @@ impl<'a, R: Files<File = File> + AllocGlobal + Clone + Drop> Directory<'a, R> {
     pub(super) fn settle(&mut self) -> io::Result<()>
         ensures done { OnOk result (self.new.record ≡ None) }
         ensures left { OnErr result (self.new.record ≡ self.old.record) }
-        ensures path { self.new.path ≡ self.old.path }
-        ensures process { self.new.process ≡ self.old.process }
+        ensures place { IsSamePlace self.old self.new }
     {
         if let Some(record) = &self.record {
             self.finish(record)?;

@@ -3,6 +3,7 @@
 ghost use Rattle.std.specs.Prelude.{◌≡◌, ◌≢◌, [], Err, IfErr, IfOk, IsErrAnd, IsOk, IsOkAnd, IsSomeAnd, None, Ok, OnErr, OnOk, false, true};
 ghost use Rattle.std.specs.Fs.{IsFile, file_type, metadata_mode, permissions_mode};
 ghost use Rattle.std.specs.IoError.{error_kind};
+ghost use Rattle.cq_real_folder.specs.Place.{IsSamePlace};
 
 use super::entering::MOST_RECORD_BYTES;
 use super::{Directory, unless_missing};
@@ -18,8 +19,7 @@ impl<'a, R: Files<File = File> + AllocGlobal + Clone + Drop> Directory<'a, R> {
     /// nothing of that.
     pub(super) fn replace(&mut self, name: &str, bytes: &[u8]) -> io::Result<()>
         ensures done { OnOk result (self.new.record ≡ None) }
-        ensures path { self.new.path ≡ self.old.path }
-        ensures process { self.new.process ≡ self.old.process }
+        ensures place { IsSamePlace self.old self.new }
     {
         self.finish_earlier()?;
         let placed = match self.prepare(name, bytes) {
@@ -42,8 +42,7 @@ impl<'a, R: Files<File = File> + AllocGlobal + Clone + Drop> Directory<'a, R> {
     ) -> io::Result<()>
         ensures nothing { changes.now ≡ [] → removed.now ≡ [] → result ≡ Ok tt }
         ensures unchanged { changes.now ≡ [] → removed.now ≡ [] → self.new ≡ self.old }
-        ensures path { self.new.path ≡ self.old.path }
-        ensures process { self.new.process ≡ self.old.process }
+        ensures place { IsSamePlace self.old self.new }
     {
         match (changes, removed) {
             ([], []) => Ok(()),
@@ -56,8 +55,7 @@ impl<'a, R: Files<File = File> + AllocGlobal + Clone + Drop> Directory<'a, R> {
     /// record is on the device the files are saved. An error after that is not returned while the record is there: the next
     /// save, or the next command that is alone, does what is left.
     fn replace_all(&mut self, changes: &[NewFile], removed: &[String]) -> io::Result<()>
-        ensures path { self.new.path ≡ self.old.path }
-        ensures process { self.new.process ≡ self.old.process }
+        ensures place { IsSamePlace self.old self.new }
     {
         self.finish_earlier()?;
         let record = record_of(self.rt.alloc(), self.process, changes, removed)?;
@@ -96,8 +94,7 @@ impl<'a, R: Files<File = File> + AllocGlobal + Clone + Drop> Directory<'a, R> {
     /// the record is removed first. If it cannot be, or may come back after a crash, the parts stay.
     fn give_up(&mut self, changes: &[NewFile])
         ensures record { self.new.record ≡ self.old.record }
-        ensures path { self.new.path ≡ self.old.path }
-        ensures process { self.new.process ≡ self.old.process }
+        ensures place { IsSamePlace self.old self.new }
     {
         if self.remove_record().is_err() || self.confirm_removal().is_err() {
             return;
@@ -113,8 +110,7 @@ impl<'a, R: Files<File = File> + AllocGlobal + Clone + Drop> Directory<'a, R> {
         ensures missing { IfErr result (λ error. error_kind error ≢ ErrorKind.NotFound) }
         ensures later { self.old.may_come_back ≡ true → self.new.may_come_back ≡ true }
         ensures record { self.new.record ≡ self.old.record }
-        ensures path { self.new.path ≡ self.old.path }
-        ensures process { self.new.process ≡ self.old.process }
+        ensures place { IsSamePlace self.old self.new }
     {
         match fs::remove_file(self.rt, self.path_of(RECORD_FILE)?.as_str()) {
             Err(error) if error.kind() == ErrorKind::NotFound => Ok(()),
@@ -180,8 +176,7 @@ impl<'a, R: Files<File = File> + AllocGlobal + Clone + Drop> Directory<'a, R> {
         ensures again { OnErr result (self.new.may_come_back ≡ self.old.may_come_back) }
         ensures memory { IfErr result (λ error. error_kind error ≢ ErrorKind.OutOfMemory) }
         ensures record { self.new.record ≡ self.old.record }
-        ensures path { self.new.path ≡ self.old.path }
-        ensures process { self.new.process ≡ self.old.process }
+        ensures place { IsSamePlace self.old self.new }
     {
         if self.may_come_back {
             self.confirm()?;
