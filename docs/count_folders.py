@@ -6,7 +6,7 @@ images as docs/FORMATS.md has them. What is counted here is counted from the byt
 how many cells a file has. Both the lines and the object of `cq stat` have to say it. One folder in ten has a log: a
 `cq log` appends lines, and `cq stat` is asked while it is live, after it was killed, and once the log was saved.
 
-CQ names the program; if it is not set, it is crates/cq/out/cq, which the launcher ./cq builds. The status is 0 if all
+CQ names the program; if it is not set, it is crates/cq/out/cq, which `./cq race 1` builds. The status is 0 if all
 agree.
 """
 import json

@@ -9,8 +9,8 @@
 - With `--limit` it ends after that many lines, with `--last` it begins with the last ones.
 - `take --wait` prints a line that comes while it waits, and ends with status 4 if none comes in time.
 
-The folders are in DIR, or where temporary files are. CQ names the program; if it is not set, it is crates/cq/out/cq, which the launcher
-./cq builds. The last line is `N wrong`, and the status is 0 if that is none, else 1.
+The folders are in DIR, or where temporary files are. CQ names the program; if it is not set, it is crates/cq/out/cq, which
+`./cq race 1` builds. The last line is `N wrong`, and the status is 0 if that is none, else 1.
 """
 import argparse
 import os
@@ -223,7 +223,7 @@ def main():
     words = parser.parse_args()
     program = os.environ.get("CQ") or str(pathlib.Path(__file__).resolve().parent.parent / "crates" / "cq" / "out" / "cq")
     if not os.access(program, os.X_OK):
-        parser.error(f"there is no program {program}: run ./cq, or set CQ")
+        parser.error(f"there is no program {program}: run ./cq race 1, or set CQ")
     with tempfile.TemporaryDirectory(prefix="follow", dir=words.room) as room:
         tried = Tried(program, room, random.Random(words.seed))
         try_commands(tried, words.seconds)

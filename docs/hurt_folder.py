@@ -30,7 +30,7 @@ The queue below is written after docs/FORMATS.md and shares nothing with the pro
 with what was done.
 
 The folders are in DIR, or where temporary files are; a real disk is a better test there than memory. CQ names the
-program; if it is not set, it is crates/cq/out/cq, which the launcher ./cq builds. The status is 0 if all is as said, 1 if
+program; if it is not set, it is crates/cq/out/cq, which `./cq race 1` builds. The status is 0 if all is as said, 1 if
 something was wrong, and 2 if a mode could not be tried.
 """
 import argparse

@@ -35,8 +35,8 @@ byte, and `read` and `check` have to print the same. While the queue is live `wr
 to have acknowledged each line. A fault has to be named with status 1, unless nothing depended on the call, and the next
 command has to work.
 
-The folders are in DIR, or where temporary files are. CQ names the program; if it is not set, it is crates/cq/out/cq, which the
-launcher ./cq builds. The status is 0 if all is as said, 1 if something was wrong, and 2 if a mode could not be tried.
+The folders are in DIR, or where temporary files are. CQ names the program; if it is not set, it is crates/cq/out/cq, which
+`./cq race 1` builds. The status is 0 if all is as said, 1 if something was wrong, and 2 if a mode could not be tried.
 """
 import argparse
 import os
@@ -77,7 +77,7 @@ def main():
         parser.error(f"no mode {unknown[0]}: one of {', '.join(MODES)}")
     program = os.environ.get("CQ") or str(pathlib.Path(__file__).resolve().parent.parent / "crates" / "cq" / "out" / "cq")
     if not os.access(program, os.X_OK):
-        parser.error(f"there is no program {program}: run ./cq, or set CQ")
+        parser.error(f"there is no program {program}: run ./cq race 1, or set CQ")
     seed = random.randrange(10**6) if words.seed is None else words.seed
     with tempfile.TemporaryDirectory(dir=words.room, prefix="cq-log-") as room:
         tried = Tried(os.path.abspath(program), room, random.Random(seed))

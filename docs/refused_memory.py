@@ -27,7 +27,7 @@ With the word cycles, commands run in little memory. `read`, `take` and `drop` d
 1,048,576 cells, of which the slot of one would take 8 MiB.
 
 A library in front of the C library's malloc, calloc, realloc and aligned_alloc refuses; it is compiled by cc. CQ names
-the program; if it is not set, it is crates/cq/out/cq, which the launcher ./cq builds. The status is 0 if all is as said.
+the program; if it is not set, it is crates/cq/out/cq, which `./cq race 1` builds. The status is 0 if all is as said.
 """
 import collections
 import itertools

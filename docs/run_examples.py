@@ -1,7 +1,7 @@
 #!/usr/bin/env python3
 """Runs the examples of the documents: docs/run_examples.py [PROGRAM].
 
-PROGRAM is the program cq: crates/cq/out/cq, which the launcher ./cq builds, if none is given. The documents are
+PROGRAM is the program cq: crates/cq/out/cq, which `./cq race 1` builds, if none is given. The documents are
 README.md, docs/CLI.md, docs/GUIDE.md, docs/CALLING.md and docs/C.md. The word at the start of a fenced block says what is done
 with it:
 
@@ -100,7 +100,7 @@ def main():
     words.add_argument("program", nargs="?", default=TOP / "crates/cq/out/cq", metavar="PROGRAM")
     program = pathlib.Path(words.parse_args().program).resolve()
     if not program.is_file():
-        words.error(f"{program} is not there: ./cq builds the program")
+        words.error(f"{program} is not there: ./cq race 1 builds it")
     total = []
     for name in DOCUMENTS:
         count, wrong = try_document(name, program)

@@ -5,8 +5,8 @@
 - A command that waits for another one in the folder says so once a second, and erases the line before it prints anything else.
 - None of this is printed where standard error is no terminal.
 
-The folders are in DIR, or where temporary files are. CQ names the program; if it is not set, it is crates/cq/out/cq, which the launcher
-./cq builds. The last line is `N wrong`, and the status is 0 if that is none, else 1.
+The folders are in DIR, or where temporary files are. CQ names the program; if it is not set, it is crates/cq/out/cq, which
+`./cq race 1` builds. The last line is `N wrong`, and the status is 0 if that is none, else 1.
 """
 import argparse
 import fcntl
@@ -58,7 +58,7 @@ def main():
     words = parser.parse_args()
     program = os.environ.get("CQ") or str(pathlib.Path(__file__).resolve().parent.parent / "crates" / "cq" / "out" / "cq")
     if not os.access(program, os.X_OK):
-        parser.error(f"there is no program {program}: run ./cq, or set CQ")
+        parser.error(f"there is no program {program}: run ./cq race 1, or set CQ")
     wrong = []
 
     def expect(what, got, wanted):

@@ -4,25 +4,9 @@
 //! standard error.
 #![tactic(auto)]
 
-use cq_tools::{Start, Terminals, status};
-use std::io::IsTerminal;
+use cq_tools::{start_of, status};
 use std::process::ExitCode;
-use std::rt::Env;
-use std::{env, io, process};
 
 fn main(rt: HostRuntime) -> ExitCode {
-    let start = Start {
-        words: words(&rt),
-        process: process::id(rt.process()),
-        terminals: Terminals {
-            input: rt.stdin().is_terminal(),
-            errors: rt.stderr().is_terminal(),
-        },
-    };
-    ExitCode::from(status(&rt, &rt, start))
-}
-
-/// Returns the words of the command line. The first is the program's name.
-fn words<R: AllocGlobal + Env>(rt: &R) -> io::Result<Vec<String>> {
-    Ok(env::args(rt)?.collect(rt.alloc())?)
+    ExitCode::from(status(&rt, &rt, start_of(&rt)))
 }

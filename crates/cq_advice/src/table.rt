@@ -96,6 +96,9 @@ there already: ..\n\
 no fault has these words:\n\
 no fault has these words: ..\n\
 \t  explain: no text of a fault has WORDS in it.\t  What to do: Give fewer words, or none to see them all.\n\
+this program has no 'log'\n\
+this program has no 'log' ..\n\
+\t  log, race: they are not in the program that the launcher ./cq builds first.\t  What to do: Run them by ./cq log and ./cq race, which build the whole program, or install\t  that with ./install.\n\
 read fault\n\
 read fault\n\
 \t  Standard input is closed, a folder, or fails; or 16,777,216 reads found no end. log --for:\t  the clock could not be read, or no thread started to read the input.\t  What to do: Give a file, or a pipe that ends.\n\

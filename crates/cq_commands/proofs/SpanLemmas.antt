@@ -10,7 +10,7 @@ use Rattle.cq_model.specs.Finds.{Placed}
 use Rattle.cq_model.specs.States.{Rises}
 use Rattle.cq_model.specs.declared.contents.Contents.{Contents}
 use Rattle.cq_contents.proofs.FewLemmas.{AreFew}
-use Rattle.cq_journal.specs.Journals.{ReaderFacts, cursor_behind, next_in}
+use Rattle.cq_model.specs.Journals.{ReaderFacts, cursor_behind, next_in}
 use Rattle.cq_commands.specs.Messages.{asked, between, chosen, last_messages, limited, readable, way_of}
 use Rattle.cq_commands.specs.Spans.{is_within, read_span, span_messages, spanned}
 use Rattle.cq_commands.specs.declared.printing.Span.{Span}

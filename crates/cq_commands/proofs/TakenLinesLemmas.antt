@@ -8,7 +8,7 @@ use Rattle.cq_config_text.specs.ConfigText.{IsTextOf}
 use Rattle.cq_cycle.specs.Index.{index_text}
 use Rattle.cq_folder.specs.Folder.{Files, KeepsFiles, KeepsOrWrites, WritesFile}
 use Rattle.cq_folder.specs.declared.names.TheConstants.{CONFIG_FILE}
-use Rattle.cq_journal.specs.Journals.{JournalFacts, ReaderFacts}
+use Rattle.cq_model.specs.Journals.{JournalFacts, ReaderFacts}
 use Rattle.cq_model.specs.Finds.{Placed}
 use Rattle.cq_model.specs.Settings.{Declares, Settings}
 use Rattle.cq_model.specs.declared.contents.Contents.{Contents}
@@ -25,16 +25,16 @@ use Rattle.cq_files.proofs.WritingLemmas.{kept_then_wrote}
 use Rattle.cq_commands.specs.Messages.{message_line}
 use Rattle.cq_commands.specs.Opened.{HoldsContents, IsOpenedFrom, journal_with}
 use Rattle.cq_commands.specs.QueueFaults.{IsNameFault, IsTakeFault}
-use Rattle.cq_writing.specs.Saving.{SavesAndPrints, TellsConfig}
+use Rattle.cq_files.specs.Printing.{SavesAndPrints, TellsConfig}
 use Rattle.cq_commands.specs.TakenBy.{HasTakenAll, AreTakenLines, IsTakeByFault, IsTakenBy, MovesName, TakesAll, TakesVersionBy, TellsTook, next_messages, position_after, took_of}
 use Rattle.cq_commands.specs.declared.opened.OpenedQueue.{OpenedQueue}
 use Rattle.cq_commands.specs.declared.taking_by.TakenLines.{TakenLines}
 use Rattle.cq_commands.specs.declared.taking_by.Took.{Took}
 use Rattle.cq_commands.specs.declared.taking_by.Took.TheVariants.{Messages}
 use Rattle.cq_commands.proofs.OpeningLemmas.{opened_of}
-use Rattle.cq_writing.proofs.SaverLemmas.{EndsSaving, no_value}
+use Rattle.cq_files.proofs.SaverLemmas.{EndsSaving, no_value}
 use Rattle.cq_commands.proofs.TakingByLemmas.{position_of}
-use Rattle.cq_writing.proofs.SavingLemmas.{nothing_saved, saved_then_printed}
+use Rattle.cq_files.proofs.PrintingLemmas.{nothing_saved, saved_then_printed}
 
 no_empty_line : (xs ys : List ℕ) (n : ℕ) → 0 < length (xs ++ n ∷ ys)
 no_empty_line [] ys n = omega arith

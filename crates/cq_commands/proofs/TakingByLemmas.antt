@@ -2,14 +2,14 @@
 use Rattle.std.proofs.Common.{◌≡◌, ◌≢◌, false, ℕ, zero, suc, ◌+◌, ◌-◌, ◌++◌, List, [], ◌∷◌, Option, None, Some, AllPairs, length, ap, refl, sym, subst, arith, ◌∙◌, inl, inr, slice_get, slice_set}
 use Rattle.std.proofs.lemmas.Option.{get_or_from_slice_get, slice_get-get_or, slice_get_within}
 use Rattle.std.specs.List.{flat_map}
-use Rattle.cq_journal.specs.Journals.{HasTaken, JournalFacts, ReaderFacts, cursor_behind, next_in, with_taken}
+use Rattle.cq_model.specs.Journals.{HasTaken, JournalFacts, ReaderFacts, cursor_behind, next_in, with_taken}
 use Rattle.cq_model.proofs.TakeLemmas.{slice_get-set_same}
 use Rattle.cq_model.proofs.TestLemmas.{Compared, three_ways}
 use Rattle.cq_model.specs.Finds.{Placed}
 use Rattle.cq_model.specs.Settings.{Declares, Settings}
 use Rattle.cq_model.specs.States.{AreLawfulContents, Rises}
 use Rattle.cq_model.specs.declared.contents.Contents.{Contents}
-use Rattle.cq_tail.specs.declared.answers.Direction.TheVariants.{Forwards}
+use Rattle.cq_model.specs.declared.direction.Direction.TheVariants.{Forwards}
 use Rattle.cq_commands.specs.Messages.{asked, begun_with, limited, message_line, readable}
 use Rattle.cq_commands.specs.TakenBy.{HasTakenAll, TakeInTurn, next_messages, position_after, with_position}
 use Rattle.cq_commands.proofs.FindingLemmas.{next_asked, none_asked}

@@ -4,8 +4,8 @@ use Rattle.cq_cycle.specs.Index.{index_text}
 use Rattle.cq_model.specs.Settings.{Declares, Settings}
 use Rattle.cq_folder.specs.Folder.{Files}
 use Rattle.cq_orders.specs.declared.settings.ReadSettings.{ReadSettings}
-use Rattle.cq_tail.specs.declared.error.TakeFault.{TakeFault}
-use Rattle.cq_tail.specs.declared.error.TakeFault.TheVariants as take
+use Rattle.cq_model.specs.declared.take_fault.TakeFault.{TakeFault}
+use Rattle.cq_model.specs.declared.take_fault.TakeFault.TheVariants as take
 use Rattle.cq_files.specs.declared.opening.SavedQueue.{SavedQueue}
 use Rattle.cq_files.specs.FolderFaults.{IsSaveFault}
 pub use Rattle.cq_files.specs.Openable.{HoldOpenable, HoldsBadContents, IsOpenFault}
@@ -13,7 +13,7 @@ use Rattle.cq_commands.specs.Messages.{IsReadOut, IsReadStart, IsSince}
 use Rattle.cq_points.specs.Points.{IsPointFault}
 use Rattle.cq_text.specs.declared.fault.ToolFault.{ToolFault}
 use Rattle.cq_text.specs.declared.fault.ToolFault.TheVariants.{OutOfMemory, WriteFault, BadIndex, NoSuchName}
-use Rattle.cq_writing.specs.Saving.{TellsConfig}
+use Rattle.cq_files.specs.Printing.{TellsConfig}
 
 -- the fault of a take
 abbrev pub take_fault : TakeFault → ToolFault

@@ -9,7 +9,7 @@ use Rattle.cq_model.specs.Finds.{Placed}
 use Rattle.cq_model.specs.declared.contents.Contents.{Contents}
 use Rattle.cq_model.specs.Settings.{Declares}
 use Rattle.cq_orders.specs.declared.settings.TakeSettings.{TakeSettings}
-use Rattle.cq_journal.specs.Journals.{HasTaken, JournalFacts, ReaderFacts}
+use Rattle.cq_model.specs.Journals.{HasTaken, JournalFacts, ReaderFacts}
 use Rattle.cq_text.specs.declared.fault.ToolFault.{ToolFault}
 use Rattle.cq_text.specs.declared.fault.ToolFault.TheVariants.{NoSuchName, OldVersion, WriteFault}
 use Rattle.cq_files.specs.FolderFaults.{MindsVersion}

@@ -4,7 +4,7 @@ ghost use Rattle.std.specs.Prelude.{◌≡◌, ◌≢◌, ◌+◌, ◌⊎◌, �
 ghost use Rattle.std.specs.List.{flat_map};
 ghost use Rattle.std.specs.Io.KnownBytes.{Appends};
 ghost use Rattle.cq_folder.specs.Folder.{KeepsFiles};
-ghost use Rattle.cq_journal.specs.Journals.{HasTaken};
+ghost use Rattle.cq_model.specs.Journals.{HasTaken};
 ghost use Rattle.cq_layout.specs.Layout.{IsLawfulLayout};
 ghost use Rattle.cq_model.specs.Finds.{Placed};
 ghost use Rattle.cq_model.specs.States.{AreLawfulContents};
@@ -16,7 +16,7 @@ ghost use Rattle.cq_files.specs.Queue.{CanBeOpened};
 ghost use Rattle.cq_commands.specs.Messages.{message_line};
 ghost use Rattle.cq_commands.specs.Opened.{HoldsContents, journal_with};
 ghost use Rattle.cq_commands.specs.QueueFaults.{IsNameFault};
-ghost use Rattle.cq_writing.specs.Saving.{SavesAndPrints, TellsConfig};
+ghost use Rattle.cq_files.specs.Printing.{SavesAndPrints, TellsConfig};
 ghost use Rattle.cq_commands.specs.TakenBy.{HasTakenAll, IsTakeByFault, IsTakenBy, TakesAll, TakesVersionBy, TellsTook, most_of};
 
 use crate::opened::{OpenedQueue, config_after, open_held};
@@ -27,9 +27,8 @@ use cq_cycle::Index;
 use cq_files::{print_outside, write_file};
 use cq_folder::{Access, CONFIG_FILE, Folder};
 use cq_layout::Message;
-use cq_model::Config;
+use cq_model::{Config, Direction, TakeFault};
 use cq_orders::TakeSettings;
-use cq_tail::{Direction, TakeFault};
 use cq_text::ToolFault;
 use std::alloc::{AllocError, Global};
 use std::io::Write;

@@ -1,6 +1,6 @@
 //! What `echo` and `cycle` print, which need no folder, and the texts of faults.
 use crate::streams::said;
-use cq_commands::{ToolFault, cycle, echo};
+use cq_running::{ToolFault, cycle, echo};
 use cq_fixtures::expect_text;
 use cq_model::Refusal;
 use std::alloc::{AllocError, Global};

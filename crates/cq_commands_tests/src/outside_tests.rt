@@ -3,7 +3,7 @@ use crate::command_tests::order_of;
 use crate::steps::{Step, said_by};
 use crate::streams::{Said, said};
 use crate::watched::{WatchedFolder, WatchedInput, WatchedOutput};
-use cq_commands::{Order, run, take_by};
+use cq_running::{Order, run, take_by};
 use cq_fixtures::{expect_text, push_missed};
 use cq_folder::Folder;
 use std::alloc::Global;

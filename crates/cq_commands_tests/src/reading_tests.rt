@@ -3,7 +3,7 @@ use crate::command_tests::order_of;
 use crate::steps::Step::{self, Drop, Init, Queue, Write};
 use crate::steps::said_by;
 use crate::streams::{Broken, said};
-use cq_commands::{Order, ToolFault, run};
+use cq_running::{Order, ToolFault, run};
 use cq_fixtures::{DAY, expect_text, push_missed};
 use cq_folder::{Folder, MemoryFolder};
 use std::alloc::{AllocError, Global};

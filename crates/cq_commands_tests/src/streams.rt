@@ -1,5 +1,5 @@
 //! What is said of a command, and streams that fail.
-use cq_commands::ToolFault;
+use cq_running::ToolFault;
 use cq_folder::FolderFault;
 use std::alloc::Global;
 use std::io::{ErrorKind, Read, Write};

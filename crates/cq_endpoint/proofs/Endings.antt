@@ -29,8 +29,8 @@ use Rattle.cq_model.proofs.LastCalls.{IsIn, cancel, last_call}
 use Rattle.cq_shown.specs.Plans.{opening_of, settings_in}
 use Rattle.cq_shown.specs.declared.plan.Plan.{Plan}
 use Rattle.cq_tail.specs.Tailers.{ReadsNext, TailerFacts}
-use Rattle.cq_tail.specs.declared.answers.Direction.{Direction}
-use Rattle.cq_tail.specs.declared.answers.Direction.TheVariants.{Backwards, Forwards}
+use Rattle.cq_model.specs.declared.direction.Direction.{Direction}
+use Rattle.cq_model.specs.declared.direction.Direction.TheVariants.{Backwards, Forwards}
 use Rattle.cq_tail.specs.declared.answers.Found.TheVariants as found
 use Rattle.cq_words.specs.Steps.{Extends, IsSound as IsSoundView}
 use Rattle.cq_words.specs.Values.{CallerFacts, IsCaller, QueueFacts}

@@ -7,8 +7,8 @@ use Rattle.cq_tail.specs.Names.{Takes}
 use Rattle.cq_tail.specs.Tailers.{TailerFacts}
 use Rattle.cq_tail.specs.declared.answers.Take.{Take}
 use Rattle.cq_tail.specs.declared.answers.Take.TheVariants.{NotYet}
-use Rattle.cq_tail.specs.declared.error.TakeFault.{TakeFault}
-use Rattle.cq_tail.specs.declared.error.TakeFault.TheVariants as fault
+use Rattle.cq_model.specs.declared.take_fault.TakeFault.{TakeFault}
+use Rattle.cq_model.specs.declared.take_fault.TakeFault.TheVariants as fault
 use Rattle.cq_words.specs.Values.{QueueFacts}
 
 module _ {A : Type 0} (reads : QueueFacts → Reader → Reader → A → Type 0) (none : A) (queue : QueueFacts) where

@@ -6,7 +6,7 @@ use Rattle.cq_endpoint.specs.declared.work.Work.TheVariants as work
 use Rattle.cq_model.specs.Settings.{Settings}
 use Rattle.cq_model.specs.declared.history.State.{State}
 use Rattle.cq_tail.specs.Tailers.{TailerFacts, tailer_facts}
-use Rattle.cq_tail.specs.declared.answers.Direction.TheVariants.{Forwards}
+use Rattle.cq_model.specs.declared.direction.Direction.TheVariants.{Forwards}
 use Rattle.cq_words.specs.Steps.{child_of, parent_of}
 use Rattle.cq_words.specs.Values.{Begins, CallerFacts, IsOf, QueueFacts}
 

@@ -33,8 +33,8 @@ use Rattle.cq_tail.specs.declared.answers.Take.{Take}
 use Rattle.cq_tail.specs.declared.answers.Take.TheVariants as take
 use Rattle.cq_tail.specs.declared.answers.TakeInto.{TakeInto}
 use Rattle.cq_tail.specs.declared.answers.TakeInto.TheVariants as take_into
-use Rattle.cq_tail.specs.declared.error.TakeFault.{TakeFault}
-use Rattle.cq_tail.specs.declared.error.TakeFault.TheVariants as fault
+use Rattle.cq_model.specs.declared.take_fault.TakeFault.{TakeFault}
+use Rattle.cq_model.specs.declared.take_fault.TakeFault.TheVariants as fault
 use Rattle.cq_words.specs.Values.{QueueFacts}
 
 -- a tailer, and what a room holds, which is the caller's bytes

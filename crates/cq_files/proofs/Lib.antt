@@ -7,8 +7,8 @@ pub mod OrderLemmas
 pub mod ReadLemmas
 pub mod SavingLemmas
 pub mod WritingLemmas
-pub mod CheckLemmas
-pub mod ShownLemmas
 pub mod CountLemmas
 pub mod LookingLemmas
-mod MovingLemmas
+pub mod RefusingLemmas
+pub mod PrintingLemmas
+pub mod SaverLemmas

@@ -17,8 +17,6 @@ use Rattle.cq_config_text.specs.declared.config_fault.ConfigFault.TheVariants as
 use Rattle.cq_files.specs.declared.opening.CycleImage.{CycleImage}
 use Rattle.cq_files.specs.declared.opening.ImageFile.{ImageFile}
 use Rattle.cq_files.specs.declared.opening.SavedQueue.{SavedQueue}
-use Rattle.cq_files.specs.Dumped.{IsDumped}
-use Rattle.cq_files.specs.Salvaged.{IsSalvaged}
 use Rattle.cq_files.specs.Queue.{AreImageFiles, HoldQueue, IsImageFile, IsImageName, IsLawfulImage, file_of, name_cmp}
 use Rattle.cq_files.specs.declared.files.TheConstants.{MOST_FILE_BYTES}
 use Rattle.cq_text.specs.declared.fault.ToolFault.{ToolFault}
@@ -282,35 +280,9 @@ IsReadingFault layout file bytes _ = ⊥
 abbrev pub IsUnreadFault : List ℕ → Settings → Files → ToolFault → Type 0
 IsUnreadFault file settings files fault = IsFileFault file fault × HasCause files fault
 
--- why the records of a file are not printed: it is not read, or holds no image; else the lines are not written
-abbrev pub IsRecordsFault : List ℕ → Settings → Files → ToolFault → Type 0
-IsRecordsFault file settings files fault = (IsImageFault file fault × HasCause files fault)
-    ⊎ ((fault ≡ WriteFault) × ((text : List ℕ) × IsDumped settings file text files))
-
--- why what is saved of a file is not printed: it is not read; else the lines are not written
-abbrev pub IsMessagesFault : List ℕ → Settings → Files → ToolFault → Type 0
-IsMessagesFault file settings files fault = IsUnreadFault file settings files fault
-    ⊎ ((fault ≡ WriteFault) × ((text : List ℕ) × IsSalvaged settings file text files))
-
--- why a file is not dumped
-abbrev pub IsDumpFault : List ℕ → Files → ToolFault → Type 0
-IsDumpFault file files fault = IsShowFault (IsRecordsFault file) file files fault
-
--- why nothing is saved of a file
-abbrev pub IsSalvageFault : List ℕ → Files → ToolFault → Type 0
-IsSalvageFault file files fault = IsShowFault (IsMessagesFault file) file files fault
-
 -- a fault of a folder, or of the names and files of its images; none of what these hold
 abbrev pub IsLookingFault : ToolFault → Type 0
 IsLookingFault (BadCycleName file) = ⊤
 IsLookingFault (FileFault file) = ⊤
 IsLookingFault (FileTooLarge file) = ⊤
 IsLookingFault fault = IsFolderFault fault
-
--- why images are not looked at: the first fault of their folder, their names and their files
-abbrev pub IsChecksFault : Files → ToolFault → Type 0
-IsChecksFault files fault = HasCause files fault × IsFirstFault IsSmall files fault × IsLookingFault fault
-
--- why images are not checked: one of them is at fault, they are not looked at, or the lines are not written
-abbrev pub IsCheckFault : Files → ToolFault → Type 0
-IsCheckFault files fault = (fault ≡ ImagesAtFault) ⊎ ((fault ≡ WriteFault) ⊎ IsChecksFault files fault)

@@ -1,13 +1,8 @@
 pub mod Queue
-pub mod Initialised
 pub mod FolderFaults
 pub mod Openable
 pub mod Saved
-pub mod CheckText
-pub mod Dumped
 pub mod Counted
 pub mod Looking
-pub mod Salvaged
-pub mod Shown
-pub mod Migrated
 pub mod Saving
+pub mod Printing

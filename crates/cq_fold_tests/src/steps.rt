@@ -1,6 +1,6 @@
 //! Steps over a folder, and what is said at each.
 use crate::logs::{Frame, log_of};
-use cq_commands::{
+use cq_running::{
     InitSettings, ReadForm, ReadSettings, ToolFault, check, drop_before, init, read, take, write,
 };
 use cq_fixtures::{contents_text, expect_answer};

@@ -4,7 +4,7 @@ use Rattle.std.specs.Io.KnownBytes.{Keeps}
 use Rattle.cq_folder.specs.Folder.{Files, KeepsFiles}
 use Rattle.cq_orders.specs.declared.settings.TakeSettings.{TakeSettings}
 use Rattle.cq_text.specs.declared.fault.ToolFault.{ToolFault}
-use Rattle.cq_writing.specs.Saving.{SavesAndPrints, TellsConfig}
+use Rattle.cq_files.specs.Printing.{SavesAndPrints, TellsConfig}
 use Rattle.cq_commands.specs.TakenBy.{IsTakeByFault, IsTakenBy, TakesVersionBy, TellsTook, most_of}
 use Rattle.cq_commands.specs.declared.taking_by.Took.{Took}
 

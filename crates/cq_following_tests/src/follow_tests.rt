@@ -1,7 +1,7 @@
 //! What `follow` prints, and when it ends.
 use crate::world::Step::{Drop, Put, Trim, Write};
 use crate::world::{Life, LivingFolder, Room, Says, Ticks};
-use cq_commands::{ReadForm, ReadSettings};
+use cq_running::{ReadForm, ReadSettings};
 use cq_fixtures::{DAY, expect_text};
 use cq_following::{Pipe, Watch, follow};
 use std::alloc::{AllocError, Global};

@@ -1,7 +1,7 @@
 //! Refused memory: the call that is refused for it is made again.
 use crate::world::Step::Write;
 use crate::world::{Life, LivingFolder, Says, Ticks};
-use cq_commands::{ReadForm, ReadSettings};
+use cq_running::{ReadForm, ReadSettings};
 use cq_fixtures::expect_text;
 use cq_following::{Pipe, Watch, follow};
 use std::alloc::Global;

@@ -1,7 +1,7 @@
 //! What a take prints that waits, and when it ends.
 use crate::world::Step::{Put, Write};
 use crate::world::{Life, LivingFolder, Says, Ticks};
-use cq_commands::TakeSettings;
+use cq_running::TakeSettings;
 use cq_fixtures::expect_text;
 use cq_following::{Watch, take_waiting};
 use std::alloc::Global;

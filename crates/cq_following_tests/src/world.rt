@@ -1,5 +1,5 @@
 //! A clock, a folder that changes as it is entered, and writers that fail.
-use cq_commands::{ToolFault, drop_before, init, write};
+use cq_running::{ToolFault, drop_before, init, write};
 use cq_folder::{Access, Folder, FolderFault, MemoryFolder, NewFile};
 use cq_following::Changes;
 use cq_orders::{InitSettings, TrimSettings};

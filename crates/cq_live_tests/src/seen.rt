@@ -1,5 +1,5 @@
 //! What commands see of a folder whose queue is live.
-use cq_commands::{ReadForm, ReadSettings, drop_before, read};
+use cq_running::{ReadForm, ReadSettings, drop_before, read};
 use cq_fixtures::expect_text;
 use cq_logged::{LoggedFolder, SystemLock};
 use cq_real_folder::RealFolder;

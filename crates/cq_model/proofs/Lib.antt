@@ -6,6 +6,7 @@ pub mod FindLemmas
 pub mod FloorLemmas
 pub mod Grows
 pub mod Inversions
+pub mod JournalLemmas
 pub mod LastCalls
 pub mod LaterLemmas
 pub mod Legal

@@ -1,11 +1,14 @@
 pub mod Callers
 pub mod Finds
 pub mod Histories
+pub mod Journals
 pub mod Lists
+pub mod Readable
 pub mod Replies
 pub mod Rows
 pub mod Seals
 pub mod Settings
 pub mod States
+pub mod TakeFaults
 pub mod Takes
 pub mod Writers

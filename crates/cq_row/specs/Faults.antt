@@ -4,8 +4,8 @@ use Rattle.cq_cycle.specs.Cycle.{IsMoment}
 use Rattle.cq_model.specs.Settings.{Settings}
 use Rattle.cq_row.specs.declared.fault.ShelfFault.{ShelfFault}
 use Rattle.cq_row.specs.declared.fault.ShelfFault.TheVariants.{BadMoment, BadShelf, Busy, Closed, Full, NoSuchName, OutOfMemory}
-use Rattle.cq_tail.specs.declared.error.TakeFault.{TakeFault}
-use Rattle.cq_tail.specs.declared.error.TakeFault.TheVariants as take_fault
+use Rattle.cq_model.specs.declared.take_fault.TakeFault.{TakeFault}
+use Rattle.cq_model.specs.declared.take_fault.TakeFault.TheVariants as take_fault
 
 -- why nothing was taken
 abbrev pub fault_of : TakeFault → ShelfFault

@@ -12,7 +12,7 @@ use Rattle.cq_row.specs.declared.row.Row.{Row}
 use Rattle.cq_model.specs.declared.history.Answer.TheVariants.{Ends}
 use Rattle.cq_model.specs.declared.history.Event.TheVariants.{End}
 use Rattle.cq_tail.specs.Tailers.{Answered, TailerFacts}
-use Rattle.cq_tail.specs.declared.answers.Direction.TheVariants.{Backwards}
+use Rattle.cq_model.specs.declared.direction.Direction.TheVariants.{Backwards}
 use Rattle.cq_words.specs.Values.{CallerFacts}
 
 -- an endpoint that has made no call yet: it has begun no message, and reads forwards from the start

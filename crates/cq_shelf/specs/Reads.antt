@@ -26,7 +26,7 @@ use Rattle.cq_shelf.specs.declared.answers.ShelfTakenInto.{ShelfTakenInto}
 use Rattle.cq_shelf.specs.declared.answers.ShelfTakenInto.TheVariants as shelf_taken_into
 use Rattle.cq_shelf.specs.declared.taker.ShelfTaker.{ShelfTaker}
 use Rattle.cq_tail.specs.Names.{NameFails, TellsPosition}
-use Rattle.cq_tail.specs.declared.error.TakeFault.{TakeFault}
+use Rattle.cq_model.specs.declared.take_fault.TakeFault.{TakeFault}
 
 -- a read of the next message by an endpoint
 abbrev pub reads_next : Asking Next

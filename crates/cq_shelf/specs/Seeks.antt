@@ -22,8 +22,8 @@ use Rattle.cq_shelf.specs.declared.answers.ShelfReadAt.TheVariants as shelf_at
 use Rattle.cq_shelf.specs.declared.answers.ShelfReadAtInto.{ShelfReadAtInto}
 use Rattle.cq_shelf.specs.declared.answers.ShelfReadAtInto.TheVariants as shelf_at_into
 use Rattle.cq_tail.specs.Tailers.{Answered, MovesTo, TailerFacts}
-use Rattle.cq_tail.specs.declared.answers.Direction.{Direction}
-use Rattle.cq_tail.specs.declared.answers.Direction.TheVariants.{Forwards}
+use Rattle.cq_model.specs.declared.direction.Direction.{Direction}
+use Rattle.cq_model.specs.declared.direction.Direction.TheVariants.{Forwards}
 
 -- a place whose endpoint has this tailer
 abbrev pub with_tailer : Place → TailerFacts → Place

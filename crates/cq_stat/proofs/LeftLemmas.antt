@@ -9,7 +9,7 @@ use Rattle.cq_model.specs.declared.contents.Contents.{Contents}
 use Rattle.cq_model.specs.declared.contents.CycleList.{CycleList}
 use Rattle.cq_model.proofs.TestLemmas.{is_le, is_not_le, le_is, not_le}
 use Rattle.cq_stat.specs.Facts.{left_from, left_in}
-use Rattle.cq_stat.specs.Readable.{indexed, indexed_from}
+use Rattle.cq_model.specs.Readable.{indexed, indexed_from}
 
 -- the messages at or after a place
 abbrev after : ℕ → List Placed → List Placed

@@ -14,7 +14,7 @@ use Rattle.cq_stat.specs.declared.facts.CycleStat.{CycleStat}
 use Rattle.cq_stat.specs.declared.facts.CycleState.{CycleState}
 use Rattle.cq_stat.specs.declared.facts.CycleState.TheVariants.{Dropped, Ended, Open}
 use Rattle.cq_stat.specs.declared.facts.QueueStat.{QueueStat}
-use Rattle.cq_stat.specs.Readable.{readable}
+use Rattle.cq_model.specs.Readable.{readable}
 
 -- a cycle below the floor is dropped, the last one is open, and every other one has ended
 abbrev pub state_of : ℕ → ℕ → ℕ → CycleState

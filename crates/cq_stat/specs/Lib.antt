@@ -1,4 +1,3 @@
-pub mod Readable
 pub mod Facts
 pub mod StatText
 pub mod StatJson

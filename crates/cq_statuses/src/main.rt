@@ -1,18 +1,23 @@
-//! Starts the program `cq` several times, over a folder of the system with a queue, and over three that have a log too. All that each
+//! Starts the program `cq` several times, without `log` and `race` at first, over a folder of the system with a queue, and over three that have a log too. All that each
 //! start prints, its errors and its status go to standard output.
 #![tactic(auto)]
 
+use cq_program::basic_status;
 use cq_tools::{DONE, Start, Terminals, status};
 use std::alloc::AllocError;
 use std::fmt::Display;
-use std::fs::File;
 use std::io::{self, Stdout};
 use std::process::{self, ExitCode};
-use std::rt::{Clock, Files};
-use std::sync::Wait;
-use std::thread::Threads;
 
-/// The words of each start, after the program's name.
+/// The words of each start of the basic program, after the program's name.
+const BASIC_STARTS: [&[&str]; 4] = [
+    &["cycle", "daily", "0", "1728000000000"],
+    &["take", "."],
+    &["log", "."],
+    &["race", "10"],
+];
+
+/// The words of each start of the whole program.
 const STARTS: [&[&str]; 59] = [
     &["read", "."],
     &["stat", ".", "--json"],
@@ -96,48 +101,46 @@ fn main(rt: HostRuntime) -> ExitCode {
     let errors = OnOutput {
         output: rt.stdout(),
     };
+    for words in BASIC_STARTS {
+        print_words(&rt, words);
+        print_status(
+            &rt,
+            basic_status(&rt, &errors, start_with(&rt, words, process)),
+        );
+    }
     let mut last = DONE;
     for words in STARTS {
-        last = started(&rt, &errors, words, process);
+        print_words(&rt, words);
+        last = status(&rt, &errors, start_with(&rt, words, process));
+        print_status(&rt, last);
     }
     ExitCode::from(last)
 }
 
-/// Starts the program with these words, and prints them and its status.
-fn started<R>(rt: &R, errors: &OnOutput, words: &[&str], process: u32) -> u8
-where
-    R: AllocGlobal
-        + Files<File = File>
-        + Input
-        + Print
-        + Eprint
-        + Clock
-        + Threads
-        + Wait
-        + Sync
-        + Clone
-        + Send
-        + Drop
-        + 'static,
-    R::Reader: Send + Drop + 'static,
-{
+/// Prints the words of a start.
+fn print_words<R: Print>(rt: &R, words: &[&str]) {
     let _ = print!(rt; "cq");
     for word in words {
         let _ = print!(rt; " {word}");
     }
     let _ = println!(rt; "");
-    let words = command_line(rt, words).map_err(io::Error::from);
-    let start = Start {
-        words,
+}
+
+/// Prints the status of a start.
+fn print_status<R: Print>(rt: &R, status: u8) {
+    let _ = println!(rt; "status {status}");
+}
+
+/// Returns a start with these words, on no terminal.
+fn start_with<R: AllocGlobal>(rt: &R, words: &[&str], process: u32) -> Start {
+    Start {
+        words: command_line(rt, words).map_err(io::Error::from),
         process,
         terminals: Terminals {
             input: false,
             errors: false,
         },
-    };
-    let status = status(rt, errors, start);
-    let _ = println!(rt; "status {status}");
-    status
+    }
 }
 
 /// Returns the words of a command line: the program's name, and these.

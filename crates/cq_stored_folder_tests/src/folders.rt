@@ -1,5 +1,5 @@
 //! Folders of the system, and what they hold.
-use cq_commands::{InitSettings, init};
+use cq_running::{InitSettings, init};
 use cq_files::{Retain, open_queue};
 use cq_fixtures::{contents_text, expect_text};
 use cq_folder::{Access, Folder};

@@ -2,7 +2,7 @@
 //!
 //! | item | what it is for |
 //! |---|---|
-//! | `status`, `Start`, `Terminals` | run a whole start of the program, and what it is given |
+//! | `status`, `Start`, `Terminals`, `start_of` | run a whole start of the program, and what it is given |
 //! | `DONE`, `FAULT`, `NOT_UNDERSTOOD`, `NOTHING` | its exit statuses |
 //! | `parse`, `ParseFault` | make an `Order` from the words of a command line |
 //! | `Order`, `InitSettings` | a command with its values |
@@ -15,20 +15,15 @@
 //! | `Gate`, `OpenGate` | what `race` calls before and after each call of a worker |
 #![tactic(auto)]
 
-mod checking;
-mod fault;
-mod making;
-mod output;
-mod program;
 mod starting;
 
 pub use cq_command_line::{ParseFault, parse};
-pub use cq_commands::{Took, run, take_by};
 pub use cq_config_text::{ConfigFault, SavedConfig, read_config, write_config};
 pub use cq_folder::{Folder, FolderFault, MemoryFolder};
 pub use cq_orders::{InitSettings, Order, TakeSettings};
+pub use cq_program::{DONE, FAULT, NOT_UNDERSTOOD, NOTHING, Start, Terminals, start_of};
 pub use cq_race::{Gate, OpenGate, race};
 pub use cq_real_folder::RealFolder;
+pub use cq_running::{Took, run, take_by};
 pub use cq_text::{ToolFault, dump_text, echo};
-pub use program::Terminals;
-pub use starting::{DONE, FAULT, NOT_UNDERSTOOD, NOTHING, Start, status};
+pub use starting::status;

@@ -17,7 +17,7 @@ use Rattle.cq_model.specs.declared.contents.CycleList.{CycleList}
 use Rattle.cq_model.proofs.TestLemmas.{is_le, is_not_le, lt_is, not_le}
 use Rattle.cq_model.proofs.FindLemmas.{missing}
 use Rattle.cq_stat.specs.Facts.{left_from, with_floor}
-use Rattle.cq_stat.specs.Readable.{indexed, indexed_from, readable}
+use Rattle.cq_model.specs.Readable.{indexed, indexed_from, readable}
 use Rattle.cq_trim.specs.Trimmed.{kept_lists, removed_lists, trimmed}
 
 -- a cycle whose messages have sequences of 32 bits

@@ -14,7 +14,7 @@ ghost use Rattle.cq_model.specs.States.{AreLawfulContents, IsHeld, last_cycle};
 ghost use Rattle.cq_model.specs.declared.contents.Contents.{Contents};
 ghost use Rattle.cq_orders.specs.declared.settings.TrimSettings.{TrimSettings};
 ghost use Rattle.cq_stat.specs.Facts.{left_from, with_floor};
-ghost use Rattle.cq_stat.specs.Readable.{readable};
+ghost use Rattle.cq_model.specs.Readable.{readable};
 ghost use Rattle.cq_trim.specs.Trimmed.{IsLeftOf, removed_lists, trimmed};
 ghost use Rattle.cq_trim.specs.Trims.{IsTrimmed};
 

@@ -1,5 +1,5 @@
 //! Steps over the folder of a queue, and what is said at each.
-use cq_commands::{check, drop_before, init, read, take, write};
+use cq_running::{check, drop_before, init, read, take, write};
 use cq_fixtures::expect_text;
 use cq_folder::{Access, Folder, MemoryFolder};
 use cq_orders::{InitSettings, ReadForm, ReadSettings};

@@ -1,5 +1,5 @@
 //! Steps over the folder of a queue, and what is said at each.
-use cq_files::salvage;
+use cq_file_commands::salvage;
 use cq_fixtures::expect_text;
 use cq_folder::{Access, Folder, MemoryFolder};
 use cq_writing::{Batch, Begun, InputForm, write_by};

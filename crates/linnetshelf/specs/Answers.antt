@@ -27,7 +27,7 @@ use Rattle.cq_layout.specs.declared.refusal.Refusal.TheVariants as refusal
 use Rattle.cq_saved.specs.declared.fault.AddFault.{AddFault}
 use Rattle.cq_saved.specs.declared.fault.AddFault.TheVariants as unadded
 use Rattle.cq_saved.specs.declared.fault.NoSuchPlace.{NoSuchPlace}
-use Rattle.cq_tail.specs.declared.answers.Direction.{Direction}
+use Rattle.cq_model.specs.declared.direction.Direction.{Direction}
 use Rattle.cq_tail.specs.declared.answers.Sought.{Sought}
 use Rattle.cq_tail.specs.declared.answers.Sought.TheVariants as sought
 use Rattle.cq_tail.specs.declared.error.NoSuchName.{NoSuchName}

@@ -14,8 +14,8 @@ use Rattle.cq_model.specs.declared.history.Answer.TheVariants.{Ends, Floor}
 use Rattle.cq_model.specs.declared.history.Event.TheVariants.{DropBefore, End}
 use Rattle.cq_tail.specs.Names.{NameFails, Seeks, TellsPosition}
 use Rattle.cq_tail.specs.Tailers.{Answered, TailerFacts}
-use Rattle.cq_tail.specs.declared.answers.Direction.{Direction}
-use Rattle.cq_tail.specs.declared.answers.Direction.TheVariants as direction
+use Rattle.cq_model.specs.declared.direction.Direction.{Direction}
+use Rattle.cq_model.specs.declared.direction.Direction.TheVariants as direction
 use Rattle.cq_tail.specs.declared.answers.Sought.{Sought}
 use Rattle.cq_tail.specs.declared.error.NoSuchName.{NoSuchName}
 use Rattle.linnetshelf.specs.Makes.{parent_of}

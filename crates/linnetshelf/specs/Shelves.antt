@@ -24,7 +24,7 @@ use Rattle.cq_shelf.specs.Writes.{ClosesLast, ClosesNot, Follows, FollowsNot}
 use Rattle.cq_shelf.specs.declared.answers.ShelfReadAtInto.{ShelfReadAtInto}
 use Rattle.cq_shelf.specs.declared.reader.ShelfReader.{ShelfReader}
 use Rattle.cq_shelf.specs.declared.writer.ShelfWriter.{ShelfWriter}
-use Rattle.cq_tail.specs.declared.answers.Direction.{Direction}
+use Rattle.cq_model.specs.declared.direction.Direction.{Direction}
 use Rattle.linnetshelf.specs.Answers.{Tells, done, plain}
 use Rattle.linnetshelf.specs.Asked.{IsAsked, IsNotMade}
 use Rattle.linnetshelf.specs.Makes.{HandsOut}

@@ -1,6 +1,6 @@
 use Rattle.std.proofs.Common.{◌≡◌, ◌++◌, ◌+◌, Option, arith, rules, subst, sym}
 use Rattle.std.specs.Prelude.{IfSome}
-use Rattle.cq_journal.specs.Journals.{HasTaken}
+use Rattle.cq_model.specs.Journals.{HasTaken}
 use Rattle.cq_model.specs.Finds.{Placed}
 use Rattle.cq_model.specs.Settings.{Declares, Settings}
 use Rattle.cq_commands.specs.Messages.{message_line}

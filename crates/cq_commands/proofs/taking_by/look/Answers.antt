@@ -6,7 +6,7 @@ use Rattle.cq_files.specs.Queue.{contents_in}
 use Rattle.cq_files.proofs.CountLemmas.{counts_other, counts_passed}
 use Rattle.cq_folder.specs.Folder.{KeepsFiles}
 use Rattle.cq_commands.proofs.TakenLinesLemmas.{look_ended, look_failed, look_refused, look_unwritten, looked_at, name_not_old, nothing_by, takes_held, tells_took, took_lines}
-use Rattle.cq_writing.proofs.RefusingLemmas.{first_cause}
+use Rattle.cq_files.proofs.RefusingLemmas.{first_cause}
 use Rattle.cq_commands.proofs.RefusingLemmas.{other_name}
 use Rattle.cq_commands.proofs.taking_by.look.Given as given
 use Rattle.cq_commands.proofs.taking_by.look.Goals as goal

@@ -3,7 +3,7 @@ use Rattle.std.proofs.KnownBytes.{Appends-nil}
 use Rattle.std.specs.Prelude.{Option}
 use Rattle.cq_commands.specs.Opened.{journal_with}
 use Rattle.cq_commands.specs.QueueFaults.{IsTakeFault}
-use Rattle.cq_writing.specs.Saving.{TellsConfig}
+use Rattle.cq_files.specs.Printing.{TellsConfig}
 use Rattle.cq_commands.specs.TakenBy.{TakesAll}
 use Rattle.cq_files.specs.FolderFaults.{IsFileFault}
 use Rattle.cq_files.specs.Queue.{contents_in}
@@ -11,9 +11,9 @@ use Rattle.cq_files.proofs.WritingLemmas.{tells_file}
 use Rattle.cq_folder.specs.Folder.{Files, KeepsFiles, KeepsOrWrites, WritesFile}
 use Rattle.cq_folder.specs.declared.names.TheConstants.{CONFIG_FILE}
 use Rattle.cq_commands.proofs.TakenLinesLemmas.{lines_or_kept, lines_saved, nothing_by, takes_held, tells_took, took_lines, with_took}
-use Rattle.cq_writing.proofs.RefusingLemmas.{both_later, first_cause}
+use Rattle.cq_files.proofs.RefusingLemmas.{both_later, first_cause}
 use Rattle.cq_commands.proofs.RefusingLemmas.{other_name}
-use Rattle.cq_writing.proofs.SaverLemmas.{half_saved, no_value, saved_all, unopened, unsaved}
+use Rattle.cq_files.proofs.SaverLemmas.{half_saved, no_value, saved_all, unopened, unsaved}
 use Rattle.cq_commands.proofs.TakingLemmas.{name_refused, take_not_saved}
 use Rattle.cq_commands.proofs.taking_by.take_all.Given as given
 use Rattle.cq_commands.proofs.taking_by.take_all.Goals as goal

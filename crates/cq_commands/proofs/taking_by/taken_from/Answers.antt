@@ -1,5 +1,5 @@
 use Rattle.std.proofs.Common.{◌≡◌, ap, length, rules}
-use Rattle.cq_journal.specs.Journals.{ReaderFacts}
+use Rattle.cq_model.specs.Journals.{ReaderFacts}
 use Rattle.cq_commands.proofs.TakenLinesLemmas.{lines_were_taken, no_lines_taken}
 use Rattle.cq_commands.proofs.taking_by.taken_from.Goals as goal
 

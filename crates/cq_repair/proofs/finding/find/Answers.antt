@@ -9,7 +9,7 @@ use Rattle.cq_files.proofs.LookingLemmas.{looks_done, looks_passed}
 use Rattle.cq_folder.specs.Folder.{is_named}
 use Rattle.cq_folder.proofs.NamedLemmas.{file_named, file_unnamed}
 use Rattle.cq_files.proofs.QueueLemmas.{keeps-trans, of_before}
-use Rattle.cq_files.proofs.ShownLemmas.{not_opened}
+use Rattle.cq_files.proofs.RefusingLemmas.{not_opened}
 use Rattle.cq_model.specs.Settings.{texts}
 use Rattle.cq_text.specs.declared.fault.ToolFault.TheVariants.{NoQueueHere}
 use Rattle.cq_repair.specs.Found.{IsOldOrUnread, IsPlaced, IsUnplaced}

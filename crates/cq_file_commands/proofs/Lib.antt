@@ -1,0 +1,3 @@
+pub mod CheckLemmas
+pub mod ShownLemmas
+pub mod MovingLemmas
