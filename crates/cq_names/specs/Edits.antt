@@ -3,6 +3,8 @@ use Rattle.std.specs.Prelude.{◌≡◌, ◌⊎◌, ⊤, ℕ, ◌<◌, ◌≤◌
 use Rattle.std.specs.List.{flat_map, remove, zip}
 use Rattle.cq_config_text.specs.ConfigText.{IsTextOf}
 use Rattle.cq_cycle.specs.Index.{index_text}
+use Rattle.cq_files.specs.Queue.{CanBeOpened}
+use Rattle.cq_files.specs.declared.opening.SavedQueue.{SavedQueue}
 use Rattle.cq_model.specs.Settings.{Declares, IsTailerName, Settings, settings_of}
 use Rattle.cq_model.specs.States.{end_of}
 use Rattle.cq_model.specs.declared.config.TheConstants.{MAX_NAMES}
@@ -17,6 +19,11 @@ use Rattle.cq_names.specs.declared.deciding.Decision.TheVariants.{Change, Refuse
 use Rattle.cq_names.specs.declared.editing.Plan.{Plan}
 use Rattle.cq_names.specs.declared.fault.NameRefusal.{NameRefusal}
 use Rattle.cq_names.specs.declared.fault.NameRefusal.TheVariants.{BadName, NoSuchName, PastEnd, ThereAlready, TooManyNames}
+
+-- the queue can be opened, and has a position for each name
+pub record CanBeEdited (queue : SavedQueue) : Type 0 where
+  pub openable : CanBeOpened queue.config queue.contents
+  pub paired : length queue.contents.positions ≡ length queue.config.names
 
 -- these settings with other names
 abbrev pub with_names : Settings → List (List ℕ) → Settings

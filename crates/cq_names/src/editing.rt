@@ -1,13 +1,13 @@
 //! What is saved and printed of a change.
 
 ghost use Rattle.std.specs.Prelude.{◌≡◌, ◌<◌, IfOk, length};
-ghost use Rattle.cq_files.specs.Queue.{CanBeOpened};
 ghost use Rattle.cq_model.specs.Settings.{AreLawfulNames, texts};
-ghost use Rattle.cq_names.specs.Edits.{IsNewName, IsPlanFor, added, moved, removed, with_names};
+ghost use Rattle.cq_names.specs.Edits.{CanBeEdited, IsNewName, IsPlanFor, added, moved, removed, with_names};
 
 use crate::lines::line_of;
 use cq_config_text::write_config;
-use cq_model::{Config, Contents, copied_names};
+use cq_files::SavedQueue;
+use cq_model::{Config, copied_names};
 use std::alloc::{AllocError, Global};
 
 /// What is saved and printed of a change.
@@ -22,23 +22,21 @@ pub(crate) struct Plan {
 /// Returns what is saved and printed where a name is added at a position.
 pub(crate) fn plan_to_add(
     alloc: Global,
-    config: &Config,
-    contents: &Contents,
+    queue: &SavedQueue,
     name: &str,
     position: u64,
 ) -> Result<Plan, AllocError>
-    requires openable { CanBeOpened config.now contents.now }
-    requires paired { length contents.now.positions ≡ length config.now.names }
-    requires new { IsNewName config.now name.now }
-    ensures { IfOk result (IsPlanFor config.now contents.now (added config.now contents.now name.now position)) }
+    requires editable { CanBeEdited queue.now }
+    requires new { IsNewName queue.now.config name.now }
+    ensures { IfOk result (IsPlanFor queue.now.config queue.now.contents (added queue.now.config queue.now.contents name.now position)) }
 {
-    let mut names = copied_names(alloc, config.names())?;
+    let mut names = copied_names(alloc, queue.config.names())?;
     names.push(String::from_str(alloc, name)?)?;
-    let mut positions = Vec::from_slice(alloc, contents.positions.as_slice())?;
+    let mut positions = Vec::from_slice(alloc, queue.contents.positions.as_slice())?;
     positions.push(position)?;
-    let changed = with_names(config, names);
+    let changed = with_names(&queue.config, names);
     Ok(Plan {
-        config: write_config(alloc, &changed, positions.as_slice(), contents.floor)?,
+        config: write_config(alloc, &changed, positions.as_slice(), queue.contents.floor)?,
         line: line_of(alloc, name, position)?,
     })
 }
@@ -46,22 +44,20 @@ pub(crate) fn plan_to_add(
 /// Returns what is saved and printed where the name at this place is removed.
 pub(crate) fn plan_to_remove(
     alloc: Global,
-    config: &Config,
-    contents: &Contents,
+    queue: &SavedQueue,
     place: usize,
 ) -> Result<Plan, AllocError>
-    requires openable { CanBeOpened config.now contents.now }
-    requires paired { length contents.now.positions ≡ length config.now.names }
-    requires there { place < length config.now.names }
-    ensures { IfOk result (IsPlanFor config.now contents.now (removed config.now contents.now place)) }
+    requires editable { CanBeEdited queue.now }
+    requires there { place < length queue.now.config.names }
+    ensures { IfOk result (IsPlanFor queue.now.config queue.now.contents (removed queue.now.config queue.now.contents place)) }
 {
-    let mut names = copied_names(alloc, config.names())?;
+    let mut names = copied_names(alloc, queue.config.names())?;
     let name = names.remove(place);
-    let mut positions = Vec::from_slice(alloc, contents.positions.as_slice())?;
+    let mut positions = Vec::from_slice(alloc, queue.contents.positions.as_slice())?;
     let position = positions.remove(place);
-    let changed = with_names(config, names);
+    let changed = with_names(&queue.config, names);
     Ok(Plan {
-        config: write_config(alloc, &changed, positions.as_slice(), contents.floor)?,
+        config: write_config(alloc, &changed, positions.as_slice(), queue.contents.floor)?,
         line: line_of(alloc, name.as_str(), position)?,
     })
 }
@@ -69,21 +65,20 @@ pub(crate) fn plan_to_remove(
 /// Returns what is saved and printed where the name at this place gets a position.
 pub(crate) fn plan_to_move(
     alloc: Global,
-    config: &Config,
-    contents: &Contents,
+    queue: &SavedQueue,
     place: usize,
     position: u64,
 ) -> Result<Plan, AllocError>
-    requires openable { CanBeOpened config.now contents.now }
-    requires paired { length contents.now.positions ≡ length config.now.names }
-    requires there { place < length config.now.names }
-    ensures { IfOk result (IsPlanFor config.now contents.now (moved config.now contents.now place position)) }
+    requires editable { CanBeEdited queue.now }
+    requires there { place < length queue.now.config.names }
+    ensures { IfOk result (IsPlanFor queue.now.config queue.now.contents (moved queue.now.config queue.now.contents place position)) }
 {
-    let mut positions = Vec::from_slice(alloc, contents.positions.as_slice())?;
+    let mut positions = Vec::from_slice(alloc, queue.contents.positions.as_slice())?;
     positions[place] = position;
+    let floor = queue.contents.floor;
     Ok(Plan {
-        config: write_config(alloc, config, positions.as_slice(), contents.floor)?,
-        line: line_of(alloc, config.names()[place].as_str(), position)?,
+        config: write_config(alloc, &queue.config, positions.as_slice(), floor)?,
+        line: line_of(alloc, queue.config.names()[place].as_str(), position)?,
     })
 }
 

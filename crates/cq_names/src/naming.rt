@@ -10,7 +10,7 @@ ghost use Rattle.cq_orders.specs.declared.settings.NameChange.TheVariants as cha
 use crate::deciding::{Decision, decide};
 use crate::lines::lines_of;
 use crate::{NameFault, NameRefusal};
-use cq_files::{SavedQueue, open_whole_queue, print_outside, write_file};
+use cq_files::{open_whole_queue, print_outside, write_file};
 use cq_folder::{Access, CONFIG_FILE, Folder};
 use cq_orders::NameChange;
 use cq_text::ToolFault;
@@ -91,13 +91,10 @@ fn list<F: Folder, W: Write>(alloc: Global, folder: &mut F, output: &mut W) -> R
     ensures version { MayBeOld change.List (F.files folder.old) (all_done result) }
     ensures counted { CountsFaults (F.failed folder.old) (F.failed folder.new) result }
 {
-    let SavedQueue {
-        config,
-        contents,
-        images: _,
-    } = open_whole_queue(alloc, folder, Access::Shared)?;
+    let queue = open_whole_queue(alloc, folder, Access::Shared)?;
     folder.end();
-    let text = lines_of(alloc, config.names(), contents.positions.as_slice())?;
+    let positions = queue.contents.positions.as_slice();
+    let text = lines_of(alloc, queue.config.names(), positions)?;
     print_outside(folder, output, text.as_slice())
 }
 

@@ -16,7 +16,7 @@ returns-then-end-position-clause-decides c =
     )
 
 pub plan_to_move-requires-clause-there : goal.plan_to_move-requires-clause-there
-plan_to_move-requires-clause-there c = slice_get_within c.args.config.now.names c.in-Some.place c.args.name.now c.in-Some.ensures
+plan_to_move-requires-clause-there c = slice_get_within c.args.queue.now.config.names c.in-Some.place c.args.name.now c.in-Some.ensures
 
 pub returns-clause-decides : goal.returns-clause-decides
 returns-clause-decides c =

@@ -9,17 +9,17 @@ use Rattle.cq_names.proofs.editing.plan_to_add.Goals as goal
 pub with_names-changed-requires : goal.with_names-changed-requires
 with_names-changed-requires c =
     subst AreLawfulNames
-    (sym (pushed_texts _ _ _ c.args.config.now.names c.args.name.now c.in_ok-push.ensures.items (c.in_ok-names.ensures ∙ c.names.ensures.value)
+    (sym (pushed_texts _ _ _ c.args.queue.now.config.names c.args.name.now c.in_ok-push.ensures.items (c.in_ok-names.ensures ∙ c.names.ensures.value)
     c.in_ok-from_str.ensures.ok))
-    (added_names c.args.config.now c.args.name.now c.names.ensures.lawful c.requires.new)
+    (added_names c.args.queue.now.config c.args.name.now c.names.ensures.lawful c.requires.new)
 
 pub write_config-requires-clause-low : goal.write_config-requires-clause-low
-write_config-requires-clause-low c = floor_low c.args.config.now c.args.contents.now c.requires.openable
+write_config-requires-clause-low c = floor_low c.args.queue.now.config c.args.queue.now.contents c.requires.editable.openable
 
 pub returns : goal.returns
 returns c =
-    let settings = c.args.config.now in
-    let contents = c.args.contents.now in
+    let settings = c.args.queue.now.config in
+    let contents = c.args.queue.now.contents in
     let position = c.args.position in
     let names = pushed_texts _ _ _ settings.names c.args.name.now c.in_ok-push.ensures.items (c.in_ok-names.ensures ∙ c.names.ensures.value)
     c.in_ok-from_str.ensures.ok in

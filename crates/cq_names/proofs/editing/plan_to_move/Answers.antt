@@ -6,12 +6,12 @@ use Rattle.cq_names.proofs.NameLemmas.{name_out}
 use Rattle.cq_names.proofs.editing.plan_to_move.Goals as goal
 
 pub write_config-requires-clause-low : goal.write_config-requires-clause-low
-write_config-requires-clause-low c = floor_low c.args.config.now c.args.contents.now c.requires.openable
+write_config-requires-clause-low c = floor_low c.args.queue.now.config c.args.queue.now.contents c.requires.editable.openable
 
 pub returns : goal.returns
 returns c =
-    let settings = c.args.config.now in
-    let contents = c.args.contents.now in
+    let settings = c.args.queue.now.config in
+    let contents = c.args.queue.now.contents in
     let place = c.args.place in
     let written : c.as_slice-2.result.now ≡ set c.in_ok-positions.positions.items place c.args.position = search rules in
     let positions = written ∙ ap (λ (ps : List ℕ). set ps place c.args.position) (c.in_ok-positions.ensures.items ∙ c.as_slice.ensures) in

@@ -26,7 +26,7 @@ returns-in_err-write_file-in-Change-clause-ends g c =
     let change = c.args.change.now in
     let old = g.W.Write.contents c.args.output.now in
     let from = subst (Decides change (files c.args.folder.now)) c.in-Change.is c.in_ok-refusal.ensures.decides in
-    let kept = c.in_ok-refusal.ensures.kept in
+    let kept = c.in_ok-refusal.ensures.enters.kept in
     let failed = c.in_err-write_file-in-Change.ensures in
     ends_not change (files c.args.folder.now) (files c.write_file.new.folder) old old _ _ c.from_residual-in_err-write_file-in-Change.ensures.1
     (record {
@@ -48,7 +48,7 @@ returns-in_err-print_outside-in-Change-clause-ends g c =
     let written = subst (λ (after : Option Files). WritesFile (files c.decide.new.folder) after CONFIG_FILE.now plan.config.items) (sym c.end.ensures.kept)
     (subst (λ (bytes : List ℕ). WritesFile (files c.decide.new.folder) (files c.write_file.new.folder) CONFIG_FILE.now bytes) c.as_slice.ensures.value
     c.in_ok-write_file-in-Change.ensures.written) in
-    let done = changed_by change (files c.args.folder.now) (files c.decide.new.folder) (files c.end.new.self) plan _ c.requires from c.in_ok-refusal.ensures.kept
+    let done = changed_by change (files c.args.folder.now) (files c.decide.new.folder) (files c.end.new.self) plan _ c.requires from c.in_ok-refusal.ensures.enters.kept
     written c.as_slice-in-Change.ensures.value in
     let failed = c.in_err-print_outside-in-Change.ensures in
     ends_not change (files c.args.folder.now) (files c.end.new.self) _ _ _ _ c.from_residual-in_err-print_outside-in-Change.ensures.1
@@ -75,7 +75,7 @@ returns-in-Refuse-clause-ends g c =
     let files = g.F.Folder.files in
     record {
       done = ends_refused c.args.change.now (files c.args.folder.now) (files c.decide.new.folder) (g.W.Write.contents c.args.output.now) c.in-Refuse.refusal
-          (subst (Decides c.args.change.now (files c.args.folder.now)) c.in-Refuse.is c.in_ok-refusal.ensures.decides) c.in_ok-refusal.ensures.kept;
+          (subst (Decides c.args.change.now (files c.args.folder.now)) c.in-Refuse.is c.in_ok-refusal.ensures.decides) c.in_ok-refusal.ensures.enters.kept;
       left = tt;
       silent = tt;
       broken = tt;
@@ -93,7 +93,7 @@ returns-in_ok-print_outside-in-Change-clause-ends g c =
     record {
       done = (
         _,
-        changed_by change (files c.args.folder.now) (files c.decide.new.folder) (files c.end.new.self) plan _ c.requires from c.in_ok-refusal.ensures.kept
+        changed_by change (files c.args.folder.now) (files c.decide.new.folder) (files c.end.new.self) plan _ c.requires from c.in_ok-refusal.ensures.enters.kept
             written c.as_slice-in-Change.ensures.value,
         c.in_ok-print_outside-in-Change.ensures.written,
       );
@@ -133,11 +133,11 @@ returns-in_ok-print_outside-in-Change-clause-version g c =
 
 pub returns-in_err-refusal-clause-counted : goal.returns-in_err-refusal-clause-counted
 returns-in_err-refusal-clause-counted g c =
-    counts_passed _ _ c.in_err-refusal.field-0.0 c.from_residual.result c.in_err-refusal.ensures.counted c.from_residual.ensures.1
+    counts_passed _ _ c.in_err-refusal.field-0.0 c.from_residual.result c.in_err-refusal.ensures.enters.counted c.from_residual.ensures.1
 
 pub returns-in_err-write_file-in-Change-clause-counted : goal.returns-in_err-write_file-in-Change-clause-counted
 returns-in_err-write_file-in-Change-clause-counted g c =
-    counts_from _ (g.F.Folder.failed c.decide.new.folder) _ c.from_residual-in_err-write_file-in-Change.result c.in_ok-refusal.ensures.counted.later
+    counts_from _ (g.F.Folder.failed c.decide.new.folder) _ c.from_residual-in_err-write_file-in-Change.result c.in_ok-refusal.ensures.enters.counted.later
     (counts_passed _ _ c.in_err-write_file-in-Change.field-0.0 c.from_residual-in_err-write_file-in-Change.result
     c.in_err-write_file-in-Change.ensures.counted c.from_residual-in_err-write_file-in-Change.ensures.1)
 
