@@ -3,9 +3,9 @@
 ghost use Rattle.std.specs.Prelude.{◌≡◌, ◌≢◌, ◌≤◌, ◌+◌, ◌↔◌, IfErr, IfOk, IfSome, IsTrue, None, OnOk, Some, length, map, option_map, slice_get, string_bytes, take};
 ghost use Rattle.std.specs.List.{AllByRecursion};
 ghost use Rattle.cq_config_text.specs.ConfigText.{IsTextOf};
-ghost use Rattle.cq_folder.specs.Folder.{KeepsFiles, named_file};
-ghost use Rattle.cq_files.specs.Counted.{CountsFaults};
+ghost use Rattle.cq_folder.specs.Folder.{named_file};
 ghost use Rattle.cq_files.specs.FolderFaults.{MindsVersion};
+ghost use Rattle.cq_files.specs.Looking.{Enters};
 ghost use Rattle.cq_files.specs.Queue.{CanBeOpened};
 ghost use Rattle.cq_model.specs.Settings.{texts};
 ghost use Rattle.cq_trim.specs.Plans.{Decides, IsDecision, IsDecisionFault, IsNameAtLoss, IsPlan, IsUndecided};
@@ -16,7 +16,7 @@ use cq_config_text::write_config;
 use cq_cycle::LAST_CYCLE;
 use cq_files::{CycleImage, SavedQueue, open_whole_queue};
 use cq_folder::{Access, CONFIG_FILE, Folder, NewFile};
-use cq_model::{Config, Contents, Items};
+use cq_model::Items;
 use cq_orders::TrimSettings;
 use cq_stat::messages_left;
 use cq_text::ToolFault;
@@ -56,71 +56,62 @@ pub(crate) fn decide<F: Folder>(
     ensures cause { IfErr result (λ fault. IfSome (F.files folder.old) (λ files. IsUndecided settings.now files fault)) }
     ensures unprinted { IfErr result (λ fault. fault ≢ ToolFault.WriteFault) }
     ensures version { IfSome (F.files folder.old) (λ files. MindsVersion files result) }
-    ensures kept { KeepsFiles (F.files folder.old) (F.files folder.new) }
-    ensures counted { CountsFaults (F.failed folder.old) (F.failed folder.new) result }
-    ensures inside { OnOk result (F.entered folder.new ≡ Some Access.Alone) }
+    ensures enters { Enters F.files F.failed F.entered Access.Alone folder.old folder.new result }
 {
-    let SavedQueue {
-        config,
-        contents,
-        images,
-    } = open_whole_queue(alloc, folder, Access::Alone)?;
-    decision_for(alloc, &config, &contents, images, settings)
+    let queue = open_whole_queue(alloc, folder, Access::Alone)?;
+    decision_for(alloc, queue, settings)
 }
 
 /// Decides what is done to a queue.
 fn decision_for(
     alloc: Global,
-    config: &Config,
-    contents: &Contents,
-    images: Vec<CycleImage>,
+    queue: SavedQueue,
     settings: &TrimSettings,
 ) -> Result<Decision, ToolFault>
-    requires openable { CanBeOpened config.now contents.now }
-    requires paired { length contents.now.positions ≡ length config.now.names }
-    ensures decides { IfOk result (IsDecision settings.now config.now contents.now images.items) }
-    ensures fault { IfErr result (IsDecisionFault settings.now config.now) }
+    requires openable { CanBeOpened queue.config queue.contents }
+    requires paired { length queue.contents.positions ≡ length queue.config.names }
+    ensures decides { IfOk result (IsDecision settings.now queue.config queue.contents queue.images.items) }
+    ensures fault { IfErr result (IsDecisionFault settings.now queue.config) }
 {
-    let floor = floor_for(config, contents, settings)?;
-    match name_at_loss(alloc, config, contents, floor, settings.force)? {
+    let floor = floor_for(&queue.config, &queue.contents, settings)?;
+    match name_at_loss(alloc, &queue, floor, settings.force)? {
         Some(name) => Ok(Decision::Refuse(name)),
-        None => Ok(Decision::Trim(plan_for(alloc, config, contents, images, floor)?)),
+        None => Ok(Decision::Trim(plan_for(alloc, queue, floor)?)),
     }
 }
 
 /// Returns the first name that loses messages with this floor, unless it is forced.
 fn name_at_loss(
     alloc: Global,
-    config: &Config,
-    contents: &Contents,
+    queue: &SavedQueue,
     floor: u32,
     force: bool,
 ) -> Result<Option<String>, AllocError>
-    requires openable { CanBeOpened config.now contents.now }
-    requires paired { length contents.now.positions ≡ length config.now.names }
-    ensures { IfOk result (λ name. IsNameAtLoss force config.now contents.now floor (option_map string_bytes name)) }
+    requires openable { CanBeOpened queue.now.config queue.now.contents }
+    requires paired { length queue.now.contents.positions ≡ length queue.now.config.names }
+    ensures { IfOk result (λ name. IsNameAtLoss force queue.now.config queue.now.contents floor (option_map string_bytes name)) }
 {
     if force {
         return Ok(None);
     }
-    match first_loser(config, contents, floor) {
+    match first_loser(queue, floor) {
         None => Ok(None),
-        Some(place) => Ok(Some(String::from_str(alloc, config.names()[place].as_str())?)),
+        Some(place) => Ok(Some(String::from_str(alloc, queue.config.names()[place].as_str())?)),
     }
 }
 
 /// Returns the place of the first position whose name loses messages with this floor.
-fn first_loser(config: &Config, contents: &Contents, floor: u32) -> Option<usize>
-    requires { CanBeOpened config.now contents.now }
-    ensures found { IfSome result (λ place. IfSome (slice_get contents.now.positions place) (Loses contents.now floor)) }
-    ensures there { IfSome result (λ place. place + 1 ≤ length contents.now.positions) }
+fn first_loser(queue: &SavedQueue, floor: u32) -> Option<usize>
+    requires { CanBeOpened queue.now.config queue.now.contents }
+    ensures found { IfSome result (λ place. IfSome (slice_get queue.now.contents.positions place) (Loses queue.now.contents floor)) }
+    ensures there { IfSome result (λ place. place + 1 ≤ length queue.now.contents.positions) }
     ensures before { IfSome result (λ place.
-        AllByRecursion (λ other. ¬ Loses contents.now floor other) (take place contents.now.positions)) }
-    ensures none { result ≡ None → AllByRecursion (λ other. ¬ Loses contents.now floor other) contents.now.positions }
+        AllByRecursion (λ other. ¬ Loses queue.now.contents floor other) (take place queue.now.contents.positions)) }
+    ensures none { result ≡ None → AllByRecursion (λ other. ¬ Loses queue.now.contents floor other) queue.now.contents.positions }
 {
-    let positions = contents.positions.as_slice();
+    let positions = queue.contents.positions.as_slice();
     for place in 0..positions.len() {
-        if loses(config, contents, floor, positions[place]) {
+        if loses(queue, floor, positions[place]) {
             return Some(place);
         }
     }
@@ -128,28 +119,23 @@ fn first_loser(config: &Config, contents: &Contents, floor: u32) -> Option<usize
 }
 
 /// Returns whether a name at this position loses messages with this floor.
-fn loses(config: &Config, contents: &Contents, floor: u32, position: u64) -> bool
-    requires { CanBeOpened config.now contents.now }
-    ensures { IsTrue result ↔ Loses contents.now floor position }
+fn loses(queue: &SavedQueue, floor: u32, position: u64) -> bool
+    requires { CanBeOpened queue.now.config queue.now.contents }
+    ensures { IsTrue result ↔ Loses queue.now.contents floor position }
 {
-    let _cycles = config.cycles();
+    let _cycles = queue.config.cycles();
+    let contents = &queue.contents;
     messages_left(contents, floor, position) < messages_left(contents, contents.floor, position)
 }
 
 /// Plans what is done to a queue that gets this floor.
-fn plan_for(
-    alloc: Global,
-    config: &Config,
-    contents: &Contents,
-    images: Vec<CycleImage>,
-    floor: u32,
-) -> Result<Plan, AllocError>
-    requires paired { length contents.now.positions ≡ length config.now.names }
+fn plan_for(alloc: Global, queue: SavedQueue, floor: u32) -> Result<Plan, AllocError>
+    requires paired { length queue.contents.positions ≡ length queue.config.names }
     requires low { floor ≤ LAST_CYCLE }
-    ensures { IfOk result (IsPlan config.now contents.now images.items floor) }
+    ensures { IfOk result (IsPlan queue.config queue.contents queue.images.items floor) }
 {
-    let changes = changes_for(alloc, config, contents, floor)?;
-    let removed = names_below(alloc, images, floor)?;
+    let changes = changes_for(alloc, &queue, floor)?;
+    let removed = names_below(alloc, queue.images, floor)?;
     let text = lines_of(alloc, removed.as_slice())?;
     Ok(Plan {
         changes,
@@ -159,21 +145,17 @@ fn plan_for(
 }
 
 /// Returns the file `queue.cqc` with this floor, if the queue has another one.
-fn changes_for(
-    alloc: Global,
-    config: &Config,
-    contents: &Contents,
-    floor: u32,
-) -> Result<Vec<NewFile>, AllocError>
-    requires paired { length contents.now.positions ≡ length config.now.names }
+fn changes_for(alloc: Global, queue: &SavedQueue, floor: u32) -> Result<Vec<NewFile>, AllocError>
+    requires paired { length queue.now.contents.positions ≡ length queue.now.config.names }
     requires low { floor ≤ LAST_CYCLE }
-    ensures { IfOk result (λ changes. AreChanges config.now contents.now floor (map named_file changes.items)) }
+    ensures { IfOk result (λ changes. AreChanges queue.now.config queue.now.contents floor (map named_file changes.items)) }
 {
     let mut changes = Vec::new(alloc);
-    if floor != contents.floor {
+    if floor != queue.contents.floor {
+        let positions = queue.contents.positions.as_slice();
         changes.push(NewFile {
             name: String::from_str(alloc, CONFIG_FILE)?,
-            bytes: write_config(alloc, config, contents.positions.as_slice(), floor)?,
+            bytes: write_config(alloc, &queue.config, positions, floor)?,
         })?;
     }
     Ok(changes)

@@ -7,7 +7,7 @@ use Rattle.cq_trim.proofs.planning.decision_for.Goals as goal
 
 pub plan_for-requires-clause-low : goal.plan_for-requires-clause-low
 plan_for-requires-clause-low c =
-    subst (λ (n : ℕ). n ≤ LAST_CYCLE) (sym c.in_ok-floor.ensures.floor.floor_is) (floor_low c.args.config.now c.args.contents.now _ c.requires.openable)
+    subst (λ (n : ℕ). n ≤ LAST_CYCLE) (sym c.in_ok-floor.ensures.floor.floor_is) (floor_low c.args.queue.config c.args.queue.contents _ c.requires.openable)
 
 pub returns-in_ok-plan_for-in-None-clause-decides : goal.returns-in_ok-plan_for-in-None-clause-decides
 returns-in_ok-plan_for-in-None-clause-decides c = record {
@@ -15,7 +15,7 @@ returns-in_ok-plan_for-in-None-clause-decides c = record {
   floor_is = c.in_ok-floor.ensures.floor;
   decided = record {
     unless_forced = subst
-        (λ (name : Option (String Global)). IsNameAtLoss c.args.settings.now.force c.args.config.now c.args.contents.now c.in_ok-floor.floor (option_map string_bytes name))
+        (λ (name : Option (String Global)). IsNameAtLoss c.args.settings.now.force c.args.queue.config c.args.queue.contents c.in_ok-floor.floor (option_map string_bytes name))
         c.in-None.is c.in_ok-name.ensures;
     plan_is = c.in_ok-plan_for-in-None.ensures;
   };

@@ -7,7 +7,7 @@ use Rattle.cq_trim.proofs.planning.name_at_loss.Goals as goal
 
 pub bounds-names-place : goal.bounds-names-place
 bounds-names-place c =
-    let as_many : length c.names.result.now ≡ length c.args.contents.now.positions =
+    let as_many : length c.names.result.now ≡ length c.args.queue.now.contents.positions =
     sym (length-map c.names.result.now string_bytes) ∙ (ap length c.names.ensures.value ∙ sym c.requires.paired) in
     omega (arith, as_many, c.in-Some.ensures.there)
 
@@ -15,7 +15,7 @@ pub returns-in_ok-from_str-in-Some : goal.returns-in_ok-from_str-in-Some
 returns-in_ok-from_str-in-Some c =
     let place = c.in-Some.place in
     let names = c.names.result.now in
-    let positions = c.args.contents.now.positions in
+    let positions = c.args.queue.now.contents.positions in
     let as_many : length names ≡ length positions = sym (length-map names string_bytes) ∙ (ap length c.names.ensures.value ∙ sym c.requires.paired) in
     let low : place < length positions = omega (arith, c.in-Some.ensures.there) in
     let placed = slice_get-get_or positions place 0 low in
@@ -29,7 +29,7 @@ returns-in_ok-from_str-in-Some c =
         named = ap (λ (all : List (List ℕ)). slice_get all place) (sym c.names.ensures.value)
             ∙ (slice_get-map string_bytes names place ∙ (ap (option_map string_bytes) named ∙ ap Some (sym copied)));
         placed = placed;
-        loses = subst (λ (position : Option ℕ). IfSome position (Loses c.args.contents.now c.args.floor)) placed c.in-Some.ensures.found;
+        loses = subst (λ (position : Option ℕ). IfSome position (Loses c.args.queue.now.contents c.args.floor)) placed c.in-Some.ensures.found;
         before = c.in-Some.ensures.before;
       },
     )

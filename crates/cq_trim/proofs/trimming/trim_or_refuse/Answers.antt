@@ -24,7 +24,7 @@ returns-in_err-carry_out-in-Trim-clause-trims g c =
     let settings = c.args.settings.now in
     let old = g.W.Write.contents c.args.output.now in
     let from = subst (Decides settings (files c.args.folder.now)) c.in-Trim.is c.in_ok-name.ensures.decides in
-    let kept = c.in_ok-name.ensures.kept in
+    let kept = c.in_ok-name.ensures.enters.kept in
     let failed = c.in_err-carry_out-in-Trim.ensures in
     trims_not settings (files c.args.folder.now) (files c.carry_out.new.folder) old old _ _ c.from_residual-in_err-carry_out-in-Trim.ensures.1
     (record {
@@ -52,7 +52,7 @@ returns-in_err-print_outside-in-Trim-clause-trims g c =
     let from = subst (Decides settings (files c.args.folder.now)) c.in-Trim.is c.in_ok-name.ensures.decides in
     let left = subst (λ (after : Option Files). Leaves settings.dry_run (map named_file plan.changes.items) (texts plan.removed.items) (files c.decide.new.folder) after)
     (sym c.end.ensures.kept) c.in_ok-carry_out-in-Trim.ensures.left in
-    let done = trimmed_by settings (files c.args.folder.now) (files c.decide.new.folder) (files c.end.new.self) plan _ from c.in_ok-name.ensures.kept left c.as_slice.ensures.value in
+    let done = trimmed_by settings (files c.args.folder.now) (files c.decide.new.folder) (files c.end.new.self) plan _ from c.in_ok-name.ensures.enters.kept left c.as_slice.ensures.value in
     let failed = c.in_err-print_outside-in-Trim.ensures in
     trims_not settings (files c.args.folder.now) (files c.end.new.self) _ _ _ _ c.from_residual-in_err-print_outside-in-Trim.ensures.1
     (record {
@@ -81,7 +81,7 @@ returns-in-Refuse-clause-trims g c =
     let files = g.F.Folder.files in
     record {
       done = trims_none c.args.settings.now (files c.args.folder.now) (files c.decide.new.folder) (g.W.Write.contents c.args.output.now) _ _
-          (subst (Decides c.args.settings.now (files c.args.folder.now)) c.in-Refuse.is c.in_ok-name.ensures.decides) refl c.in_ok-name.ensures.kept;
+          (subst (Decides c.args.settings.now (files c.args.folder.now)) c.in-Refuse.is c.in_ok-name.ensures.decides) refl c.in_ok-name.ensures.enters.kept;
       left = tt;
       silent = tt;
       broken = tt;
@@ -98,7 +98,7 @@ returns-in_ok-print_outside-in-Trim-clause-trims g c =
     record {
       done = (
         _,
-        trimmed_by settings (files c.args.folder.now) (files c.decide.new.folder) (files c.end.new.self) plan _ from c.in_ok-name.ensures.kept left c.as_slice.ensures.value,
+        trimmed_by settings (files c.args.folder.now) (files c.decide.new.folder) (files c.end.new.self) plan _ from c.in_ok-name.ensures.enters.kept left c.as_slice.ensures.value,
         c.in_ok-print_outside-in-Trim.ensures.written,
       );
       left = tt;
@@ -110,7 +110,7 @@ pub returns-in_err-name-clause-trims : goal.returns-in_err-name-clause-trims
 returns-in_err-name-clause-trims g c =
     let files = g.F.Folder.files in
     let old = g.W.Write.contents c.args.output.now in
-    let kept = c.in_err-name.ensures.kept in
+    let kept = c.in_err-name.ensures.enters.kept in
     trims_not c.args.settings.now (files c.args.folder.now) (files c.decide.new.folder) old old c.from_residual.result c.in_err-name.field-0.0 c.from_residual.ensures.1
     (record { unsaved = λ other. kept; scarce = λ memory. kept; whole = inl kept })
     (λ unwritten. Keeps-refl old)
@@ -122,7 +122,7 @@ returns-in_err-name-clause-version g c =
 
 pub returns-in_err-name-clause-counted : goal.returns-in_err-name-clause-counted
 returns-in_err-name-clause-counted g c =
-    counts_passed _ _ c.in_err-name.field-0.0 c.from_residual.result c.in_err-name.ensures.counted c.from_residual.ensures.1
+    counts_passed _ _ c.in_err-name.field-0.0 c.from_residual.result c.in_err-name.ensures.enters.counted c.from_residual.ensures.1
 
 pub returns-in_err-carry_out-in-Trim-clause-version : goal.returns-in_err-carry_out-in-Trim-clause-version
 returns-in_err-carry_out-in-Trim-clause-version g c =
@@ -132,7 +132,7 @@ pub returns-in_err-carry_out-in-Trim-clause-counted : goal.returns-in_err-carry_
 returns-in_err-carry_out-in-Trim-clause-counted g c =
     let fault = c.in_err-carry_out-in-Trim.field-0.0 in
     counts_passed _ _ fault c.from_residual-in_err-carry_out-in-Trim.result
-    (counts_from _ _ _ (Err fault) c.in_ok-name.ensures.counted.later c.in_err-carry_out-in-Trim.ensures.counted)
+    (counts_from _ _ _ (Err fault) c.in_ok-name.ensures.enters.counted.later c.in_err-carry_out-in-Trim.ensures.counted)
     c.from_residual-in_err-carry_out-in-Trim.ensures.1
 
 pub returns-in_err-print_outside-in-Trim-clause-version : goal.returns-in_err-print_outside-in-Trim-clause-version
