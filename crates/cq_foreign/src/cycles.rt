@@ -1,9 +1,11 @@
 //! Cycles of moments and of names.
+ghost use Rattle.std.specs.Prelude.{◌≡◌, IfErr, IfOk};
 ghost use Rattle.cq_foreign.specs.Cycles.{CopiesName, FindsCycle, NamesCycle};
+ghost use Rattle.cq_foreign.specs.Rolls.{HasNoRoll, roll_number};
 
 use crate::copying::{Copied, copy_into};
 use crate::rolls::roll_of;
-use cq_cycle::{cycle_named, cycle_of, has_cycle, name_of};
+use cq_cycle::{Roll, cycle_named, cycle_of, has_cycle, name_of};
 use std::alloc::Global;
 
 /// Why there is no such cycle, or why its name was not copied.
@@ -28,9 +30,7 @@ pub enum CycleFault {
 pub fn cycle_at(roll: u32, epoch: u64, moment: u64) -> Result<u32, CycleFault>
     ensures { FindsCycle roll epoch moment result }
 {
-    let Some(roll) = roll_of(roll) else {
-        return Err(CycleFault::NoSuchRoll);
-    };
+    let roll = known_roll(roll)?;
     match cycle_of(roll, epoch, moment) {
         Ok(cycle) => Ok(cycle),
         Err(_) => Err(CycleFault::NoSuchCycle),
@@ -45,9 +45,7 @@ pub fn cycle_at(roll: u32, epoch: u64, moment: u64) -> Result<u32, CycleFault>
 pub fn cycle_with_name(roll: u32, epoch: u64, name: &[u8]) -> Result<u32, CycleFault>
     ensures { NamesCycle roll epoch name.now result }
 {
-    let Some(roll) = roll_of(roll) else {
-        return Err(CycleFault::NoSuchRoll);
-    };
+    let roll = known_roll(roll)?;
     let Ok(name) = str::from_utf8(name) else {
         return Err(CycleFault::NoSuchCycle);
     };
@@ -73,14 +71,26 @@ pub fn name_into(
 ) -> Result<Copied, CycleFault>
     ensures { CopiesName roll epoch cycle room.old room.new result }
 {
-    let Some(roll) = roll_of(roll) else {
-        return Err(CycleFault::NoSuchRoll);
-    };
+    let roll = known_roll(roll)?;
     if !has_cycle(roll, epoch, cycle) {
         return Err(CycleFault::NoSuchCycle);
     }
     match name_of(alloc, roll, epoch, cycle) {
         Ok(name) => Ok(copy_into(name.as_bytes(), room)),
         Err(_) => Err(CycleFault::OutOfMemory),
+    }
+}
+
+/// Returns the roll that has this number.
+///
+/// Errors:
+/// - `NoSuchRoll`: no roll has it.
+fn known_roll(number: u32) -> Result<Roll, CycleFault>
+    ensures found { IfOk result (λ roll. roll_number roll ≡ number) }
+    ensures fault { IfErr result (λ fault. (fault ≡ CycleFault.NoSuchRoll) × HasNoRoll number) }
+{
+    match roll_of(number) {
+        Some(roll) => Ok(roll),
+        None => Err(CycleFault::NoSuchRoll),
     }
 }
