@@ -1,5 +1,5 @@
 -- How a command ends that trims a queue.
-use Rattle.std.proofs.Common.{◌≡◌, ◌≢◌, ◌⊎◌, ℕ, Bool, true, false, List, [], ap, inl, inr, map, refl, subst, sym, ◌∙◌}
+use Rattle.std.proofs.Common.{◌≡◌, ◌≢◌, ◌⊎◌, ℕ, Bool, Global, true, false, List, [], ap, inl, inr, map, refl, subst, sym, ◌∙◌}
 use Rattle.std.proofs.KnownBytes.{Keeps-refl}
 use Rattle.std.specs.Io.KnownBytes.{Keeps}
 use Rattle.std.specs.Prelude.{Option, None, Some, IfSome, IsErrAnd, Result, Ok, Err, String, string_bytes}
@@ -15,7 +15,9 @@ use Rattle.cq_text.specs.declared.fault.ToolFault.{ToolFault}
 use Rattle.cq_text.specs.declared.fault.ToolFault.TheVariants.{WriteFault}
 use Rattle.cq_trim.specs.Plans.{Decides, IsAllowed, IsUndecided}
 use Rattle.cq_trim.specs.Trimmed.{IsFirstLoser, KeepsOrLeaves, Leaves, first_touched}
-use Rattle.cq_trim.specs.Trims.{IsOutcome, IsTrimFault, IsTrimmed, Trims, told_name}
+use Rattle.cq_trim.specs.Trims.{IsOutcome, IsTrimFault, IsTrimmed, Trims, outcome_of}
+use Rattle.cq_trim.specs.declared.fault.TrimFault.{TrimFault}
+use Rattle.cq_trim.specs.declared.fault.TrimFault.TheVariants.{MessagesLeft, Tool}
 use Rattle.cq_trim.specs.declared.planning.Decision.{Decision}
 use Rattle.cq_trim.specs.declared.planning.Decision.TheVariants.{Refuse, Trim}
 use Rattle.cq_trim.specs.declared.planning.Plan.{Plan}
@@ -30,7 +32,7 @@ nothing_left a changes removed none empty =
     by None = tt
     by (Some files) = λ name. refl
 
--- what was saved behind calls that keep all files
+-- what was saved after calls that keep all files
 kept_then_saved : (a b c : Option Files) (changes : List NamedFile) (removed : List (List ℕ)) → KeepsFiles a b → SavesAndRemoves b c changes removed
     → SavesAndRemoves a c changes removed
 kept_then_saved None b c changes removed kept done = tt
@@ -110,12 +112,22 @@ unsaved settings a plan fault from save saves told = by a from.held
       });
     })
 
+-- a fault of the command's tools that is passed on is what the command came to
+pub comes_to : {T : Type 0} (result : Result T TrimFault) (fault : ToolFault) → IsErrAnd result (λ passed. passed ≡ Tool fault)
+    → IsErrAnd (outcome_of result) (λ passed. passed ≡ fault)
+comes_to (Ok value) fault is = absurd is
+comes_to (Err (MessagesLeft name)) fault is = absurd (other name fault is)
+  where
+    other : (name : String Global) (fault : ToolFault) → MessagesLeft name ≡ Tool fault → ⊥
+    other name fault is = cc
+comes_to (Err (Tool passed)) fault is = cc
+
 -- how a command ends that was refused by a fault
-pub trims_not : {A : Type 0} (settings : TrimSettings) (before after : Option Files) (old new : Option (List ℕ)) (result : Result (Option (String A)) ToolFault)
+pub trims_not : (settings : TrimSettings) (before after : Option Files) (old new : Option (List ℕ)) (result : Result (Option (List ℕ)) ToolFault)
     (fault : ToolFault) → IsErrAnd result (λ passed. passed ≡ fault)
     → KeepsOrSaves before after ((text : List ℕ) × IsTrimmed settings before after text) fault → (fault ≢ WriteFault → Keeps old new)
     → (fault ≡ WriteFault → (text : List ℕ) × IsTrimmed settings before after text × AppendsBeginning old new text)
-    → Trims settings before after old new (told_name result)
+    → Trims settings before after old new result
 trims_not settings before after old new (Ok name) fault is left silent broken = absurd is
 trims_not settings before after old new (Err passed) fault is left silent broken = record {
   done = tt;

@@ -1,5 +1,5 @@
 -- How `trim` ends.
-use Rattle.std.specs.Prelude.{◌≡◌, ◌≢◌, ◌⊎◌, ℕ, List, false, Option, None, Some, String, Result, Ok, Err, IfErr, IfOk, IfSome, option_map, string_bytes}
+use Rattle.std.specs.Prelude.{◌≡◌, ◌≢◌, ◌⊎◌, ℕ, List, false, Option, None, Some, Result, Ok, Err, IfErr, IfOk, IfSome, option_map, string_bytes}
 use Rattle.std.specs.Io.KnownBytes.{Appends, Keeps}
 use Rattle.cq_folder.specs.Folder.{Files, KeepsFiles, NamedFile}
 use Rattle.cq_files.specs.FolderFaults.{IsSaveFault, TellsFile}
@@ -83,8 +83,3 @@ abbrev pub outcome_of : {T : Type 0} → Result T TrimFault → Result (Option (
 outcome_of (Ok done) = Ok None
 outcome_of (Err (MessagesLeft name)) = Ok (Some (string_bytes name))
 outcome_of (Err (Tool fault)) = Err fault
-
--- the same of a name that may be there
-abbrev pub told_name : {A : Type 0} → Result (Option (String A)) ToolFault → Result (Option (List ℕ)) ToolFault
-told_name (Ok name) = Ok (option_map string_bytes name)
-told_name (Err fault) = Err fault

@@ -3,7 +3,7 @@
 ghost use Rattle.std.specs.Prelude.{◌≡◌, IfErr, IfSome};
 ghost use Rattle.cq_files.specs.Counted.{CountsFaults};
 ghost use Rattle.cq_files.specs.FolderFaults.{MindsVersion};
-ghost use Rattle.cq_trim.specs.Trims.{IsTrimFault, Trims, outcome_of, told_name};
+ghost use Rattle.cq_trim.specs.Trims.{IsTrimFault, Trims, outcome_of};
 
 use crate::TrimFault;
 use crate::planning::{Decision, decide};
@@ -11,7 +11,6 @@ use crate::saving::carry_out;
 use cq_files::print_outside;
 use cq_folder::Folder;
 use cq_orders::TrimSettings;
-use cq_text::ToolFault;
 use std::alloc::Global;
 use std::io::Write;
 
@@ -47,32 +46,13 @@ pub fn trim<F: Folder, W: Write>(
     ensures version { IfSome (F.files folder.old) (λ files. MindsVersion files (outcome_of result)) }
     ensures counted { CountsFaults (F.failed folder.old) (F.failed folder.new) (outcome_of result) }
 {
-    match trim_or_refuse(alloc, folder, settings, output)? {
-        None => Ok(()),
-        Some(name) => Err(TrimFault::MessagesLeft(name)),
-    }
-}
-
-/// Trims a queue, or returns the name that would lose messages.
-fn trim_or_refuse<F: Folder, W: Write>(
-    alloc: Global,
-    folder: &mut F,
-    settings: &TrimSettings,
-    output: &mut W,
-) -> Result<Option<String>, ToolFault>
-    ensures trims { Trims settings.now (F.files folder.old) (F.files folder.new) (W.contents output.old) (W.contents output.new)
-        (told_name result) }
-    ensures cause { IfErr result (λ fault. IfSome (F.files folder.old) (λ files. IsTrimFault settings.now files fault)) }
-    ensures version { IfSome (F.files folder.old) (λ files. MindsVersion files result) }
-    ensures counted { CountsFaults (F.failed folder.old) (F.failed folder.new) result }
-{
     match decide(alloc, folder, settings)? {
-        Decision::Refuse(name) => Ok(Some(name)),
+        Decision::Refuse(name) => Err(TrimFault::MessagesLeft(name)),
         Decision::Trim(plan) => {
             carry_out(alloc, folder, &plan, settings.dry_run)?;
             folder.end();
             print_outside(folder, output, plan.text.as_slice())?;
-            Ok(None)
+            Ok(())
         }
     }
 }
