@@ -14,9 +14,11 @@ use Rattle.cq_files.specs.Saved.{first_file}
 use Rattle.cq_repair.specs.Found.{IsFound, IsOldOrUnread}
 use Rattle.cq_repair.specs.Kept.{AreChanges, both, image, old_file}
 use Rattle.cq_repair.specs.Plans.{Decides, HasOther, IsCutShort, IsPlanCutShort, IsPlanned, IsUndecided, IsUnlessTaken, IsUnread, Leaves, writes_of}
-use Rattle.cq_repair.specs.Repairs.{IsRepairFault, IsRepaired, Repairs}
+use Rattle.cq_repair.specs.Repairs.{IsRepairFault, IsRepaired, Repairs, outcome_of}
 use Rattle.cq_repair.specs.declared.deciding.Decision.{Decision}
 use Rattle.cq_repair.specs.declared.deciding.Decision.TheVariants.{Refuse, Repair}
+use Rattle.cq_repair.specs.declared.fault.RepairFault.{RepairFault}
+use Rattle.cq_repair.specs.declared.fault.RepairFault.TheVariants.{Refused, Tool}
 use Rattle.cq_repair.specs.declared.fault.RepairRefusal.{RepairRefusal}
 use Rattle.cq_repair.specs.declared.fault.RepairRefusal.TheVariants.{NoFault, ThereAlready}
 use Rattle.cq_repair.specs.declared.finding.Found.{Found}
@@ -187,6 +189,16 @@ pub undone : (dry : Bool) (file : List ℕ) (a b : Option Files) (fault : ToolFa
     → IfSome a (λ files. IsUndecided file files fault) → IfSome a (λ files. IsRepairFault dry file files b fault)
 undone dry file None b fault kept cause = tt
 undone dry file (Some a) b fault kept cause = inl (cause, kept)
+
+-- a fault of the command's tools that is passed on is what the command came to
+pub comes_to : {T : Type 0} (result : Result T RepairFault) (fault : ToolFault) → IsErrAnd result (λ passed. passed ≡ Tool fault)
+    → IsErrAnd (outcome_of result) (λ passed. passed ≡ fault)
+comes_to (Ok value) fault is = absurd is
+comes_to (Err (Refused refusal)) fault is = absurd (other refusal fault is)
+  where
+    other : (refusal : RepairRefusal) (fault : ToolFault) → Refused refusal ≡ Tool fault → ⊥
+    other refusal fault is = cc
+comes_to (Err (Tool passed)) fault is = cc
 
 -- how a command ends that was refused by a fault
 pub repairs_not : (dry : Bool) (file : List ℕ) (before after : Option Files) (old new : Option (List ℕ))

@@ -4,12 +4,11 @@ ghost use Rattle.std.specs.Prelude.{IfErr, IfSome};
 ghost use Rattle.cq_files.specs.Counted.{CountsFaults};
 ghost use Rattle.cq_repair.specs.Repairs.{IsRepairFault, Repairs, outcome_of};
 
+use crate::RepairFault;
 use crate::deciding::{Decision, decide};
 use crate::keeping::carry_out;
-use crate::{RepairFault, RepairRefusal};
 use cq_files::print_outside;
 use cq_folder::Folder;
-use cq_text::ToolFault;
 use std::alloc::Global;
 use std::io::Write;
 
@@ -53,33 +52,13 @@ pub fn repair<F: Folder, W: Write>(
         IsRepairFault dry_run file.now files (F.files folder.new) fault)) }
     ensures counted { CountsFaults (F.failed folder.old) (F.failed folder.new) (outcome_of result) }
 {
-    match repair_or_refuse(alloc, folder, file, dry_run, output)? {
-        None => Ok(()),
-        Some(refusal) => Err(RepairFault::Refused(refusal)),
-    }
-}
-
-/// Repairs an image, or returns why it is not repaired.
-fn repair_or_refuse<F: Folder, W: Write>(
-    alloc: Global,
-    folder: &mut F,
-    file: &str,
-    dry_run: bool,
-    output: &mut W,
-) -> Result<Option<RepairRefusal>, ToolFault>
-    ensures repairs { Repairs dry_run file.now (F.files folder.old) (F.files folder.new) (W.contents output.old)
-        (W.contents output.new) result }
-    ensures cause { IfErr result (λ fault. IfSome (F.files folder.old) (λ files.
-        IsRepairFault dry_run file.now files (F.files folder.new) fault)) }
-    ensures counted { CountsFaults (F.failed folder.old) (F.failed folder.new) result }
-{
     match decide(alloc, folder, file, dry_run)? {
-        Decision::Refuse(refusal) => Ok(Some(refusal)),
+        Decision::Refuse(refusal) => Err(RepairFault::Refused(refusal)),
         Decision::Repair(plan) => {
             carry_out(alloc, folder, &plan, dry_run)?;
             folder.end();
             print_outside(folder, output, plan.text.as_slice())?;
-            Ok(None)
+            Ok(())
         }
     }
 }
