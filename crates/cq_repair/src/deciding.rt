@@ -3,12 +3,13 @@
 ghost use Rattle.std.specs.Prelude.{◌≡◌, ◌≢◌, ◌↔◌, ◌⊎◌, IfErr, IfOk, IfSome, IsSome, IsSomeAnd, IsTrue, OnErr, OnOk, Some};
 ghost use Rattle.cq_folder.specs.Folder.{KeepsFiles, named_file};
 ghost use Rattle.cq_files.specs.Counted.{CountsFaults};
+ghost use Rattle.cq_files.specs.Looking.{Stays};
 ghost use Rattle.cq_repair.specs.Plans.{Decides, IsUndecided, IsUnlessTaken, IsUnread, access_for};
 
 use crate::RepairRefusal;
 use crate::finding::find;
 use crate::planning::{Plan, plan_for};
-use cq_folder::{Access, Folder, FolderFault};
+use cq_folder::{Access, Folder, FolderFault, NewFile};
 use cq_text::ToolFault;
 use std::alloc::Global;
 
@@ -61,38 +62,24 @@ fn unless_taken<F: Folder>(alloc: Global, folder: &mut F, plan: Plan) -> Result<
     ensures decides { IfOk result (IsUnlessTaken plan (F.files folder.old)) }
     ensures fault { IfErr result (λ fault. (fault ≡ ToolFault.OutOfMemory) ⊎ IsUnread (named_file plan.old).0 fault) }
     ensures taken { OnErr result (IsTrue plan.is_taken) }
-    ensures kept { KeepsFiles (F.files folder.old) (F.files folder.new) }
-    ensures counted { CountsFaults (F.failed folder.old) (F.failed folder.new) result }
-    ensures inside { F.entered folder.new ≡ F.entered folder.old }
+    ensures stays { Stays F.files F.failed F.entered folder.old folder.new result }
 {
-    if plan.is_taken
-        && !holds(
-            alloc,
-            folder,
-            plan.old.name.as_str(),
-            plan.old.bytes.as_slice(),
-        )?
-    {
+    if plan.is_taken && !holds(alloc, folder, &plan.old)? {
         return Ok(Decision::Refuse(RepairRefusal::ThereAlready(plan.old.name)));
     }
     Ok(Decision::Repair(plan))
 }
 
-/// Returns whether a file that was listed has these bytes.
-fn holds<F: Folder>(
-    alloc: Global,
-    folder: &mut F,
-    name: &str,
-    bytes: &[u8],
-) -> Result<bool, ToolFault>
+/// Returns whether the file of this name, which was listed, has these bytes.
+fn holds<F: Folder>(alloc: Global, folder: &mut F, file: &NewFile) -> Result<bool, ToolFault>
     requires { IsSome (F.entered folder.old) }
     ensures held { IfOk result (λ same. IfSome (F.files folder.old) (λ files.
-        IsSomeAnd (files name.now) (λ held. IsTrue same ↔ (held ≡ bytes.now)))) }
-    ensures fault { IfErr result (λ fault. (fault ≡ ToolFault.OutOfMemory) ⊎ IsUnread name.now fault) }
-    ensures kept { KeepsFiles (F.files folder.old) (F.files folder.new) }
-    ensures counted { CountsFaults (F.failed folder.old) (F.failed folder.new) result }
-    ensures inside { F.entered folder.new ≡ F.entered folder.old }
+        IsSomeAnd (files (named_file file.now).0) (λ held. IsTrue same ↔ (held ≡ (named_file file.now).1)))) }
+    ensures fault { IfErr result (λ fault. (fault ≡ ToolFault.OutOfMemory) ⊎ IsUnread (named_file file.now).0 fault) }
+    ensures stays { Stays F.files F.failed F.entered folder.old folder.new result }
 {
+    let name = file.name.as_str();
+    let bytes = file.bytes.as_slice();
     match folder.read(alloc, name, bytes.len()) {
         Ok(held) => Ok(held.as_slice() == bytes),
         Err(FolderFault::TooLarge) => Ok(false),

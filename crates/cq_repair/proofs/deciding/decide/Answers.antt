@@ -41,7 +41,7 @@ returns-in-Some-clause-cause g c =
 pub returns-in-Some-clause-kept : goal.returns-in-Some-clause-kept
 returns-in-Some-clause-kept g c =
     keeps-trans (g.F.Folder.files c.args.folder.now) (g.F.Folder.files c.find.new.folder) (g.F.Folder.files c.unless_taken.new.folder)
-    c.in_ok-found.ensures.looks.kept c.unless_taken.ensures.kept
+    c.in_ok-found.ensures.looks.kept c.unless_taken.ensures.stays.kept
 
 pub returns-in_err-found-clause-cause : goal.returns-in_err-found-clause-cause
 returns-in_err-found-clause-cause g c =
@@ -80,4 +80,4 @@ returns-in-Some-clause-unprinted g c = unprinted (named_file c.in-Some.plan.old)
 
 pub returns-in-Some-clause-counted : goal.returns-in-Some-clause-counted
 returns-in-Some-clause-counted g c =
-    counts_from _ _ _ c.unless_taken.result c.in_ok-found.ensures.looks.counted.later c.unless_taken.ensures.counted
+    counts_from _ _ _ c.unless_taken.result c.in_ok-found.ensures.looks.counted.later c.unless_taken.ensures.stays.counted
