@@ -1,5 +1,5 @@
 -- The command line of the program, in the words of clap.
-use Rattle.std.specs.Prelude.{◌≡◌, ◌&&◌, ℕ, ◌-◌, ◌^◌, List, [], ◌∷◌, true, false, codes, fold, Some, ⊤}
+use Rattle.std.specs.Prelude.{◌≡◌, ◌&&◌, ℕ, ◌-◌, ◌^◌, List, [], ◌∷◌, ◌++◌, true, false, codes, fold, Some, ⊤}
 use Rattle.std.specs.Borrow.{Bor}
 use Rattle.clap.specs.Words.{App, Rule, app_of, new_app, new_rule, rule_of, with_rule, with_subcommand}
 use Rattle.clap.specs.Walk.{is_empty}
@@ -264,6 +264,10 @@ Pairwise R [] [] = ⊤
 Pairwise R (x ∷ xs) (y ∷ ys) = R x y × Pairwise R xs ys
 Pairwise R [] (y ∷ ys) = ⊥
 Pairwise R (x ∷ xs) [] = ⊥
+
+-- one item is added, of which this holds
+abbrev pub AddsOne : {A : Type 0} → (A → Type 0) → List A → List A → Type 0
+AddsOne {A} P before after = (item : A) × (after ≡ before ++ item ∷ []) × P item
 
 -- the arguments follow the rules of these, in their order
 abbrev pub FollowAll : List Arg → List Argument → Type 0

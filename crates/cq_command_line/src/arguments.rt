@@ -1,7 +1,7 @@
 //! The arguments of a command.
-ghost use Rattle.std.specs.Prelude.{◌≡◌, [], false, IfOk};
+ghost use Rattle.std.specs.Prelude.{◌≡◌, [], false, IfOk, OnOk};
 ghost use Rattle.clap.specs.Words.{rule_of};
-ghost use Rattle.cq_command_line.specs.CommandLine.{FollowAll, Follows, rule_for};
+ghost use Rattle.cq_command_line.specs.CommandLine.{AddsOne, FollowAll, Follows, rule_for};
 ghost use Rattle.cq_command_line.specs.CommandLine.{against, between_rule, count_rule, flag_rule, number_rule, option_between_rule, option_rule, word_rule, words_rule, maybe_rule};
 
 use clap::builder::ValueParser;
@@ -43,9 +43,21 @@ pub(crate) fn args_of<'a>(alloc: Global, arguments: &[Argument]) -> Result<Vec<A
 {
     let mut args = Vec::new(alloc);
     for argument in arguments {
-        args.push(arg(alloc, *argument)?)?;
+        push_arg(alloc, &mut args, *argument)?;
     }
     Ok(args)
+}
+
+/// Adds the argument as a value of `clap`.
+fn push_arg<'a>(
+    alloc: Global,
+    args: &mut Vec<Arg<'a>>,
+    argument: Argument,
+) -> Result<(), AllocError>
+    ensures { OnOk result (AddsOne (λ arg. Follows arg (rule_for argument)) args.old.items args.new.items) }
+{
+    args.push(arg(alloc, argument)?)?;
+    Ok(())
 }
 
 /// Returns the argument as a value of `clap`.

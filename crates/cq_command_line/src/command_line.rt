@@ -1,6 +1,6 @@
 //! The program's commands and their arguments, as `clap` is given them.
-ghost use Rattle.std.specs.Prelude.{IfOk};
-ghost use Rattle.cq_command_line.specs.CommandLine.{Makes, command_line, program};
+ghost use Rattle.std.specs.Prelude.{◌≡◌, IfOk};
+ghost use Rattle.cq_command_line.specs.CommandLine.{Makes, command_line, program, with_commands};
 
 use crate::arguments::Argument;
 use crate::commands::{Description, commands};
@@ -14,14 +14,18 @@ const VERSION: &str = "0.1.0";
 pub(crate) fn command_line<'a>(alloc: Global) -> Result<Command<'a>, AllocError>
     ensures { IfOk result (λ command. Makes command command_line) }
 {
-    let commands = commands(
-        alloc,
-        &[
-            &ECHO, &CYCLE, &RACE, &EXPLAIN, &INIT, &NEW, &WRITE, &LOG, &READ, &TAKE, &DROP, &TRIM,
-            &NAME, &MIGRATE, &STAT, &CHECK, &DUMP, &SALVAGE, &REPAIR,
-        ],
-    )?;
+    let commands = commands(alloc, &descriptions())?;
     program(alloc).subcommands(commands)
+}
+
+/// Returns what the commands are, in the order in which help lists them.
+fn descriptions() -> [&'static Description; 19]
+    ensures { with_commands program result ≡ command_line }
+{
+    [
+        &ECHO, &CYCLE, &RACE, &EXPLAIN, &INIT, &NEW, &WRITE, &LOG, &READ, &TAKE, &DROP, &TRIM,
+        &NAME, &MIGRATE, &STAT, &CHECK, &DUMP, &SALVAGE, &REPAIR,
+    ]
 }
 
 /// Returns the program without its commands.

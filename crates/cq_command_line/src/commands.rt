@@ -1,6 +1,6 @@
 //! Commands with their arguments.
-ghost use Rattle.std.specs.Prelude.{IfOk};
-ghost use Rattle.cq_command_line.specs.CommandLine.{Makes, MakesAll, bare_command, command_for};
+ghost use Rattle.std.specs.Prelude.{IfOk, OnOk};
+ghost use Rattle.cq_command_line.specs.CommandLine.{AddsOne, Makes, MakesAll, bare_command, command_for};
 
 use crate::arguments::{Argument, args_of};
 use clap::Command;
@@ -24,9 +24,21 @@ pub(crate) fn commands<'a>(
 {
     let mut commands = Vec::new(alloc);
     for description in descriptions {
-        commands.push(command(alloc, description)?)?;
+        push_command(alloc, &mut commands, description)?;
     }
     Ok(commands)
+}
+
+/// Adds the command with this description.
+fn push_command<'a>(
+    alloc: Global,
+    commands: &mut Vec<Command<'a>>,
+    description: &Description,
+) -> Result<(), AllocError>
+    ensures { OnOk result (AddsOne (λ command. Makes command (command_for description.now)) commands.old.items commands.new.items) }
+{
+    commands.push(command(alloc, description)?)?;
+    Ok(())
 }
 
 /// Returns the command with this description.

@@ -6,8 +6,9 @@ use Rattle.cq_command_line.proofs.arguments.args_of.Goals as goal
 
 pub loop-argument-preserved : goal.loop-argument-preserved
 loop-argument-preserved c =
-    pushed _ c.loop-argument.args.items c.push.new.self.items c.args.arguments.now c.loop-argument.argument-index c.in_ok-arg.field-0 _
-    c.loop-argument-test.true c.in_ok-push.ensures.items c.loop-argument.invariant c.in_ok-arg.ensures
+    let added = c.in_ok-push_arg.ensures in
+    pushed _ c.loop-argument.args.items c.push_arg.new.args.items c.args.arguments.now c.loop-argument.argument-index added.0 _
+    c.loop-argument-test.true added.1 c.loop-argument.invariant added.2
 
 pub returns : goal.returns
 returns c =

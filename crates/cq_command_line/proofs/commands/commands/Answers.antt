@@ -6,8 +6,9 @@ use Rattle.cq_command_line.proofs.commands.commands.Goals as goal
 
 pub loop-description-preserved : goal.loop-description-preserved
 loop-description-preserved c =
-    pushed _ c.loop-description.commands.items c.push.new.self.items c.args.descriptions.now c.loop-description.description-index c.in_ok-command.field-0 _
-    c.loop-description-test.true c.in_ok-push.ensures.items c.loop-description.invariant c.in_ok-command.ensures
+    let added = c.in_ok-push_command.ensures in
+    pushed _ c.loop-description.commands.items c.push_command.new.commands.items c.args.descriptions.now c.loop-description.description-index added.0 _
+    c.loop-description-test.true added.1 c.loop-description.invariant added.2
 
 pub returns : goal.returns
 returns c =
