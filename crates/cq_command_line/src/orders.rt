@@ -1,7 +1,8 @@
-//! Makes an order from what `clap` found in the words.
+//! Makes an order from what `clap` found in the words. Numbers are read before texts: where a number is missing, no
+//! text is there yet that would be freed.
 ghost use Rattle.std.specs.Prelude.{◌≡◌, [], ◌∷◌, List, map, option_map, codes, string_bytes, IfOk, IfSome, IsSomeAnd, None, Ok, Some};
 ghost use Rattle.std.specs.Str.Parse.{IsNumeral, digits_value, without_leading_plus};
-ghost use Rattle.clap.specs.Words.{found_of, rows_of, subcommand_rows_of};
+ghost use Rattle.clap.specs.Words.{first_of, found_of, rows_of, subcommand_rows_of};
 ghost use Rattle.cq_command_line.specs.CommandLine.{word_of};
 ghost use Rattle.cq_command_line.specs.OrderValues.{AreLogSettings, AreNewSettings, AreReadSettings, AreSettings, AreTakeSettings, AreTrimSettings, AreWords, AreWriteSettings};
 ghost use Rattle.cq_command_line.specs.OrderValues.{IsFlag, IsForm, IsMoment, IsNameChange, IsNumber, IsNumberOption, IsOption, IsWord, TakesValues};
@@ -83,9 +84,9 @@ fn cycle_order(alloc: Global, values: &ArgMatches<'_>) -> Result<Order, OrderFau
     ensures values { IfOk result (λ order. TakesValues (rows_of (found_of values.now)) order) }
 {
     Ok(Order::Cycle {
-        roll: word(alloc, values, "ROLL")?,
         epoch: number(values, "EPOCH")?,
         moment: number(values, "MOMENT")?,
+        roll: word(alloc, values, "ROLL")?,
     })
 }
 
@@ -104,12 +105,12 @@ fn init_settings(alloc: Global, values: &ArgMatches<'_>) -> Result<InitSettings,
     ensures { IfOk result (λ settings. AreSettings (rows_of (found_of values.now)) settings) }
 {
     Ok(InitSettings {
-        roll: word(alloc, values, "ROLL")?,
         epoch: number(values, "EPOCH")?,
         cells: number(values, "CELLS")?,
         index_count: number(values, "COUNT")?,
         index_spacing: number(values, "SPACING")?,
         cycles: number(values, "CYCLES")?,
+        roll: word(alloc, values, "ROLL")?,
         names: words(alloc, values, "NAMES")?,
     })
 }
@@ -129,9 +130,9 @@ fn new_settings(alloc: Global, values: &ArgMatches<'_>) -> Result<NewSettings, O
     ensures { IfOk result (λ settings. AreNewSettings (rows_of (found_of values.now)) settings) }
 {
     Ok(NewSettings {
-        roll: option(alloc, values, "roll")?,
         cells: number_option(values, "cells")?,
         cycles: number_option(values, "cycles")?,
+        roll: option(alloc, values, "roll")?,
         names: words(alloc, values, "NAMES")?,
     })
 }
@@ -140,8 +141,9 @@ fn write_order(alloc: Global, values: &ArgMatches<'_>) -> Result<Order, OrderFau
     ensures named { IfOk result (λ order. word_of order ≡ codes "write") }
     ensures values { IfOk result (λ order. TakesValues (rows_of (found_of values.now)) order) }
 {
+    let settings = write_settings(alloc, values)?;
     let folder = word(alloc, values, "DIR")?;
-    match write_settings(alloc, values)? {
+    match settings {
         WriteSettings {
             moment: Some(moment),
             form: InputForm::Lines,
@@ -200,8 +202,8 @@ fn log_order(alloc: Global, values: &ArgMatches<'_>) -> Result<Order, OrderFault
     ensures values { IfOk result (λ order. TakesValues (rows_of (found_of values.now)) order) }
 {
     Ok(Order::Log {
-        folder: word(alloc, values, "DIR")?,
         settings: log_settings(values)?,
+        folder: word(alloc, values, "DIR")?,
     })
 }
 
@@ -220,9 +222,9 @@ fn read_order(alloc: Global, values: &ArgMatches<'_>) -> Result<Order, OrderFaul
     ensures named { IfOk result (λ order. word_of order ≡ codes "read") }
     ensures values { IfOk result (λ order. TakesValues (rows_of (found_of values.now)) order) }
 {
+    let seconds = number_option(values, "for")?;
     let folder = word(alloc, values, "DIR")?;
     let settings = read_settings(alloc, values)?;
-    let seconds = number_option(values, "for")?;
     match (flag(values, "follow"), settings.back, seconds) {
         (false, _, None) => Ok(Order::Read { folder, settings }),
         (true, false, seconds) => Ok(Order::Follow {
@@ -241,9 +243,9 @@ fn read_settings(alloc: Global, values: &ArgMatches<'_>) -> Result<ReadSettings,
     Ok(ReadSettings {
         form: form(values),
         back: flag(values, "back"),
-        from: option(alloc, values, "from")?,
         limit: number_option(values, "limit")?,
         last: number_option(values, "last")?,
+        from: option(alloc, values, "from")?,
         since: option(alloc, values, "since")?,
         until: option(alloc, values, "until")?,
     })
@@ -278,9 +280,10 @@ fn take_order(alloc: Global, values: &ArgMatches<'_>) -> Result<Order, OrderFaul
     ensures named { IfOk result (λ order. word_of order ≡ codes "take") }
     ensures values { IfOk result (λ order. TakesValues (rows_of (found_of values.now)) order) }
 {
+    let settings = take_settings(values)?;
     let folder = word(alloc, values, "DIR")?;
     let name = word(alloc, values, "NAME")?;
-    match take_settings(values)? {
+    match settings {
         TakeSettings {
             limit: None,
             peek: false,
@@ -310,8 +313,8 @@ fn drop_order(alloc: Global, values: &ArgMatches<'_>) -> Result<Order, OrderFaul
     ensures values { IfOk result (λ order. TakesValues (rows_of (found_of values.now)) order) }
 {
     Ok(Order::DropBefore {
-        folder: word(alloc, values, "DIR")?,
         cycle: number(values, "CYCLE")?,
+        folder: word(alloc, values, "DIR")?,
     })
 }
 
@@ -434,19 +437,28 @@ struct NameWords {
 fn name_change(alloc: Global, values: &ArgMatches<'_>) -> Result<NameChange, OrderFault>
     ensures { IfOk result (IsNameChange (rows_of (found_of values.now))) }
 {
-    let action = word(alloc, values, "ACTION")?;
-    let given = NameWords {
+    let action = given(values, "ACTION")?;
+    let rest = name_words(alloc, values)?;
+    match action {
+        "list" => listing(rest),
+        "add" => adding(rest),
+        "remove" => removing(rest),
+        "move" => moving(rest),
+        _ => Err(OrderFault::NoAction),
+    }
+}
+
+/// Returns the words that were given to `name` after its action.
+fn name_words(alloc: Global, values: &ArgMatches<'_>) -> Result<NameWords, OrderFault>
+    ensures name { IfOk result (λ given. IsOption (rows_of (found_of values.now)) (codes "NAME") given.name) }
+    ensures at { IfOk result (λ given. IsOption (rows_of (found_of values.now)) (codes "at") given.at) }
+    ensures to { IfOk result (λ given. IsOption (rows_of (found_of values.now)) (codes "to") given.to) }
+{
+    Ok(NameWords {
         name: option(alloc, values, "NAME")?,
         at: option(alloc, values, "at")?,
         to: option(alloc, values, "to")?,
-    };
-    match action.as_str() {
-        "list" => listing(given),
-        "add" => adding(given),
-        "remove" => removing(given),
-        "move" => moving(given),
-        _ => Err(OrderFault::NoAction),
-    }
+    })
 }
 
 /// Returns the change that lists the names, if nothing else was given.
@@ -503,12 +515,19 @@ fn folder_and_file(alloc: Global, values: &ArgMatches<'_>) -> Result<(String, St
     Ok((folder, file))
 }
 
-/// Returns the word that was given under this name.
+/// Returns a copy of the word that was given under this name.
 fn word(alloc: Global, values: &ArgMatches<'_>, name: &str) -> Result<String, OrderFault>
     ensures { IfOk result (λ text. IsWord (rows_of (found_of values.now)) name.now text) }
 {
+    Ok(String::from_str(alloc, given(values, name)?)?)
+}
+
+/// Returns the word that was given under this name.
+fn given<'a>(values: &ArgMatches<'a>, name: &str) -> Result<&'a str, OrderFault>
+    ensures { IfOk result (λ text. first_of name.now (rows_of (found_of values.now)) ≡ Some text.now) }
+{
     match values.get_str(name) {
-        Some(given) => Ok(String::from_str(alloc, given)?),
+        Some(text) => Ok(text),
         None => Err(OrderFault::NoOrder),
     }
 }
