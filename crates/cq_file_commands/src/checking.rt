@@ -4,17 +4,19 @@ ghost use Rattle.std.specs.List.{AllByRecursion};
 ghost use Rattle.cq_folder.specs.Folder.{KeepsFiles};
 ghost use Rattle.cq_text.specs.Output.{AppendsBeginning};
 ghost use Rattle.cq_image.specs.Answers.{IsStateOf};
+ghost use Rattle.cq_image.specs.Reading.{read_of};
 ghost use Rattle.cq_image.specs.declared.fault.ImageFault.{ImageFault};
 ghost use Rattle.cq_image.specs.declared.found.ImageRead.{ImageRead};
 ghost use Rattle.cq_files.specs.FolderFaults.{HasCause, HasSettings, IsFileFault, IsFirstFault, IsFirstFaultOf, IsLookingFault, IsSmall};
 ghost use Rattle.cq_file_commands.specs.FileFaults.{IsCheckFault};
-ghost use Rattle.cq_file_commands.specs.CheckText.{IsChecked, check_text, has_fault, is_faulty, line_of, state_line};
+ghost use Rattle.cq_file_commands.specs.CheckText.{IsChecked, check_text, has_fault, is_fault, is_faulty, line_of, state_line};
 ghost use Rattle.cq_files.specs.Counted.{CountsFaults};
 ghost use Rattle.cq_files.specs.Looking.{Looks, Stays};
 
 use cq_files::{ImageFile, QueueFolder, image_files, open_folder, print_outside, read_file};
 use cq_folder::{Access, Folder};
 use cq_image::{ImageFault, ImageState, ReadFault};
+use cq_layout::Layout;
 use cq_model::Config;
 use cq_text::ToolFault;
 use std::alloc::{AllocError, Global};
@@ -129,17 +131,32 @@ fn check_file<F: Folder>(
     ensures stays { Stays F.files F.failed F.entered folder.old folder.new result }
 {
     let bytes = read_file(alloc, folder, file.name.as_str())?;
-    let layout = config.layout();
-    match cq_image::state(alloc, file.cycle, layout, bytes.as_slice()) {
+    Ok(push_line(alloc, config.layout(), file, bytes.as_slice(), text)?)
+}
+
+/// Adds the line of the image in a file with these bytes to the text, and returns whether the image is faulty.
+fn push_line(
+    alloc: Global,
+    layout: Layout,
+    file: &ImageFile,
+    bytes: &[u8],
+    text: &mut String,
+) -> Result<bool, AllocError>
+    ensures text { OnOk result (string_bytes text.new
+        ≡ string_bytes text.old ++ state_line (string_bytes file.now.name) (read_of layout file.now.cycle bytes.now)) }
+    ensures faulty { IfOk result (λ faulty. faulty ≡ is_fault (read_of layout file.now.cycle bytes.now)) }
+{
+    let name = file.name.as_str();
+    match cq_image::state(alloc, file.cycle, layout, bytes) {
         Ok(state) => {
-            push_state(text, file.name.as_str(), state)?;
+            push_state(text, name, state)?;
             Ok(false)
         }
         Err(ReadFault::Fault(fault)) => {
-            push_fault(text, file.name.as_str(), fault)?;
+            push_fault(text, name, fault)?;
             Ok(true)
         }
-        Err(ReadFault::OutOfMemory) => Err(ToolFault::OutOfMemory),
+        Err(ReadFault::OutOfMemory) => Err(AllocError),
     }
 }
 
