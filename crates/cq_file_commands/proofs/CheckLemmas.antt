@@ -1,15 +1,21 @@
 -- The lines of `check`.
-use Rattle.std.proofs.Common.{◌≡◌, Bool, true, false, ℕ, ◌+◌, ◌<◌, ◌≤◌, List, [], ◌∷◌, ◌++◌, length, get_or, map, take, take_all, ap, inr, refl, subst, sym, ◌∙◌}
+use Rattle.std.proofs.Common.{◌≡◌, Bool, true, false, ℕ, ◌+◌, ◌<◌, ◌≤◌, List, [], ◌∷◌, ◌++◌, length, get_or, map, take, take_all, ap, inl, inr, refl, subst, sym, ◌∙◌}
 use Rattle.std.specs.Prelude.{◌||◌}
 use Rattle.std.proofs.lemmas.List.{append-nil, take_more}
 use Rattle.std.proofs.lemmas.List.Folds.{list_any-append}
 use Rattle.std.proofs.lemmas.Grind.{flat_map-append}
-use Rattle.std.specs.Prelude.{Option, None, Some, IfOk, IfSome, Result, Ok, Err, string_bytes}
+use Rattle.std.specs.Prelude.{◌≢◌, Option, None, Some, IfErr, IfOk, IfSome, IsErrAnd, OnOk, Result, Ok, Err, string_bytes}
+use Rattle.std.specs.Io.KnownBytes.{Appends, Keeps}
 use Rattle.std.specs.List.{AllByRecursion}
 use Rattle.cq_model.specs.Settings.{Settings}
 use Rattle.cq_config_text.specs.declared.config_text.SavedConfig.{SavedConfig}
 use Rattle.cq_file_commands.specs.declared.checking.Checked.{Checked}
 use Rattle.cq_text.specs.declared.fault.ToolFault.{ToolFault}
+use Rattle.cq_text.specs.declared.fault.ToolFault.TheVariants.{ImagesAtFault, WriteFault}
+use Rattle.cq_text.specs.Output.{AppendsBeginning}
+use Rattle.cq_files.specs.Counted.{CountsFaults}
+use Rattle.cq_files.specs.Looking.{Looks}
+use Rattle.cq_files.proofs.CauseLemmas.{of_any}
 use Rattle.cq_files.specs.Queue.{AreImageFiles, IsImageName, IsOpenFolder, ListsImages}
 use Rattle.cq_files.specs.FolderFaults.{HasCause, IsFirstFault, IsLookingFault, IsSmall}
 use Rattle.cq_file_commands.specs.FileFaults.{IsCheckFault}
@@ -101,7 +107,52 @@ is_checked {saved} {names} a b files slice (Ok checked) kept opened named same a
     }
 
 -- why images are not looked at, as `check` says it
-pub not_looked_at : (a : Option Files) (fault : ToolFault) → IfSome a (λ files. HasCause files fault × IsFirstFault IsSmall files fault)
+not_looked_at : (a : Option Files) (fault : ToolFault) → IfSome a (λ files. HasCause files fault × IsFirstFault IsSmall files fault)
     → IsLookingFault fault → IfSome a (λ files. IsCheckFault files fault)
 not_looked_at None fault cause is = tt
 not_looked_at (Some a) fault cause is = inr (inr (cause.0, cause.1, is))
+
+-- how `check` ends
+module _ (before after : Option Files) (old new : Option (List ℕ)) where
+  abbrev Checks : {T : Type 0} → ℕ → ℕ → Result T ToolFault → Type 0
+  Checks was now result = record {
+    printed : OnOk result ((text : List ℕ) × IsChecked before text false × Appends old new text);
+    at_fault : IfErr result (λ fault. fault ≡ ImagesAtFault → (text : List ℕ) × IsChecked before text true × Appends old new text);
+    cause : IfErr result (λ fault. IfSome before (λ files. IsCheckFault files fault));
+    kept : KeepsFiles before after;
+    silent : IfErr result (λ fault. fault ≢ WriteFault → fault ≢ ImagesAtFault → Keeps old new);
+    broken : IfErr result (λ fault. fault ≡ WriteFault → (text : List ℕ) × (faulty : Bool) × IsChecked before text faulty
+        × AppendsBeginning old new text);
+    counted : CountsFaults was now result;
+  }
+
+  -- the images are not looked at
+  pub unchecked : {T U : Type 0} {was now : ℕ} {fault : ToolFault} (result : Result T ToolFault) → IsErrAnd result (λ passed. passed ≡ fault)
+      → Looks {T = U} IsLookingFault (λ files fault. HasCause files fault × IsFirstFault IsSmall files fault) before after was now (Err fault)
+      → Keeps old new → Checks was now result
+  unchecked (Ok value) is looks keeps = absurd is
+  unchecked {T} {was} {now} {fault} (Err passed) is looks keeps = subst (λ (f : ToolFault). Checks {T = T} was now (Err f)) (sym is) (record {
+    printed = tt;
+    at_fault = λ same. absurd (subst IsLookingFault same looks.fault);
+    cause = not_looked_at before fault looks.cause looks.fault;
+    kept = looks.kept;
+    silent = λ _ _. keeps;
+    broken = λ same. absurd (subst IsLookingFault same looks.fault);
+    counted = record { later = looks.counted.later; device = looks.counted.device };
+  })
+
+  -- they are, and the lines are not written
+  pub unwritten_check : {T : Type 0} {was now : ℕ} {fault : ToolFault} (result : Result T ToolFault) (text : List ℕ) (faulty : Bool)
+      → IsErrAnd result (λ passed. passed ≡ fault) → fault ≡ WriteFault → IsChecked before text faulty
+      → AppendsBeginning old new text → KeepsFiles before after → was ≤ now → Checks was now result
+  unwritten_check (Ok value) text faulty is printing checked begun kept later = absurd is
+  unwritten_check {T} {was} {now} (Err passed) text faulty is printing checked begun kept later =
+      subst (λ (f : ToolFault). Checks {T = T} was now (Err f)) (sym (is ∙ printing)) (record {
+        printed = tt;
+        at_fault = λ same. let e : WriteFault ≡ ImagesAtFault = same in cc;
+        cause = of_any before (λ files. IsCheckFault files WriteFault) (λ files. inr (inl refl));
+        kept = kept;
+        silent = λ other. absurd (other refl);
+        broken = λ _. (text, faulty, checked, begun);
+        counted = record { later = later; device = λ device. absurd device };
+      })
