@@ -13,19 +13,19 @@ returns-in_err-files-in-Ok-clause-fault g c =
     passed_on c.from_residual.result (IsEntryFault (IsLogFault files Free)) (of_fold fault)
     c.from_residual.ensures.1
     (not_folded Free files fault
-    (c.in_err-files-in-Ok.ensures.cause files (record { opened = c.in-Ok.ensures.opened; kept = c.in-Ok.ensures.kept })))
+    (c.in_err-files-in-Ok.ensures.cause files (record { opened = c.in-Ok.ensures.opened; kept = c.in-Ok.ensures.enters.kept })))
 
 pub returns-in_err-files-in-Ok-clause-counted : goal.returns-in_err-files-in-Ok-clause-counted
 returns-in_err-files-in-Ok-clause-counted g c =
     counts_fold _ (g.F.Folder.failed c.open_whole.new.folder) _ c.in_err-files-in-Ok.field-0.0 c.from_residual.result
-    c.in-Ok.ensures.counted.later c.in_err-files-in-Ok.ensures.counted.later c.in_err-files-in-Ok.ensures.counted.device
+    c.in-Ok.ensures.enters.counted.later c.in_err-files-in-Ok.ensures.stays.counted.later c.in_err-files-in-Ok.ensures.stays.counted.device
     c.from_residual.ensures.1
 
 pub returns-in_ok-files-in-Ok-clause-shown : goal.returns-in_ok-files-in-Ok-clause-shown
 returns-in_ok-files-in-Ok-clause-shown g c =
     let files = g.F.Folder.files c.args.folder.now in
     shown_folded files _ _ (record { messages = c.in_ok-files-in-Ok.field-0.messages; log_use = c.look-log_use.result }) (sym c.look-log_use.ensures)
-    (c.in_ok-files-in-Ok.ensures.files files (record { opened = c.in-Ok.ensures.opened; kept = c.in-Ok.ensures.kept }))
+    (c.in_ok-files-in-Ok.ensures.files files (record { opened = c.in-Ok.ensures.opened; kept = c.in-Ok.ensures.enters.kept }))
 
 pub returns-in-Err-clause-fault : goal.returns-in-Err-clause-fault
 returns-in-Err-clause-fault g c =
@@ -37,5 +37,5 @@ returns-in-Err-clause-fault g c =
 pub returns-in-Err-clause-counted : goal.returns-in-Err-clause-counted
 returns-in-Err-clause-counted g c =
     let is : c.from.result ≡ of_fold c.in-Err.fault = search rules in
-    counts_fold _ (g.F.Folder.failed c.args.folder.now) _ c.in-Err.fault _ (search rules) c.in-Err.ensures.counted.later
-    c.in-Err.ensures.counted.device is
+    counts_fold _ (g.F.Folder.failed c.args.folder.now) _ c.in-Err.fault _ (search rules) c.in-Err.ensures.enters.counted.later
+    c.in-Err.ensures.enters.counted.device is
