@@ -1,4 +1,4 @@
-ghost use Rattle.std.specs.Prelude.{◌≡◌, ◌≢◌, ◌++◌, ℕ, List, IfErr, IfOk, OnOk, codes, string_bytes};
+ghost use Rattle.std.specs.Prelude.{◌≡◌, ◌≢◌, ◌⊎◌, ◌++◌, ℕ, List, IfErr, IfOk, OnOk, codes, string_bytes};
 ghost use Rattle.std.specs.Fmt.{decimal};
 ghost use Rattle.std.specs.Io.KnownBytes.{Appends, Keeps};
 ghost use Rattle.cq_cycle.specs.Cycle.{IsMoment};
@@ -36,7 +36,9 @@ pub fn cycle<W: Write>(
     ensures broken { IfErr result (λ fault. fault ≡ ToolFault.WriteFault → (text : List ℕ)
         × IsCycleLine roll.now epoch moment text × AppendsBeginning (W.contents output.old) (W.contents output.new) text) }
 {
-    let roll = roll_named(roll).ok_or(ToolFault::BadConfig)?;
+    let Some(roll) = roll_named(roll) else {
+        return Err(ToolFault::BadConfig);
+    };
     let line = line_of(alloc, roll, epoch, moment)?;
     print(output, line.as_bytes())
 }
@@ -44,8 +46,8 @@ pub fn cycle<W: Write>(
 /// Returns the line of the cycle in which a moment lies.
 fn line_of(alloc: Global, roll: Roll, epoch: u64, moment: u64) -> Result<String, ToolFault>
     ensures line { IfOk result (λ line. IsMoment roll epoch moment × IsLineOf roll epoch moment (string_bytes line)) }
-    ensures fault { IfErr result (λ fault. (fault ≢ ToolFault.OutOfMemory)
-        → (fault ≡ ToolFault.BadMoment) × ¬ IsMoment roll epoch moment) }
+    ensures fault { IfErr result (λ fault. (fault ≡ ToolFault.OutOfMemory)
+        ⊎ ((fault ≡ ToolFault.BadMoment) × ¬ IsMoment roll epoch moment)) }
 {
     let Ok(cycle) = cycle_of(roll, epoch, moment) else {
         return Err(ToolFault::BadMoment);
