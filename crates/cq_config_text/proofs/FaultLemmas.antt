@@ -1,12 +1,12 @@
 -- The first faulty line of a text.
-use Rattle.std.proofs.Common.{◌≡◌, ◌==◌, ℕ, ◌+◌, ◌<◌, List, [], ◌∷◌, length, get_or, drop, refl, ap, sym, ◌∙◌, arith, false, true, cond, nat_eq, Some, None}
+use Rattle.std.proofs.Common.{◌≡◌, ◌==◌, ◌⊎◌, ℕ, ◌+◌, ◌<◌, List, [], ◌∷◌, length, get_or, drop, refl, ap, subst, sym, ◌∙◌, arith, false, true, cond, nat_eq, Some, None}
 use Rattle.std.proofs.lemmas.Bool.Decides.{nat_tests}
 use Rattle.std.proofs.lemmas.List.Splits.{length-slice_split}
 use Rattle.std.specs.List.{slice_split}
-use Rattle.std.specs.Prelude.{IfErr, IsErrAnd, Option, Result, Ok, Err, option_map}
+use Rattle.std.specs.Prelude.{IfErr, IfOk, IsErrAnd, OnOk, Option, Result, Ok, Err, option_map}
 use Rattle.cq_config_text.specs.ConfigText.{Form, fault_from, first_fault, has_form, name_form}
 use Rattle.cq_config_text.specs.declared.config_fault.ConfigFault.{ConfigFault}
-use Rattle.cq_config_text.specs.declared.config_fault.ConfigFault.TheVariants.{Line}
+use Rattle.cq_config_text.specs.declared.config_fault.ConfigFault.TheVariants.{Line, OutOfMemory}
 
 -- the parts of a text between its line feeds
 abbrev pub lines_in : List ℕ → List (List ℕ)
@@ -55,3 +55,19 @@ pub line_refused : {T : Type 0} (result : Result T ConfigFault) (fault : ConfigF
 line_refused (Ok value) fault number faulty is line first = tt
 line_refused (Err passed) fault number faulty is line first =
     ap (option_map (λ line. Line line)) first ∙ ap Some (sym (is ∙ line))
+
+-- with a fault that is passed on, nothing is known of the names that were read
+pub names_unread : {T : Type 0} (IsWritable IsFound : T → Type 0) (faulty : Option ℕ) (result : Result T ConfigFault) (fault : ConfigFault)
+    → IsErrAnd result (λ passed. passed ≡ fault) → (fault ≡ OutOfMemory) ⊎ (option_map (λ line. Line line) faulty ≡ Some fault) → record {
+      writable : IfOk result IsWritable;
+      found : IfOk result IsFound;
+      whole : OnOk result (faulty ≡ None);
+      fault : IfErr result (λ fault. (fault ≡ OutOfMemory) ⊎ (option_map (λ line. Line line) faulty ≡ Some fault));
+    }
+names_unread IsWritable IsFound faulty (Ok value) fault is why = absurd is
+names_unread IsWritable IsFound faulty (Err passed) fault is why = record {
+  writable = tt;
+  found = tt;
+  whole = tt;
+  fault = subst (λ (f : ConfigFault). (f ≡ OutOfMemory) ⊎ (option_map (λ line. Line line) faulty ≡ Some f)) (sym is) why;
+}
