@@ -100,7 +100,7 @@ minds_passed None fault result minds is = tt
 minds_passed (Some files) fault (Ok value) minds is = absurd is
 minds_passed {U} (Some files) fault (Err passed) minds is = subst (λ (f : ToolFault). MindsVersion {T = U} files (Err f)) (sym is) minds
 
--- what is written behind calls that keep all files
+-- what is written after calls that keep all files
 kept_then_written : (a b c : Option Files) (name bytes : List ℕ) → KeepsFiles a b → WritesFile b c name bytes → WritesFile a c name bytes
 kept_then_written None b c name bytes kept done = tt
 kept_then_written (Some a) None c name bytes kept done = absurd kept

@@ -52,7 +52,7 @@ pub record Edit : Type 0 where
 abbrev pub edit_of : List (List ℕ) → List ℕ → List ℕ → ℕ → Edit
 edit_of names positions name position = record { names = names; positions = positions; name = name; position = position }
 
--- the name is put behind the others, at this position
+-- the name is put after the others, at this position
 abbrev pub added : Settings → Contents → List ℕ → ℕ → Edit
 added settings contents name position = edit_of (settings.names ++ name ∷ []) (contents.positions ++ position ∷ []) name position
 

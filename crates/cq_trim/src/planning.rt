@@ -1,6 +1,6 @@
 //! What is done to the folder of a queue.
 
-ghost use Rattle.std.specs.Prelude.{◌≡◌, ◌≢◌, ◌≤◌, ◌+◌, ◌↔◌, IfErr, IfOk, IfSome, IsTrue, None, OnOk, Some, length, map, option_map, slice_get, string_bytes, take};
+ghost use Rattle.std.specs.Prelude.{◌≡◌, ◌≢◌, ◌≤◌, ◌+◌, ◌↔◌, IfErr, IfOk, IfSome, IsTrue, None, length, map, option_map, slice_get, string_bytes, take};
 ghost use Rattle.std.specs.List.{AllByRecursion};
 ghost use Rattle.cq_config_text.specs.ConfigText.{IsTextOf};
 ghost use Rattle.cq_folder.specs.Folder.{named_file};
