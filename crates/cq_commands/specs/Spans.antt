@@ -1,14 +1,17 @@
 -- How `read` goes through the messages of a queue that was opened.
-use Rattle.std.specs.Prelude.{◌≡◌, ◌-◌, ℕ, Bool, List, Option, None, Some, filter, length, max, min, nat_le, nat_lt, option_map, reverse, string_bytes, true, false}
+use Rattle.std.specs.Prelude.{◌≡◌, ◌-◌, ◌<◌, ◌^◌, ℕ, Bool, List, Option, None, Some, filter, length, max, min, nat_le, nat_lt, option_map, reverse, string_bytes, true, false}
 use Rattle.std.specs.List.{flat_map}
 use Rattle.cq_folder.specs.Folder.{Files}
 use Rattle.cq_forms.specs.Forms.{formed}
 use Rattle.cq_forms.specs.Names.{AreNames, name_in}
+use Rattle.cq_model.specs.Journals.{ReaderFacts}
+use Rattle.cq_layout.specs.Layout.{IsLawfulLayout}
 use Rattle.cq_model.specs.Finds.{Placed}
 use Rattle.cq_model.specs.Settings.{Settings}
+use Rattle.cq_model.specs.States.{AreLawfulContents}
 use Rattle.cq_orders.specs.declared.settings.ReadSettings.{ReadSettings}
 use Rattle.cq_files.specs.Queue.{contents_in}
-use Rattle.cq_commands.specs.Messages.{IsSince, IsStart, IsUntil, asked, limited}
+use Rattle.cq_commands.specs.Messages.{IsSince, IsStart, IsUntil, asked, limited, way_of}
 use Rattle.cq_commands.specs.Opened.{IsOpenedFrom, readable_held}
 use Rattle.cq_commands.specs.TakenBy.{position_after}
 use Rattle.cq_commands.specs.declared.printing.Bounds.{Bounds}
@@ -42,6 +45,13 @@ read_span None false start since until = span false (max start since) until
 abbrev pub is_within : Bool → ℕ → ℕ → Bool
 is_within true stop index = nat_le stop index
 is_within false stop index = nat_lt index stop
+
+-- a reader of lawful contents, which goes in the direction of this way, and is at an index
+pub record GoesBy (s : Span) (reader : ReaderFacts) : Type 0 where
+  pub lawful : AreLawfulContents reader.journal.settings reader.journal.contents
+  pub layout : IsLawfulLayout reader.journal.settings.layout
+  pub way : reader.way ≡ way_of s.back
+  pub cursor : reader.cursor < 2 ^ 64
 
 -- the messages on a way, from an index on
 abbrev pub spanned : Span → ℕ → List Placed → List Placed
