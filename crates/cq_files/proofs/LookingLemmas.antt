@@ -1,14 +1,16 @@
 -- Calls that only look at the files of a folder, one after the other.
-use Rattle.std.proofs.Common.{◌≡◌, ℕ, ◌≤◌}
-use Rattle.std.specs.Prelude.{Err, IfSome, IsErrAnd, Ok, Option, Result}
-use Rattle.cq_folder.specs.Folder.{Files, KeepsFiles}
+use Rattle.std.proofs.Common.{◌≡◌, ℕ, ◌≤◌, List, subst, sym}
+use Rattle.std.specs.Prelude.{Err, IfErr, IfOk, IfSome, IsErrAnd, Ok, Option, Result}
+use Rattle.cq_folder.specs.Folder.{Entered, Files, KeepsFiles}
 use Rattle.cq_text.specs.declared.fault.ToolFault.{ToolFault}
+use Rattle.cq_text.specs.declared.fault.ToolFault.TheVariants.{OutOfMemory}
 use Rattle.cq_text.proofs.FaultLemmas.{passed_on}
 use Rattle.cq_text.specs.Faults.{IsDeviceFault}
 use Rattle.cq_files.specs.Counted.{CountsFaults}
-use Rattle.cq_files.specs.Looking.{Looks}
+use Rattle.cq_files.specs.FolderFaults.{HasCause, HoldsConfig, IsFileFault}
+use Rattle.cq_files.specs.Looking.{Looks, Stays}
 use Rattle.cq_files.proofs.CauseLemmas.{of_any}
-use Rattle.cq_files.proofs.CountLemmas.{counts_from, counts_passed, uncounted}
+use Rattle.cq_files.proofs.CountLemmas.{counts_from, counts_passed, counts_scarce, uncounted}
 use Rattle.cq_files.proofs.QueueLemmas.{keeps-trans}
 
 -- a call that is done
@@ -48,4 +50,24 @@ looks_after {before} {middle} {after} {was} {between} {now} (Err fault) kept lat
   counted = counts_from was between now (Err fault) later looks.counted;
   fault = looks.fault;
   cause = so fault looks.cause;
+}
+
+-- a file whose read failed is not named either, for want of memory
+pub unread_scarce : {S T : Type 0} (IsHeld IsSmall : T → Type 0) (files : S → Option Files) (failed : S → ℕ) (entered : S → Entered)
+    (before after : S) (name : List ℕ) (result : Result T ToolFault) → IsErrAnd result (λ passed. passed ≡ OutOfMemory)
+    → KeepsFiles (files before) (files after) → failed before ≤ failed after → entered after ≡ entered before → record {
+      held : IfOk result IsHeld;
+      small : IfOk result IsSmall;
+      fault : IfErr result (IsFileFault name);
+      cause : IfErr result (λ fault. IfSome (files before) (λ held. HoldsConfig held → HasCause held fault));
+      stays : Stays files failed entered before after result;
+    }
+unread_scarce IsHeld IsSmall files failed entered before after name (Ok value) is kept later inside = absurd is
+unread_scarce IsHeld IsSmall files failed entered before after name (Err passed) is kept later inside = record {
+  held = tt;
+  small = tt;
+  fault = subst (IsFileFault name) (sym is) tt;
+  cause = subst (λ (f : ToolFault). IfSome (files before) (λ held. HoldsConfig held → HasCause held f)) (sym is)
+      (of_any (files before) (λ held. HoldsConfig held → HasCause held OutOfMemory) (λ held there. tt));
+  stays = record { kept = kept; counted = counts_scarce (failed before) (failed after) (Err passed) later is; inside = inside };
 }
