@@ -41,20 +41,37 @@ impl<'a, R: Files<File = File> + AllocGlobal + Clone + Drop> Directory<'a, R> {
         ensures { IfSome self.now.record (λ there. IsTrue (is_named there.removed.items name.now)
             → IsErrAnd result (λ error. error_kind error ≡ ErrorKind.NotFound)) }
     {
-        if let Some(record) = &self.record
-            && has_name(record.removed.as_slice(), name)
-        {
-            return Err(io::Error::from(ErrorKind::NotFound));
-        }
-        if let Some(record) = &self.record
-            && has_name(record.names.as_slice(), name)
-        {
-            let part = self.part_of(name, record.process)?;
-            match self.read_plain(alloc, part.as_str(), limit) {
-                Err(error) if error.kind() == ErrorKind::NotFound => {}
-                read => return read,
+        match &self.record {
+            Some(record) if has_name(record.removed.as_slice(), name) => {
+                Err(io::Error::from(ErrorKind::NotFound))
             }
+            Some(record) if has_name(record.names.as_slice(), name) => {
+                self.read_replaced(alloc, name, record.process, limit)
+            }
+            _ => self.read_named(alloc, name, limit),
         }
+    }
+
+    /// Reads the part of a file that the process with this number wrote, and the file itself if the part has been renamed. std
+    /// promises nothing of what the system reads.
+    fn read_replaced(
+        &self,
+        alloc: Global,
+        name: &str,
+        process: u32,
+        limit: usize,
+    ) -> io::Result<Vec<u8>> {
+        let part = self.part_of(name, process)?;
+        match self.read_plain(alloc, part.as_str(), limit) {
+            Err(error) if error.kind() == ErrorKind::NotFound => {
+                self.read_named(alloc, name, limit)
+            }
+            read => read,
+        }
+    }
+
+    /// Reads the file of this name. std promises nothing of what the system reads.
+    fn read_named(&self, alloc: Global, name: &str, limit: usize) -> io::Result<Vec<u8>> {
         self.read_plain(alloc, self.path_of(name)?.as_str(), limit)
     }
 
