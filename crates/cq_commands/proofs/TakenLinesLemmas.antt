@@ -8,10 +8,11 @@ use Rattle.cq_config_text.specs.ConfigText.{IsTextOf}
 use Rattle.cq_cycle.specs.Index.{index_text}
 use Rattle.cq_folder.specs.Folder.{Files, KeepsFiles, KeepsOrWrites, WritesFile}
 use Rattle.cq_folder.specs.declared.names.TheConstants.{CONFIG_FILE}
-use Rattle.cq_model.specs.Journals.{JournalFacts, ReaderFacts}
+use Rattle.cq_model.specs.Journals.{JournalFacts, ReaderFacts, next_in}
 use Rattle.cq_model.specs.Finds.{Placed}
 use Rattle.cq_model.specs.Settings.{Declares, Settings}
 use Rattle.cq_model.specs.declared.contents.Contents.{Contents}
+use Rattle.cq_model.specs.declared.direction.Direction.TheVariants.{Forwards}
 use Rattle.cq_text.specs.Output.{AppendsBeginning}
 use Rattle.cq_text.specs.declared.fault.ToolFault.{ToolFault}
 use Rattle.cq_text.specs.declared.fault.ToolFault.TheVariants.{NoSuchName, OldVersion, OutOfMemory, WriteFault}
@@ -25,6 +26,7 @@ use Rattle.cq_files.proofs.WritingLemmas.{kept_then_wrote}
 use Rattle.cq_commands.specs.Messages.{message_line}
 use Rattle.cq_commands.specs.Opened.{HoldsContents, IsOpenedFrom, journal_with}
 use Rattle.cq_commands.specs.QueueFaults.{IsNameFault, IsTakeFault}
+use Rattle.cq_commands.specs.Taken.{IsTakenAs, TakesFrom}
 use Rattle.cq_files.specs.Printing.{SavesAndPrints, TellsConfig}
 use Rattle.cq_commands.specs.TakenBy.{HasTakenAll, AreTakenLines, IsTakeByFault, IsTakenBy, MovesName, TakesAll, TakesVersionBy, TellsTook, next_messages, position_after, took_of}
 use Rattle.cq_commands.specs.declared.opened.OpenedQueue.{OpenedQueue}
@@ -116,6 +118,27 @@ nothing_begun settings contents name most paired none declared =
         of_none : (count : ℕ) → next_messages count position (record contents { lists = [] }) ≡ []
         of_none zero = refl
         of_none (suc count) = refl
+
+-- and the next message is none
+pub none_begun : (settings : Settings) (contents : Contents) (name : List ℕ) → length contents.positions ≡ length settings.names
+    → contents.lists ≡ [] → Declares settings name → TakesFrom (journal_with settings contents) name None
+none_begun settings contents name paired none declared =
+    let stands = position_of settings contents declared.0 name paired declared.1 in
+    record {
+      place = declared.0;
+      named = declared.1;
+      position = stands.0;
+      stood = stands.1;
+      taken_is = subst (λ (found : Option Placed). IsTakenAs (journal_with settings contents) declared.0 found None) (sym (empty stands.0)) tt;
+    }
+  where
+    empty : (position : ℕ) → next_in Forwards contents position ≡ None
+    empty position = ap (λ ls. next_in Forwards (record contents { lists = ls }) position) none
+
+-- no cycle has begun where nothing is held
+pub unheld : (settings : Settings) (contents : Contents) (held : Option JournalFacts) → held ≡ None → HoldsContents settings contents held
+    → contents.lists ≡ []
+unheld settings contents held none holds = subst (HoldsContents settings contents) none holds
 
 -- what is held of each queue that the opened one may be holds of this one
 module _ {before : Option Files} {opened : OpenedQueue} (middle : Option Files) (name : List ℕ) (most : ℕ) (from : IsOpenedFrom before opened)

@@ -106,8 +106,8 @@ fn take_all<F: Folder, W: Write>(
     ensures version { TakesVersionBy false (F.files folder.old) result }
     ensures counted { CountsFaults (F.failed folder.old) (F.failed folder.new) result }
 {
-    let OpenedQueue { config, held } = open_held(alloc, folder, Access::Alone)?;
-    match taken_for(alloc, &config, held, name, most)? {
+    let queue = open_held(alloc, folder, Access::Alone)?;
+    match taken_for(alloc, queue, name, most)? {
         None => {
             folder.end();
             Ok(Took::Nothing)
@@ -137,9 +137,9 @@ fn look<F: Folder, W: Write>(
     ensures version { TakesVersionBy true (F.files folder.old) result }
     ensures counted { CountsFaults (F.failed folder.old) (F.failed folder.new) result }
 {
-    let OpenedQueue { config, held } = open_held(alloc, folder, Access::Shared)?;
+    let queue = open_held(alloc, folder, Access::Shared)?;
     folder.end();
-    match taken_for(alloc, &config, held, name, most)? {
+    match taken_for(alloc, queue, name, most)? {
         None => Ok(Took::Nothing),
         Some(taken) => print_lines(folder, output, taken.lines.as_slice()),
     }
@@ -157,23 +157,23 @@ struct TakenLines {
 /// Takes the next messages for a name, `most` at most; `None` if none has come. Nothing is held if no cycle has begun.
 fn taken_for(
     alloc: Global,
-    config: &Config,
-    held: Option<QueueContents>,
+    queue: OpenedQueue,
     name: &str,
     most: u64,
 ) -> Result<Option<TakenLines>, ToolFault>
-    requires names { IfSome held (λ j. j.settings.names ≡ config.now.names) }
-    requires lawful { IfSome held (λ j. AreLawfulContents j.settings j.contents × IsLawfulLayout j.settings.layout) }
-    ensures taken { IfOk result (λ taken. (contents : Contents) → length contents.positions ≡ length config.now.names
-        → CanBeOpened config.now contents → HoldsContents config.now contents held
-        → TakesAll (journal_with config.now contents) name.now most taken) }
-    ensures fault { IfErr result (IsNameFault config.now name.now) }
+    requires names { IfSome queue.held (λ j. j.settings.names ≡ queue.config.names) }
+    requires lawful { IfSome queue.held (λ j. AreLawfulContents j.settings j.contents × IsLawfulLayout j.settings.layout) }
+    ensures taken { IfOk result (λ taken. (contents : Contents) → length contents.positions ≡ length queue.config.names
+        → CanBeOpened queue.config contents → HoldsContents queue.config contents queue.held
+        → TakesAll (journal_with queue.config contents) name.now most taken) }
+    ensures fault { IfErr result (IsNameFault queue.config name.now) }
 {
-    if !declares(config, name) {
+    let OpenedQueue { config, held } = queue;
+    if !declares(&config, name) {
         return Err(ToolFault::NoSuchName);
     }
     match held {
-        Some(held) => Ok(taken_from(alloc, config, held, name, most)?),
+        Some(held) => Ok(taken_from(alloc, &config, held, name, most)?),
         None => Ok(None),
     }
 }

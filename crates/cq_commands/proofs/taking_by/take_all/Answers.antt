@@ -21,12 +21,12 @@ use Rattle.cq_commands.proofs.taking_by.take_all.Goals.{In_ok-taken_for}
 
 -- what was taken, or that nothing was there to take
 takes : (g : given.Over) (c : In_ok-taken_for g)
-    → TakesAll (journal_with c.in_ok-config.field-0.config (contents_in c.in_ok-config.ensures.opened.queue)) c.args.name.now c.args.most c.in_ok-taken_for.field-0
-takes g c = takes_held _ c.args.name.now c.args.most c.in_ok-config.ensures.opened c.in_ok-config.ensures.kept _ c.in_ok-taken_for.ensures.taken
+    → TakesAll (journal_with c.in_ok-queue.queue.config (contents_in c.in_ok-queue.ensures.opened.queue)) c.args.name.now c.args.most c.in_ok-taken_for.field-0
+takes g c = takes_held _ c.args.name.now c.args.most c.in_ok-queue.ensures.opened c.in_ok-queue.ensures.kept _ c.in_ok-taken_for.ensures.taken
 
-pub returns-in_err-config : goal.returns-in_err-config
-returns-in_err-config g c =
-    let told = c.in_err-config.ensures in
+pub returns-in_err-queue : goal.returns-in_err-queue
+returns-in_err-queue g c =
+    let told = c.in_err-queue.ensures in
     with_took c.args.name.now c.args.most _
     (unopened (IsTakeFault c.args.name.now) TellsConfig _ c.from_residual.ensures.1
     (first_cause _ _ _ told.cause) told.unprinted told.kept (told.version refl) told.counted)
@@ -34,12 +34,12 @@ returns-in_err-config g c =
 
 pub returns-in_err-taken_for : goal.returns-in_err-taken_for
 returns-in_err-taken_for g c =
-    let opened = c.in_ok-config.ensures in
+    let opened = c.in_ok-queue.ensures in
     let why = c.in_err-taken_for.ensures.fault in
     with_took c.args.name.now c.args.most _
     (unsaved (IsTakeFault c.args.name.now) TellsConfig _
     c.from_residual-in_err-taken_for.ensures.1 (name_refused c.args.name.now _ opened.opened why)
-    (other_name c.in_ok-config.field-0.config c.args.name.now _ why) opened.kept
+    (other_name c.in_ok-queue.queue.config c.args.name.now _ why) opened.kept
     (opened.version refl) opened.counted.later)
     (no_value _ _ _ c.from_residual-in_err-taken_for.ensures.1)
 
@@ -47,7 +47,7 @@ pub returns-in_err-write_file-in-Some : goal.returns-in_err-write_file-in-Some
 returns-in_err-write_file-in-Some g c =
     let after = g.F.Folder.files c.write_file.new.folder in
     let fault = c.in_err-write_file-in-Some.field-0.0 in
-    let opened = c.in_ok-config.ensures in
+    let opened = c.in_ok-queue.ensures in
     let told = c.in_err-write_file-in-Some.ensures in
     let some = subst (TakesAll _ c.args.name.now c.args.most) c.in-Some.is (takes g (goal.at.returns-in_err-write_file-in-Some g c).In_ok-taken_for) in
     let tells = tells_file CONFIG_FILE.now fault told.fault in
@@ -64,7 +64,7 @@ returns-in_err-write_file-in-Some g c =
 
 pub returns-in-None : goal.returns-in-None
 returns-in-None g c =
-    let opened = c.in_ok-config.ensures in
+    let opened = c.in_ok-queue.ensures in
     let output = g.W.Write.contents c.args.output.now in
     let none = subst (TakesAll _ c.args.name.now c.args.most) c.in-None.is (takes g (goal.at.returns-in-None g c).In_ok-taken_for) in
     let kept = subst (KeepsFiles (g.F.Folder.files c.args.folder.now)) (sym c.end.ensures.kept) opened.kept in
@@ -75,13 +75,13 @@ returns-in-None g c =
     (subst (λ (failed : ℕ). g.F.Folder.failed c.args.folder.now ≤ failed) (sym c.end.ensures.counted) opened.counted.later))
     ([], nothing, Appends-nil output, refl)
 
-pub returns : goal.returns
-returns g c =
+pub returns-in_ok-write_file-in-Some : goal.returns-in_ok-write_file-in-Some
+returns-in_ok-write_file-in-Some g c =
     let middle = g.F.Folder.files c.open_held.new.folder in
     let after = g.F.Folder.files c.end-in-Some.new.self in
-    let opened = c.in_ok-config.ensures in
+    let opened = c.in_ok-queue.ensures in
     let told = c.print_lines.ensures in
-    let some = subst (TakesAll _ c.args.name.now c.args.most) c.in-Some.is (takes g (goal.at.returns g c).In_ok-taken_for) in
+    let some = subst (TakesAll _ c.args.name.now c.args.most) c.in-Some.is (takes g (goal.at.returns-in_ok-write_file-in-Some g c).In_ok-taken_for) in
     let wrote = subst (WritesFile middle after CONFIG_FILE.now) c.as_slice.ensures.value
     (subst (λ (files : Option Files). WritesFile middle files CONFIG_FILE.now c.as_slice.result.now) (sym c.end-in-Some.ensures.kept)
     c.in_ok-write_file-in-Some.ensures.written) in
