@@ -52,6 +52,7 @@ where
         if watch.is_over() {
             return done;
         }
+        drop(done);
         watch.wait();
     }
 }

@@ -1,11 +1,26 @@
-use Rattle.std.proofs.Common.{arith, inr, subst, sym, ◌∙◌}
+use Rattle.std.proofs.Common.{ℕ, Option, arith, inl, inr, subst, sym, ◌∙◌}
 use Rattle.std.proofs.KnownBytes.{Keeps-refl, Keeps-trans}
 use Rattle.std.proofs.lemmas.Bool.{false≢true}
 use Rattle.cq_files.proofs.CountLemmas.{counts_from}
 use Rattle.cq_files.proofs.QueueLemmas.{keeps-refl, keeps-trans}
 use Rattle.cq_following.specs.Times.{IsEndOf}
+use Rattle.cq_following.proofs.LookLemmas.{look_used}
 use Rattle.cq_following.proofs.WaitingLemmas.{nothing_taken}
 use Rattle.cq_following.proofs.taking.take_waiting.Goals as goal
+
+pub takes-init : goal.takes-init
+takes-init g c = record {
+  kept = keeps-refl _;
+  unwritten = Keeps-refl _;
+  later = omega arith;
+  given = subst (λ (wait : Option ℕ). IsEndOf wait c.begin.new.self.end) (sym c.in-Some.is) c.begin.ensures.end;
+  over = λ is. absurd (false≢true (sym c.begin.ensures.begun ∙ is));
+}
+
+pub takes-smaller : goal.takes-smaller
+takes-smaller g c =
+    look_used c.takes.watch.is_over c.wait.new.self.is_over c.takes.watch.looks c.wait.new.self.looks (sym c.is_over.ensures ∙ c.if-is_over.false)
+    c.wait.ensures.fewer
 
 pub takes-preserved : goal.takes-preserved
 takes-preserved g c =
@@ -86,3 +101,12 @@ returns-in_default-clause-last g c =
       unwritten = Keeps-refl _;
       last = record { saved = done.saved; took = done.took; cause = done.cause; told = done.told; version = done.version };
     }
+
+pub returns-in_default-clause-nothing : goal.returns-in_default-clause-nothing
+returns-in_default-clause-nothing g c = λ _. inl c.in_default.is
+
+pub returns-in_default-clause-kept : goal.returns-in_default-clause-kept
+returns-in_default-clause-kept g c = c.take_by.ensures.kept
+
+pub returns-in_default-clause-counted : goal.returns-in_default-clause-counted
+returns-in_default-clause-counted g c = c.take_by.ensures.counted
