@@ -1,0 +1,129 @@
+#!/usr/bin/env python3
+"""Tries which program the launcher ./cq builds and runs, in a folder of its own with a `prove` that only copies.
+
+    docs/try_launcher.py
+
+- The first command builds the basic program, and the next one builds nothing.
+- `log` and `race` build the whole program. From then on it runs every command.
+- A source that is newer than the program has it built again, and the basic one where the command is neither of these.
+- Words reach the program as they were given, and its status is that of the launcher. A link to the launcher serves too.
+- If the build fails, the status is 3. A signal ends it.
+- Commands that begin at once build once.
+
+The last line is `N wrong`, and the status is 0 if that is none, else 1.
+"""
+import os
+import pathlib
+import shutil
+import signal
+import subprocess
+import sys
+import tempfile
+import time
+
+TOP = pathlib.Path(__file__).resolve().parent.parent
+
+# It stands in for ./prove: what it makes prints its own name and its words, and ends with status 4.
+PROVE = """\
+#!/bin/sh
+echo "built $2" >>"${0%/*}/builds"
+[ -z "$FAILS" ] || exit 1
+[ -z "$LASTS" ] || { trap 'exit 143' TERM; sleep "$LASTS" & wait $!; }
+mkdir -p "${0%/*}/out/proved/$2"
+printf '#!/bin/sh\\nprintf "%%s" "%s"\\nprintf " <%%s>" "$@"\\nexit 4\\n' "$2" >"${0%/*}/out/proved/$2/$2"
+chmod +x "${0%/*}/out/proved/$2/$2"
+"""
+
+
+class Folder:
+    """A folder with the launcher, and how many things in it were wrong."""
+
+    def __init__(self, place):
+        self.place, self.wrong = pathlib.Path(place), 0
+        for folder in ("cq/src", "cq_basic/src", "cq/specs"):
+            (self.place / "crates" / folder).mkdir(parents=True)
+        (self.place / "crates.txt").touch()
+        shutil.copy(TOP / "cq", self.place)
+        (self.place / "prove").write_text(PROVE, encoding="ascii")
+        (self.place / "prove").chmod(0o755)
+
+    def start(self, *words, by="cq", **environment):
+        """Starts the launcher."""
+        streams = {"stdin": subprocess.DEVNULL, "stdout": subprocess.PIPE, "stderr": subprocess.DEVNULL, "text": True}
+        return subprocess.Popen([self.place / by, *words], env={**os.environ, **environment}, cwd="/", **streams)
+
+    def run(self, *words, **environment):
+        """Runs the launcher. Returns what was printed, and the status."""
+        started = self.start(*words, **environment)
+        printed = started.communicate(timeout=60)[0]
+        return printed, started.returncode
+
+    def builds(self):
+        """Returns the programs that were built since the last call."""
+        list_of_builds = self.place / "builds"
+        built = list_of_builds.read_text(encoding="ascii").split("built ")[1:] if list_of_builds.exists() else []
+        list_of_builds.unlink(missing_ok=True)
+        return [it.strip() for it in built]
+
+    def change(self):
+        """Makes a source newer than all programs."""
+        later = time.time() + 1
+        time.sleep(1.1)
+        source = self.place / "crates" / "cq" / "src" / "main.rt"
+        source.touch()
+        os.utime(source.parent, (later, later))
+
+    def expect(self, what, found, wanted):
+        if found != wanted:
+            self.wrong += 1
+            print(f"{what}: {found}, not {wanted}")
+
+
+def try_commands(folder):
+    folder.expect("the first command", folder.run("echo", "a b", ""), ("cq_basic <echo> <a b> <>", 4))
+    folder.expect("its builds", folder.builds(), ["cq_basic"])
+    folder.expect("the next one", folder.run("read", "x"), ("cq_basic <read> <x>", 4))
+    folder.expect("race", folder.run("race", "3"), ("cq <race> <3>", 4))
+    folder.expect("builds for race", folder.builds(), ["cq"])
+    folder.expect("another one", folder.run("take", "log"), ("cq <take> <log>", 4))
+    folder.expect("its builds", folder.builds(), [])
+
+
+def try_changes(folder):
+    folder.change()
+    folder.expect("after a change", folder.run("echo"), ("cq_basic <echo>", 4))
+    folder.expect("log", folder.run("log", "d"), ("cq <log> <d>", 4))
+    folder.expect("builds after a change", folder.builds(), ["cq_basic", "cq"])
+    (folder.place / "link").symlink_to(folder.place / "cq")
+    linked = folder.start("stat", by="link")
+    folder.expect("by a link", linked.communicate(timeout=60)[0], "cq <stat>")
+
+
+def try_failures(folder):
+    folder.change()
+    folder.expect("a build that fails", folder.run("echo", FAILS="1"), ("", 3))
+    started = folder.start("echo", LASTS="30")
+    while not (folder.place / "builds").read_text(encoding="ascii").count("built") == 2:
+        time.sleep(0.05)
+    time.sleep(0.2)
+    started.send_signal(signal.SIGTERM)
+    folder.expect("a build that is ended", started.wait(timeout=60), 143)
+    folder.builds()
+    both = [folder.start("echo", LASTS="1") for _ in range(3)]
+    folder.expect("at once", [it.communicate(timeout=60)[0] for it in both], ["cq_basic <echo>"] * 3)
+    folder.expect("builds at once", folder.builds(), ["cq_basic"])
+
+
+def main():
+    with tempfile.TemporaryDirectory() as place:
+        folder = Folder(place)
+        try_commands(folder)
+        folder.builds()
+        try_changes(folder)
+        try_failures(folder)
+    print(f"{folder.wrong} wrong")
+    return folder.wrong != 0
+
+
+if __name__ == "__main__":
+    sys.exit(main())
