@@ -1,5 +1,5 @@
 #!/usr/bin/env python3
-"""Tries which program the launcher ./cq builds and runs, in a folder of its own with a `prove` that only copies.
+"""Tries which program the launcher ./cq builds and runs, in a folder of its own. In place of `prove` is a script that proves nothing.
 
     docs/try_launcher.py
 
@@ -8,7 +8,7 @@
 - A source that is newer than the program has it built again, and the basic one where the command is neither of these.
 - Words reach the program as they were given, and its status is that of the launcher. A link to the launcher serves too.
 - If the build fails, the status is 3. A signal ends it.
-- Commands that begin at once build once.
+- Commands that begin at once build once. One that waited for the whole program runs that.
 
 The last line is `N wrong`, and the status is 0 if that is none, else 1.
 """
@@ -23,12 +23,12 @@ import time
 
 TOP = pathlib.Path(__file__).resolve().parent.parent
 
-# It stands in for ./prove: what it makes prints its own name and its words, and ends with status 4.
+# It is in place of ./prove: what it makes prints its own name and its words, and ends with status 4.
 PROVE = """\
 #!/bin/sh
 echo "built $2" >>"${0%/*}/builds"
 [ -z "$FAILS" ] || exit 1
-[ -z "$LASTS" ] || { trap 'exit 143' TERM; sleep "$LASTS" & wait $!; }
+[ -z "$LASTS" ] || { sleep "$LASTS" & trap "kill $!; exit 143" TERM; wait $!; }
 mkdir -p "${0%/*}/out/proved/$2"
 printf '#!/bin/sh\\nprintf "%%s" "%s"\\nprintf " <%%s>" "$@"\\nexit 4\\n' "$2" >"${0%/*}/out/proved/$2/$2"
 chmod +x "${0%/*}/out/proved/$2/$2"
@@ -65,13 +65,19 @@ class Folder:
         list_of_builds.unlink(missing_ok=True)
         return [it.strip() for it in built]
 
+    def wait_for_builds(self, count):
+        """Waits until this many builds have begun since the last call of `builds`, for a minute at most."""
+        list_of_builds, end = self.place / "builds", time.monotonic() + 60
+        while not list_of_builds.exists() or list_of_builds.read_text(encoding="ascii").count("built") < count:
+            if time.monotonic() > end:
+                sys.exit("no build began within a minute")
+            time.sleep(0.05)
+        time.sleep(0.2)
+
     def change(self):
         """Makes a source newer than all programs."""
-        later = time.time() + 1
         time.sleep(1.1)
-        source = self.place / "crates" / "cq" / "src" / "main.rt"
-        source.touch()
-        os.utime(source.parent, (later, later))
+        (self.place / "crates" / "cq" / "src" / "main.rt").touch()
 
     def expect(self, what, found, wanted):
         if found != wanted:
@@ -83,6 +89,7 @@ def try_commands(folder):
     folder.expect("the first command", folder.run("echo", "a b", ""), ("cq_basic <echo> <a b> <>", 4))
     folder.expect("its builds", folder.builds(), ["cq_basic"])
     folder.expect("the next one", folder.run("read", "x"), ("cq_basic <read> <x>", 4))
+    folder.expect("help", folder.run("log", "--help"), ("cq_basic <log> <--help>", 4))
     folder.expect("race", folder.run("race", "3"), ("cq <race> <3>", 4))
     folder.expect("builds for race", folder.builds(), ["cq"])
     folder.expect("another one", folder.run("take", "log"), ("cq <take> <log>", 4))
@@ -103,15 +110,19 @@ def try_failures(folder):
     folder.change()
     folder.expect("a build that fails", folder.run("echo", FAILS="1"), ("", 3))
     started = folder.start("echo", LASTS="30")
-    while not (folder.place / "builds").read_text(encoding="ascii").count("built") == 2:
-        time.sleep(0.05)
-    time.sleep(0.2)
+    folder.wait_for_builds(2)
     started.send_signal(signal.SIGTERM)
     folder.expect("a build that is ended", started.wait(timeout=60), 143)
     folder.builds()
     both = [folder.start("echo", LASTS="1") for _ in range(3)]
     folder.expect("at once", [it.communicate(timeout=60)[0] for it in both], ["cq_basic <echo>"] * 3)
     folder.expect("builds at once", folder.builds(), ["cq_basic"])
+    folder.change()
+    race = folder.start("race", "1", LASTS="1")
+    folder.wait_for_builds(1)
+    waited = folder.start("stat")
+    folder.expect("one that waited", [it.communicate(timeout=60)[0] for it in (race, waited)], ["cq <race> <1>", "cq <stat>"])
+    folder.expect("builds for both", folder.builds(), ["cq"])
 
 
 def main():
