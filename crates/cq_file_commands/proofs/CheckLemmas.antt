@@ -16,7 +16,7 @@ use Rattle.cq_text.specs.Output.{AppendsBeginning}
 use Rattle.cq_files.specs.Counted.{CountsFaults}
 use Rattle.cq_files.specs.Looking.{Looks}
 use Rattle.cq_files.proofs.CauseLemmas.{of_any}
-use Rattle.cq_files.specs.Queue.{AreImageFiles, IsImageName, IsOpenFolder, ListsImages}
+use Rattle.cq_files.specs.Queue.{AreImageFiles, IsImageName, IsOpenFolder}
 use Rattle.cq_files.specs.FolderFaults.{HasCause, IsFirstFault, IsLookingFault, IsSmall}
 use Rattle.cq_file_commands.specs.FileFaults.{IsCheckFault}
 use Rattle.cq_files.proofs.QueueLemmas.{keeps-trans, of_before}

@@ -13,7 +13,7 @@ use Rattle.cq_text.specs.Output.{AppendsBeginning}
 use Rattle.cq_text.specs.declared.fault.ToolFault.{ToolFault}
 use Rattle.cq_text.specs.declared.fault.ToolFault.TheVariants.{BadCycleName, NoSuchFile, OutOfMemory, WriteFault}
 use Rattle.cq_config_text.specs.declared.config_text.SavedConfig.{SavedConfig}
-use Rattle.cq_files.specs.FolderFaults.{HasCause, IsFileFault, IsFolderFault, IsGivingFault, IsMissing, IsNameFault, IsShowFault, IsUnreadFault, NamesCycle}
+use Rattle.cq_files.specs.FolderFaults.{HasCause, IsFileFault, IsGivingFault, IsMissing, IsNameFault, IsShowFault, IsUnreadFault, NamesCycle}
 use Rattle.cq_files.specs.Queue.{IsImageFile, IsImageName, IsOpenFolder}
 use Rattle.cq_file_commands.specs.Shown.{IsGiven, IsShown}
 use Rattle.cq_file_commands.specs.declared.given.GivenImage.{GivenImage}
@@ -97,12 +97,6 @@ of_fault : {T : Type 0} (result : Result T ToolFault) (is : ToolFault) (P : Tool
     → IfErr result (λ fault. fault ≡ is) → P is → IfErr result P
 of_fault (Ok value) is P same holds = tt
 of_fault (Err fault) is P same holds = subst P (sym same) holds
-
--- a fault that is passed on and none of the writer
-pub never_cut_short : {T : Type 0} (P : Type 0) (result : Result T ToolFault) (fault : ToolFault) → IsErrAnd result (λ passed. passed ≡ fault)
-    → fault ≢ WriteFault → IfErr result (λ fault. fault ≡ WriteFault → P)
-never_cut_short P (Ok value) fault is other = tt
-never_cut_short P (Err passed) fault is other = λ same. absurd (other (sym is ∙ same))
 
 -- at a fault of the writer nothing is asked of the others
 others_silent : {T : Type 0} (P : Type 0) (result : Result T ToolFault) → IfErr result (λ fault. fault ≡ WriteFault)

@@ -20,7 +20,7 @@ use Rattle.cq_files.specs.declared.opening.SavedQueue.{SavedQueue}
 use Rattle.cq_files.specs.Queue.{AreImageFiles, HoldQueue, IsImageFile, IsImageName, IsLawfulImage, file_of, name_cmp}
 use Rattle.cq_files.specs.declared.files.TheConstants.{MOST_FILE_BYTES}
 use Rattle.cq_text.specs.declared.fault.ToolFault.{ToolFault}
-use Rattle.cq_text.specs.declared.fault.ToolFault.TheVariants.{OutOfMemory, FolderFault, FileFault, FileTooLarge, WriteFault, ConfigLine, BadShape, BadConfig, BadCycleName, FaultyImage, NoQueueHere, OldVersion, WrongEnd, NoSuchFile, ImagesAtFault}
+use Rattle.cq_text.specs.declared.fault.ToolFault.TheVariants.{OutOfMemory, FolderFault, FileFault, FileTooLarge, WriteFault, ConfigLine, BadShape, BadConfig, BadCycleName, FaultyImage, NoQueueHere, OldVersion, WrongEnd, NoSuchFile}
 
 -- a fault of listing the folder
 abbrev pub IsListFault : ToolFault → Type 0

@@ -3,7 +3,7 @@
 ghost use Rattle.std.specs.Prelude.{◌≡◌, MatchResult};
 ghost use Rattle.cq_program.specs.Statuses.{IsStatus};
 
-use cq_orders::{LogSettings, Order};
+use cq_orders::Order;
 use cq_program::{DONE, FAULT, Start, fail, order_in, status_of_basic};
 use cq_race::{OpenGate, race};
 use cq_service::log;

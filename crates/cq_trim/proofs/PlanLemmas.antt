@@ -1,11 +1,9 @@
 -- What is decided of a queue that is opened.
-use Rattle.std.proofs.Common.{◌≡◌, ◌≢◌, ◌≤◌, ℕ, List, arith, inl, inr, max, min, subst, sym}
-use Rattle.std.specs.Prelude.{Option, None, Some, IfErr, IfOk, IfSome, IsErrAnd, Result, Ok, Err, option_map, string_bytes}
+use Rattle.std.proofs.Common.{◌≢◌, ◌≤◌, ℕ, List, arith, inl, inr, max, min, subst, sym}
+use Rattle.std.specs.Prelude.{Option, None, Some, IfErr, IfOk, IfSome, Result, Ok, Err, option_map, string_bytes}
 use Rattle.cq_cycle.specs.declared.roll.TheConstants.{LAST_CYCLE}
 use Rattle.cq_folder.specs.Folder.{Files}
-use Rattle.cq_files.proofs.CauseLemmas.{MindsFault}
 use Rattle.cq_files.specs.Counted.{CountsFaults}
-use Rattle.cq_files.specs.FolderFaults.{IsCurrent, MindsVersion}
 use Rattle.cq_files.specs.Openable.{IsOpenFault, IsOpened}
 use Rattle.cq_files.specs.Queue.{CanBeOpened, HoldQueue, contents_in}
 use Rattle.cq_files.specs.declared.opening.SavedQueue.{SavedQueue}
@@ -81,20 +79,6 @@ module _ (a : Option Files) (wanted : TrimSettings) (queue : SavedQueue) (result
       by (Some files) holds (Err fault) (inl memory) =
           subst (λ (f : ToolFault). IsUndecided wanted files f) (sym memory) (inl (inr (tt, tt)))
       by (Some files) holds (Err fault) (inr word) = inr (queue, record { lawful = opened.lawful; held = holds; openable = can_whole }, word)
-
--- the folder is of version 2, and it is decided or not
-pub minds_still : {T : Type 0} (a : Option Files) (result : Result T ToolFault) → IfSome a (λ files. IsCurrent files)
-    → IfSome a (λ files. MindsVersion files result)
-minds_still None result second = tt
-minds_still (Some files) (Ok done) second = second
-minds_still (Some files) (Err fault) second = inr (inr second)
-
--- a queue that is not opened is passed on
-pub minds_passed : {T : Type 0} (a : Option Files) (fault : ToolFault) (result : Result T ToolFault) → IsErrAnd result (λ passed. passed ≡ fault)
-    → MindsFault a fault → IfSome a (λ files. MindsVersion files result)
-minds_passed None fault result is minds = tt
-minds_passed (Some files) fault (Ok value) is minds = absurd is
-minds_passed (Some files) fault (Err passed) is minds = subst (MindsFault (Some files)) (sym is) minds
 
 -- no failure is counted for it
 pub counts_still : {T : Type 0} (was now : ℕ) (wanted : TrimSettings) (settings : Settings) (result : Result T ToolFault) → was ≤ now

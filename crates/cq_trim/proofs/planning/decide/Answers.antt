@@ -4,7 +4,8 @@ use Rattle.cq_files.proofs.CountLemmas.{counts_passed}
 use Rattle.cq_text.proofs.FaultLemmas.{passed_on}
 use Rattle.cq_text.specs.declared.fault.ToolFault.TheVariants.{WriteFault}
 use Rattle.cq_trim.specs.Plans.{IsUndecided}
-use Rattle.cq_trim.proofs.PlanLemmas.{counts_still, decided, minds_passed, minds_still, not_decided, undecided, unprinted_still}
+use Rattle.cq_files.proofs.RefusingLemmas.{minds_passed, minds_second}
+use Rattle.cq_trim.proofs.PlanLemmas.{counts_still, decided, not_decided, undecided, unprinted_still}
 use Rattle.cq_trim.proofs.planning.decide.Goals as goal
 
 pub returns-clause-decides : goal.returns-clause-decides
@@ -46,7 +47,7 @@ returns-clause-unprinted g c =
 
 pub returns-clause-version : goal.returns-clause-version
 returns-clause-version g c =
-    minds_still (g.F.Folder.files c.args.folder.now) c.decision_for.result (c.in_ok-queue.ensures.version refl)
+    minds_second (g.F.Folder.files c.args.folder.now) c.decision_for.result (c.in_ok-queue.ensures.version refl)
 
 pub returns-clause-enters : goal.returns-clause-enters
 returns-clause-enters g c = record {

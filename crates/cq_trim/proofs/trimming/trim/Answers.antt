@@ -9,7 +9,7 @@ use Rattle.cq_text.proofs.FaultLemmas.{passed_on}
 use Rattle.cq_text.specs.declared.fault.ToolFault.TheVariants.{OutOfMemory, WriteFault}
 use Rattle.cq_files.specs.FolderFaults.{IsSaveFault, TellsFile}
 use Rattle.cq_trim.proofs.EndLemmas.{comes_to, kept_or_trimmed, trimmed_by, trims_none, trims_not, undone, unsaved}
-use Rattle.cq_trim.proofs.PlanLemmas.{minds_passed, minds_still}
+use Rattle.cq_files.proofs.RefusingLemmas.{minds_passed, minds_second}
 use Rattle.cq_trim.specs.Plans.{Decides}
 use Rattle.cq_trim.specs.Trimmed.{Leaves, first_touched}
 use Rattle.cq_trim.specs.Trims.{outcome_of}
@@ -127,7 +127,7 @@ returns-in_err-name-clause-counted g c =
 
 pub returns-in_err-carry_out-in-Trim-clause-version : goal.returns-in_err-carry_out-in-Trim-clause-version
 returns-in_err-carry_out-in-Trim-clause-version g c =
-    minds_still (g.F.Folder.files c.args.folder.now) (outcome_of c.from_residual-in_err-carry_out-in-Trim.result) c.in_ok-name.ensures.version
+    minds_second (g.F.Folder.files c.args.folder.now) (outcome_of c.from_residual-in_err-carry_out-in-Trim.result) c.in_ok-name.ensures.version
 
 pub returns-in_err-carry_out-in-Trim-clause-counted : goal.returns-in_err-carry_out-in-Trim-clause-counted
 returns-in_err-carry_out-in-Trim-clause-counted g c =
@@ -138,4 +138,4 @@ returns-in_err-carry_out-in-Trim-clause-counted g c =
 
 pub returns-in_err-print_outside-in-Trim-clause-version : goal.returns-in_err-print_outside-in-Trim-clause-version
 returns-in_err-print_outside-in-Trim-clause-version g c =
-    minds_still (g.F.Folder.files c.args.folder.now) (outcome_of c.from_residual-in_err-print_outside-in-Trim.result) c.in_ok-name.ensures.version
+    minds_second (g.F.Folder.files c.args.folder.now) (outcome_of c.from_residual-in_err-print_outside-in-Trim.result) c.in_ok-name.ensures.version
