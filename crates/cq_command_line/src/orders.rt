@@ -1,5 +1,5 @@
-//! Makes an order from what `clap` found in the words. Numbers are read before texts: where a number is missing, no
-//! text is there yet that would be freed.
+//! Makes an order from what `clap` found in the words. Most numbers are read before texts: where one is missing, no text is
+//! there yet that would be freed.
 ghost use Rattle.std.specs.Prelude.{◌≡◌, [], ◌∷◌, List, map, option_map, codes, string_bytes, IfOk, IfSome, IsSomeAnd, None, Ok, Some};
 ghost use Rattle.std.specs.Str.Parse.{IsNumeral, digits_value, without_leading_plus};
 ghost use Rattle.clap.specs.Words.{first_of, found_of, rows_of, subcommand_rows_of};

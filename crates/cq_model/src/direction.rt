@@ -1,4 +1,4 @@
-/// Which way a tailer reads.
+/// Which way messages are read.
 #[derive(Clone, Copy, Debug, PartialEq, Eq)]
 pub enum Direction {
     /// The message with the least index at or after the cursor comes next.

@@ -28,7 +28,7 @@ folder_of (New folder settings) = Some (string_bytes folder)
 folder_of (Repair folder file dry_run) = Some (string_bytes folder)
 folder_of (Explain words) = None
 
--- the order is for one caller and one call, and is done by `run` of `cq_commands`
+-- the order is for one caller and one call, and is done by `run` of `cq_running`
 abbrev pub IsPlain : Order → Type 0
 IsPlain (WriteBy folder settings) = ⊥
 IsPlain (Log folder settings) = ⊥

@@ -1,4 +1,4 @@
-//! Points of a queue: the index from which something is read or kept, by the word that a user writes for it, and the moment that it is now.
+//! Points of a queue: the index from which something is read or kept, by the word that a user writes for it, and the time of a clock.
 //!
 //! | item | what it is for |
 //! |---|---|

@@ -1,5 +1,5 @@
-//! The program `cq` but for `log` and `race`, the commands on a queue that is live. No crate here shares a queue among threads, so its
-//! proof waits for none that does.
+//! The program `cq` but for `log` and `race`, the commands on a queue that is live. No crate that it uses shares a queue among threads,
+//! so its proof waits for none of those.
 //!
 //! | item | what it is for |
 //! |---|---|

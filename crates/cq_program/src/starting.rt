@@ -31,7 +31,7 @@ pub const NOTHING: u8 = 4;
 
 /// What the basic program prints of a command that it lacks.
 const NOT_BASIC: &str =
-    "this program has no 'log' and 'race': './cq log' and './cq race' build the one that has them";
+    "this program has no 'log' or 'race': './cq log' and './cq race' build the one that has them";
 
 /// What a start of the program is given.
 #[derive(Drop)]

@@ -1,5 +1,5 @@
-//! Starts the program `cq` several times, without `log` and `race` at first, over a folder of the system with a queue, and over three that have a log too. All that each
-//! start prints, its errors and its status go to standard output.
+//! Starts the program without `log` and `race`, and then the whole one, several times: over a folder of the system with a queue, and over
+//! three that have a log too. All that each start prints, its errors and its status go to standard output.
 #![tactic(auto)]
 
 use cq_program::basic_status;
