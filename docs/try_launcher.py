@@ -23,14 +23,15 @@ import time
 
 TOP = pathlib.Path(__file__).resolve().parent.parent
 
-# It is in place of ./prove: what it makes prints its own name and its words, and ends with status 4.
+# It is in place of ./prove. What it makes prints which program it is, the name by which it was called and its words, and ends with
+# status 4.
 PROVE = """\
 #!/bin/sh
 echo "built $2" >>"${0%/*}/builds"
 [ -z "$FAILS" ] || exit 1
 [ -z "$LASTS" ] || { sleep "$LASTS" & trap "kill $!; exit 143" TERM; wait $!; }
 mkdir -p "${0%/*}/out/proved/$2"
-printf '#!/bin/sh\\nprintf "%%s" "%s"\\nprintf " <%%s>" "$@"\\nexit 4\\n' "$2" >"${0%/*}/out/proved/$2/$2"
+printf '#!/bin/sh\\nprintf "%s, ${0##*/}"\\nprintf " <%%s>" "$@"\\nexit 4\\n' "$2" >"${0%/*}/out/proved/$2/$2"
 chmod +x "${0%/*}/out/proved/$2/$2"
 """
 
@@ -86,24 +87,24 @@ class Folder:
 
 
 def try_commands(folder):
-    folder.expect("the first command", folder.run("echo", "a b", ""), ("cq_basic <echo> <a b> <>", 4))
+    folder.expect("the first command", folder.run("echo", "a b", ""), ("cq_basic, cq <echo> <a b> <>", 4))
     folder.expect("its builds", folder.builds(), ["cq_basic"])
-    folder.expect("the next one", folder.run("read", "x"), ("cq_basic <read> <x>", 4))
-    folder.expect("help", folder.run("log", "--help"), ("cq_basic <log> <--help>", 4))
-    folder.expect("race", folder.run("race", "3"), ("cq <race> <3>", 4))
+    folder.expect("the next one", folder.run("read", "x"), ("cq_basic, cq <read> <x>", 4))
+    folder.expect("help", folder.run("log", "--help"), ("cq_basic, cq <log> <--help>", 4))
+    folder.expect("race", folder.run("race", "3"), ("cq, cq <race> <3>", 4))
     folder.expect("builds for race", folder.builds(), ["cq"])
-    folder.expect("another one", folder.run("take", "log"), ("cq <take> <log>", 4))
+    folder.expect("another one", folder.run("take", "log"), ("cq, cq <take> <log>", 4))
     folder.expect("its builds", folder.builds(), [])
 
 
 def try_changes(folder):
     folder.change()
-    folder.expect("after a change", folder.run("echo"), ("cq_basic <echo>", 4))
-    folder.expect("log", folder.run("log", "d"), ("cq <log> <d>", 4))
+    folder.expect("after a change", folder.run("echo"), ("cq_basic, cq <echo>", 4))
+    folder.expect("log", folder.run("log", "d"), ("cq, cq <log> <d>", 4))
     folder.expect("builds after a change", folder.builds(), ["cq_basic", "cq"])
     (folder.place / "link").symlink_to(folder.place / "cq")
     linked = folder.start("stat", by="link")
-    folder.expect("by a link", linked.communicate(timeout=60)[0], "cq <stat>")
+    folder.expect("by a link", linked.communicate(timeout=60)[0], "cq, cq <stat>")
 
 
 def try_failures(folder):
@@ -115,13 +116,13 @@ def try_failures(folder):
     folder.expect("a build that is ended", started.wait(timeout=60), 143)
     folder.builds()
     both = [folder.start("echo", LASTS="1") for _ in range(3)]
-    folder.expect("at once", [it.communicate(timeout=60)[0] for it in both], ["cq_basic <echo>"] * 3)
+    folder.expect("at once", [it.communicate(timeout=60)[0] for it in both], ["cq_basic, cq <echo>"] * 3)
     folder.expect("builds at once", folder.builds(), ["cq_basic"])
     folder.change()
     race = folder.start("race", "1", LASTS="1")
     folder.wait_for_builds(1)
     waited = folder.start("stat")
-    folder.expect("one that waited", [it.communicate(timeout=60)[0] for it in (race, waited)], ["cq <race> <1>", "cq <stat>"])
+    folder.expect("one that waited", [it.communicate(timeout=60)[0] for it in (race, waited)], ["cq, cq <race> <1>", "cq, cq <stat>"])
     folder.expect("builds for both", folder.builds(), ["cq"])
 
 
