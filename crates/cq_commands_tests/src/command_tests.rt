@@ -7,9 +7,9 @@ use crate::steps::{AFTER_HELLO, AT_START, WRITES_HELLO_WORLD, expect, push_said,
 use crate::streams::{Said, said};
 use crate::word_tests::words_of;
 use cq_command_line::parse;
-use cq_running::{Order, run, take_by};
 use cq_fixtures::{DAY, expect_answer};
 use cq_folder::{Folder, MemoryFolder};
+use cq_running::{Order, run, take_by};
 use std::alloc::Global;
 use std::test::Fail;
 

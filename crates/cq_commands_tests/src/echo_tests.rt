@@ -1,8 +1,8 @@
 //! What `echo` and `cycle` print, which need no folder, and the texts of faults.
 use crate::streams::said;
-use cq_running::{ToolFault, cycle, echo};
 use cq_fixtures::expect_text;
 use cq_model::Refusal;
+use cq_running::{ToolFault, cycle, echo};
 use std::alloc::{AllocError, Global};
 use std::io;
 use std::io::{ErrorKind, Read, Write};

@@ -3,12 +3,12 @@
 //! A step is a command or a change of a file. Commands share no name with the calls of other tests: they open the queue,
 //! make all their calls of it, and save it.
 use crate::streams::{Broken, BrokenAfter, Said, said};
+use cq_fixtures::{DAY, expect_answer, expect_text, push_missed};
+use cq_folder::{Access, FailingFolder, Folder, FolderFault, MemoryFolder};
 use cq_running::{
     InitSettings, ReadForm, ReadSettings, TakeSettings, Took, ToolFault, check, drop_before, dump,
     init, migrate, read, salvage, take, take_by, write,
 };
-use cq_fixtures::{DAY, expect_answer, expect_text, push_missed};
-use cq_folder::{Access, FailingFolder, Folder, FolderFault, MemoryFolder};
 use std::alloc::{AllocError, Global};
 use std::io::Write;
 use std::test::Fail;

@@ -1,6 +1,6 @@
 //! What is said of a command, and streams that fail.
-use cq_running::ToolFault;
 use cq_folder::FolderFault;
+use cq_running::ToolFault;
 use std::alloc::Global;
 use std::io::{ErrorKind, Read, Write};
 use std::{io, str};

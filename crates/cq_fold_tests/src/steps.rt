@@ -1,11 +1,11 @@
 //! Steps over a folder, and what is said at each.
 use crate::logs::{Frame, log_of};
-use cq_running::{
-    InitSettings, ReadForm, ReadSettings, ToolFault, check, drop_before, init, read, take, write,
-};
 use cq_fixtures::{contents_text, expect_answer};
 use cq_fold::{FoldFault, Folded, fold};
 use cq_folder::{Access, Folder, MemoryFolder};
+use cq_running::{
+    InitSettings, ReadForm, ReadSettings, ToolFault, check, drop_before, init, read, take, write,
+};
 use std::alloc::Global;
 use std::str;
 use std::test::Fail;

@@ -1,9 +1,9 @@
 //! What `follow` prints, and when it ends.
 use crate::world::Step::{Drop, Put, Trim, Write};
 use crate::world::{Life, LivingFolder, Room, Says, Ticks};
-use cq_running::{ReadForm, ReadSettings};
 use cq_fixtures::{DAY, expect_text};
 use cq_following::{Pipe, Watch, follow};
+use cq_running::{ReadForm, ReadSettings};
 use std::alloc::{AllocError, Global};
 use std::io::ErrorKind;
 use std::test::Fail;

@@ -1,9 +1,9 @@
 //! Refused memory: the call that is refused for it is made again.
 use crate::world::Step::Write;
 use crate::world::{Life, LivingFolder, Says, Ticks};
-use cq_running::{ReadForm, ReadSettings};
 use cq_fixtures::expect_text;
 use cq_following::{Pipe, Watch, follow};
+use cq_running::{ReadForm, ReadSettings};
 use std::alloc::Global;
 use std::test::Fail;
 

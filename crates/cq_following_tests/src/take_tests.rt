@@ -1,9 +1,9 @@
 //! What a take prints that waits, and when it ends.
 use crate::world::Step::{Put, Write};
 use crate::world::{Life, LivingFolder, Says, Ticks};
-use cq_running::TakeSettings;
 use cq_fixtures::expect_text;
 use cq_following::{Watch, take_waiting};
+use cq_running::TakeSettings;
 use std::alloc::Global;
 use std::test::Fail;
 

@@ -1,8 +1,8 @@
 //! A clock, a folder that changes as it is entered, and writers that fail.
-use cq_running::{ToolFault, drop_before, init, write};
 use cq_folder::{Access, Folder, FolderFault, MemoryFolder, NewFile};
 use cq_following::Changes;
 use cq_orders::{InitSettings, TrimSettings};
+use cq_running::{ToolFault, drop_before, init, write};
 use cq_trim::trim;
 use std::alloc::{Alloc, Global};
 use std::cell::Cell;

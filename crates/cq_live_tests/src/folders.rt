@@ -1,8 +1,8 @@
 //! Folders of queues, and what they hold.
-use cq_running::{InitSettings, init, take, write};
 use cq_files::{Retain, open_queue};
 use cq_fixtures::{contents_text, expect_answer, expect_text};
 use cq_folder::{Access, Folder, LOG_FILE, MemoryFolder};
+use cq_running::{InitSettings, init, take, write};
 use std::alloc::Global;
 use std::test::Fail;
 

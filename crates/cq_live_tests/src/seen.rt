@@ -1,8 +1,8 @@
 //! What commands see of a folder whose queue is live.
-use cq_running::{ReadForm, ReadSettings, drop_before, read};
 use cq_fixtures::expect_text;
 use cq_logged::{LoggedFolder, SystemLock};
 use cq_real_folder::RealFolder;
+use cq_running::{ReadForm, ReadSettings, drop_before, read};
 use std::test::Fail;
 
 /// A folder of the system that is seen with its log.

@@ -1,5 +1,4 @@
 //! Folders of the system, and what they hold.
-use cq_running::{InitSettings, init};
 use cq_files::{Retain, open_queue};
 use cq_fixtures::{contents_text, expect_text};
 use cq_folder::{Access, Folder};
@@ -7,6 +6,7 @@ use cq_live::{Live, SystemPlace, open};
 use cq_log_file::LogFile;
 use cq_model::Contents;
 use cq_real_folder::RealFolder;
+use cq_running::{InitSettings, init};
 use std::alloc::Global;
 use std::test::Fail;
 use std::{env, fs, process};

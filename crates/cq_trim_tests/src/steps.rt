@@ -1,8 +1,8 @@
 //! Steps over the folder of a queue, and what is said at each.
-use cq_running::{check, drop_before, init, read, take, write};
 use cq_fixtures::expect_text;
 use cq_folder::{Access, Folder, MemoryFolder};
 use cq_orders::{InitSettings, ReadForm, ReadSettings};
+use cq_running::{check, drop_before, init, read, take, write};
 use cq_trim::{TrimFault, TrimSettings, trim};
 use std::alloc::{AllocError, Global};
 use std::fmt::Display;
