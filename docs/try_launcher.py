@@ -7,7 +7,7 @@
 - `log` and `race` build the whole program. From then on it runs every command.
 - A source that is newer than the program has it built again, and the basic one where the command is neither of these.
 - Words reach the program as they were given, and its status is that of the launcher. A link to the launcher serves too.
-- If the build fails, the status is 3. A signal ends it.
+- If the build fails or cannot begin, the status is 3. SIGTERM and SIGINT end it.
 - Commands that begin at once build once. One that waited for the whole program runs that.
 
 The last line is `N wrong`, and the status is 0 if that is none, else 1.
@@ -90,7 +90,8 @@ def try_commands(folder):
     folder.expect("the first command", folder.run("echo", "a b", ""), ("cq_basic, cq <echo> <a b> <>", 4))
     folder.expect("its builds", folder.builds(), ["cq_basic"])
     folder.expect("the next one", folder.run("read", "x"), ("cq_basic, cq <read> <x>", 4))
-    folder.expect("help", folder.run("log", "--help"), ("cq_basic, cq <log> <--help>", 4))
+    for words in (["log", "--help"], ["log", "-h"], ["race", "--help"], ["race", "-h"]):
+        folder.expect("help", folder.run(*words), (f"cq_basic, cq <{words[0]}> <{words[1]}>", 4))
     folder.expect("race", folder.run("race", "3"), ("cq, cq <race> <3>", 4))
     folder.expect("builds for race", folder.builds(), ["cq"])
     folder.expect("another one", folder.run("take", "log"), ("cq, cq <take> <log>", 4))
@@ -110,11 +111,19 @@ def try_changes(folder):
 def try_failures(folder):
     folder.change()
     folder.expect("a build that fails", folder.run("echo", FAILS="1"), ("", 3))
-    started = folder.start("echo", LASTS="30")
-    folder.wait_for_builds(2)
-    started.send_signal(signal.SIGTERM)
-    folder.expect("a build that is ended", started.wait(timeout=60), 143)
-    folder.builds()
+    folder.expect("one of the whole program", folder.run("race", "1", FAILS="1"), ("", 3))
+    folder.expect("builds that fail", folder.builds(), ["cq_basic", "cq"])
+    for number, status in ((signal.SIGTERM, 143), (signal.SIGINT, 130)):
+        started = folder.start("echo", LASTS="30")
+        folder.wait_for_builds(1)
+        started.send_signal(number)
+        folder.expect("a build that is ended", started.wait(timeout=60), status)
+        folder.builds()
+    lock = folder.place / "out" / "lock"
+    lock.unlink()
+    lock.mkdir()
+    folder.expect("a build that cannot begin", folder.run("echo"), ("", 3))
+    lock.rmdir()
     both = [folder.start("echo", LASTS="1") for _ in range(3)]
     folder.expect("at once", [it.communicate(timeout=60)[0] for it in both], ["cq_basic, cq <echo>"] * 3)
     folder.expect("builds at once", folder.builds(), ["cq_basic"])
