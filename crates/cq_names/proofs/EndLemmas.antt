@@ -8,7 +8,7 @@ use Rattle.cq_folder.specs.Folder.{Files, KeepsFiles, KeepsOrWrites, WritesFile}
 use Rattle.cq_folder.specs.declared.names.TheConstants.{CONFIG_FILE}
 use Rattle.cq_files.specs.Counted.{CountsFaults}
 use Rattle.cq_files.specs.FolderFaults.{IsFileFault, IsSaveFault, MindsVersion}
-use Rattle.cq_files.specs.Openable.{IsOpenFault, IsOpened}
+use Rattle.cq_files.specs.Openable.{IsOpened}
 use Rattle.cq_files.specs.Saving.{KeepsOrSaves}
 use Rattle.cq_files.specs.declared.opening.SavedQueue.{SavedQueue}
 use Rattle.cq_files.proofs.OpenLemmas.{opened_in}
@@ -42,11 +42,6 @@ undecided change None queue (Err fault) opened is = tt
 undecided change (Some files) queue (Err fault) opened (inl memory) = inr (inl memory)
 undecided change (Some files) queue (Err fault) opened (inr word) =
     inr (inr (record { queue = queue; opened = opened_in files queue opened; word = word }))
-
-pub unopened_undecided : (change : NameChange) (a : Option Files) (fault : ToolFault) → IfSome a (λ files. IsOpenFault files fault)
-    → IfSome a (λ files. IsUndecided change files fault)
-unopened_undecided change None fault cause = tt
-unopened_undecided change (Some files) fault cause = inl cause
 
 -- a word that means no position has nothing to do with the device or the writer
 meant_device : (settings : Settings) (word : List ℕ) (fault : ToolFault) → IsPointFault settings.roll settings.epoch word fault

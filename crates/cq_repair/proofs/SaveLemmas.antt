@@ -2,9 +2,9 @@
 use Rattle.std.proofs.Common.{◌≡◌, ◌≢◌, ◌∙◌, ℕ, List, [], ◌∷◌, ap, inl, inr, refl}
 use Rattle.std.specs.Prelude.{Option, None, Some, OnErr, Result, Ok, Err, IfErr}
 use Rattle.cq_folder.specs.Folder.{Files, KeepsFiles, KeepsOrWrites, NamedFile, WritesFile, WritesFiles, after_writes}
-use Rattle.cq_files.specs.FolderFaults.{IsFileFault, IsSaveFault, TellsFile}
+use Rattle.cq_files.specs.FolderFaults.{IsSaveFault, TellsFile}
 use Rattle.cq_text.specs.declared.fault.ToolFault.{ToolFault}
-use Rattle.cq_text.specs.declared.fault.ToolFault.TheVariants.{FileFault, FileTooLarge, OutOfMemory, WriteFault}
+use Rattle.cq_text.specs.declared.fault.ToolFault.TheVariants.{FileFault, OutOfMemory, WriteFault}
 use Rattle.cq_repair.specs.Plans.{IsCutShort}
 
 -- one file was written, and then some
@@ -23,16 +23,6 @@ wrote_then_kept None b c name bytes one kept = tt
 wrote_then_kept (Some a) None c name bytes one kept = absurd one
 wrote_then_kept (Some a) (Some b) None name bytes one kept = absurd kept
 wrote_then_kept (Some a) (Some b) (Some c) name bytes one kept = λ file. kept file ∙ one file
-
--- the old file is not written
-pub cut_first : {T : Type 0} (result : Result T ToolFault) (a b : Option Files) (old : NamedFile) (image : List ℕ) (All : Type 0)
-    → IfErr result (IsFileFault old.0) → IfErr result IsSaveFault → OnErr result (KeepsOrWrites a b (old ∷ []))
-    → IfErr result (IsCutShort old image All a b)
-cut_first (Ok done) a b old image All told save whole = tt
-cut_first (Err OutOfMemory) a b old image All told save whole = whole
-cut_first (Err (FileFault name)) a b old image All told save whole = inl (told, whole)
-cut_first (Err (FileTooLarge name)) a b old image All told save whole = absurd save
-cut_first (Err _) a b old image All told save whole = absurd told
 
 -- the old file is, and the rest is not saved
 pub cut_then : {T : Type 0} (result : Result T ToolFault) (a b c : Option Files) (old : NamedFile) (image : List ℕ) (more : List NamedFile)
