@@ -1,4 +1,4 @@
--- Which orders are run how.
+-- Which orders need no live queue, which are run over a folder with its log, and which are done at once.
 use Rattle.std.specs.Prelude.{⊤}
 use Rattle.cq_orders.specs.declared.order.Order.{Order}
 use Rattle.cq_orders.specs.declared.order.Order.TheVariants.{Explain, Follow, Log, New, Race, TakeBy, Write, WriteBy}
@@ -9,7 +9,7 @@ IsBasic (Race messages) = ⊥
 IsBasic (Log folder settings) = ⊥
 IsBasic order = ⊤
 
--- the order is for one caller, and is run over a folder that is seen with what its log gives. One for no folder does not use it
+-- the order is for one caller, and is run over a folder that is seen with what its log gives. An order for no folder uses none
 abbrev pub IsForOne : Order → Type 0
 IsForOne (Race messages) = ⊥
 IsForOne (Log folder settings) = ⊥

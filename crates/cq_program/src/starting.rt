@@ -70,7 +70,7 @@ fn words<R: AllocGlobal + Env>(rt: &R) -> io::Result<Vec<String>> {
     Ok(env::args(rt)?.collect(rt.alloc())?)
 }
 
-/// Runs the command in the words of a command line, as `status_of_basic` does, and returns the exit status. It fails for `log` and
+/// Runs the command in the words of a command line, as `status_of_order` does, and returns the exit status. It fails for `log` and
 /// `race`.
 ///
 /// It is proved that the exit status is `DONE`, `FAULT`, `NOT_UNDERSTOOD` or `NOTHING`.
@@ -93,7 +93,7 @@ where
         Ok(order) => {
             let status = match &order {
                 Order::Log { .. } | Order::Race { .. } => fail(errors, &NOT_BASIC),
-                _ => status_of_basic(rt, errors, &start, &order),
+                _ => status_of_order(rt, errors, &start, &order),
             };
             drop(order);
             status
@@ -108,7 +108,7 @@ where
 ///
 /// Which exit status an outcome or an error has is proved on private functions. What a command comes to over a real folder and real
 /// streams is tested.
-pub fn status_of_basic<'a, R, E>(rt: &'a R, errors: &'a E, start: &Start, order: &Order) -> u8
+pub fn status_of_order<'a, R, E>(rt: &'a R, errors: &'a E, start: &Start, order: &Order) -> u8
 where
     R: AllocGlobal
         + Files<File = File>

@@ -4,7 +4,7 @@ ghost use Rattle.std.specs.Prelude.{◌≡◌, MatchResult};
 ghost use Rattle.cq_program.specs.Statuses.{IsStatus};
 
 use cq_orders::Order;
-use cq_program::{DONE, FAULT, Start, fail, order_in, status_of_basic};
+use cq_program::{DONE, FAULT, Start, fail, order_in, status_of_order};
 use cq_race::{OpenGate, race};
 use cq_service::log;
 use std::fmt::Display;
@@ -51,7 +51,7 @@ where
                     errors,
                     log(rt, errors, start.process, folder.as_str(), settings),
                 ),
-                _ => status_of_basic(rt, errors, &start, &order),
+                _ => status_of_order(rt, errors, &start, &order),
             };
             drop(order);
             status
