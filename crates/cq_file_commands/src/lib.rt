@@ -1,4 +1,4 @@
-//! The commands of the program `cq` on the files of a folder, which need no queue.
+//! The commands of the program `cq` on the files of a folder, which read its files one by one.
 //!
 //! | item | what it is for |
 //! |---|---|

@@ -69,7 +69,7 @@ pub record HasSettings (files : Files) (settings : Settings) : Type 0 where
   pub floor : ℕ
   pub spelled : IsSomeAnd (files CONFIG_FILE.now) (IsTextOf settings positions floor)
 
--- the files' configuration is within its limits, and of the version that new folders have, or of an older one
+-- the files' configuration is within its limits, and `current` says whether its version is the one that new folders have
 pub record HasVersion (files : Files) (current : Bool) : Type 0 where
   pub settings : Settings
   pub configured : HasSettings files settings
@@ -207,8 +207,8 @@ IsFolderFault BadShape = ⊤
 IsFolderFault BadConfig = ⊤
 IsFolderFault _ = ⊥
 
--- a command that changes files is done, or comes to a fault behind those of `queue.cqc`, in a folder of the current version
--- alone, and in one of the first is refused as old
+-- a command that changes files: only in a folder of the current version is it done, or comes to a fault that is neither one
+-- of `queue.cqc` nor `OldVersion`
 abbrev pub MindsVersion : {T : Type 0} → Files → Result T ToolFault → Type 0
 MindsVersion files (Ok done) = IsCurrent files
 MindsVersion files (Err fault) = IsFolderFault fault ⊎ ((fault ≡ OldVersion) ⊎ IsCurrent files)

@@ -1,6 +1,6 @@
 //! The versions of a folder, which are those of the store records of its images (ours; Chronicle Queue has no rule for
-//! them). What one version does in another way than the next is said here and in `store_record` alone: other crates ask
-//! whether a version is the current one, and pass the others on.
+//! them). How they differ is written in this crate alone: here, in `store_record`, and in `Layout` and `room`, which count
+//! the cells of a store record. Other crates ask whether a version is the current one, and pass a version on.
 
 ghost use Rattle.std.specs.Prelude.{◌≡◌, ◌↔◌, IfSome, IsTrue, Some};
 ghost use Rattle.cq_layout.specs.Version.{IsOf, is_current, older_layouts, origin_in, store_in, version_of, version_word};

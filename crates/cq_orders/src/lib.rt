@@ -4,7 +4,8 @@
 //! `ReadForm`, those of `log` in `LogSettings`, those of `trim` in `TrimSettings`, those of `new` in `NewSettings`, those of a `take`
 //! with options in `TakeSettings`, and those of a `write` with options in `WriteSettings` with `InputForm`. `NameChange` is what
 //! `name` does.
-//! `cq_command_line` makes an `Order` from the words of a command line, and `cq_running` runs it.
+//! `cq_command_line` makes an `Order` from the words of a command line. `cq_running` runs a plain one, and `cq_program` and `cq_tools`
+//! the others.
 #![tactic(auto)]
 
 mod order;

@@ -33,7 +33,8 @@ pub(crate) struct Appended {
 }
 
 impl Appended {
-    /// How many messages were appended, the last index, and why no more.
+    /// Makes the result of an append of many messages: how many were appended, the index of the last one or 0, and why the
+    /// next one was not.
     pub(crate) fn new(count: usize, last: u64, stop: Option<AppendStop>) -> Appended
         ensures { result ≡ record { count = count; last = last; stop = stop } }
     {
@@ -62,7 +63,8 @@ pub(crate) struct ManyRead {
 }
 
 impl ManyRead {
-    /// How many messages were read, the last index, and why no more.
+    /// Makes the result of a read of many messages: how many were read, the index of the last one or 0, and what the next
+    /// read returned, if it read none.
     pub(crate) fn new(count: usize, last: u64, stop: Option<NextInto>) -> ManyRead
         ensures { result ≡ record { count = count; last = last; stop = stop } }
     {
