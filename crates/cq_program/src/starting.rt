@@ -1,6 +1,7 @@
 //! A start of the program: from its command line to its exit status.
 
 ghost use Rattle.std.specs.Prelude.{◌≡◌, IfErr};
+ghost use Rattle.cq_program.specs.Reads.{EndsBasic, EndsFor, HasOrder, ReadsAs};
 ghost use Rattle.cq_program.specs.Starts.{IsBasic};
 ghost use Rattle.cq_program.specs.Statuses.{IsStatus, IsStatusFor, status_of};
 
@@ -73,7 +74,8 @@ fn words<R: AllocGlobal + Env>(rt: &R) -> io::Result<Vec<String>> {
 /// Runs the command in the words of a command line, as `status_of_order` does, and returns the exit status. It fails for `log` and
 /// `race`.
 ///
-/// It is proved that the exit status is `DONE`, `FAULT`, `NOT_UNDERSTOOD` or `NOTHING`.
+/// It is proved that the exit status is `DONE`, `FAULT`, `NOT_UNDERSTOOD` or `NOTHING`: `FAULT` for `log` and `race`, and for words that are
+/// no order the one that says why.
 pub fn basic_status<'a, R, E>(rt: &'a R, errors: &'a E, start: Start) -> u8
 where
     R: AllocGlobal
@@ -87,7 +89,8 @@ where
         + Sync
         + Clone,
     E: Eprint,
-    ensures { IsStatus result }
+    ensures status { IsStatus result }
+    ensures order { EndsFor EndsBasic start.words result }
 {
     match order_in(rt, errors, &start) {
         Ok(order) => {
@@ -165,7 +168,8 @@ pub fn order_in<R: AllocGlobal + Print, E: Eprint>(
     errors: &E,
     start: &Start,
 ) -> Result<Order, u8>
-    ensures { IfErr result IsStatus }
+    ensures status { IfErr result IsStatus }
+    ensures order { HasOrder start.now.words result }
 {
     match read_order(rt, &start.words) {
         Ok(order) => Ok(order),
@@ -178,7 +182,9 @@ pub fn order_in<R: AllocGlobal + Print, E: Eprint>(
 }
 
 /// Returns the order in the words of a command line.
-fn read_order<R: AllocGlobal>(rt: &R, words: &io::Result<Vec<String>>) -> Result<Order, Unread> {
+fn read_order<R: AllocGlobal>(rt: &R, words: &io::Result<Vec<String>>) -> Result<Order, Unread>
+    ensures { ReadsAs words.now result }
+{
     let words = match words {
         Ok(words) => words,
         Err(error) if error.kind() == ErrorKind::InvalidData => return Err(Unread::NoText),
