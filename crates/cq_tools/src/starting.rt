@@ -1,7 +1,9 @@
 //! A start of the program: from its command line to its exit status.
 
 ghost use Rattle.std.specs.Prelude.{◌≡◌, MatchResult};
+ghost use Rattle.cq_program.specs.Reads.{EndsFor};
 ghost use Rattle.cq_program.specs.Statuses.{IsStatus};
+ghost use Rattle.cq_tools.specs.Ends.{EndsWhole};
 
 use cq_orders::Order;
 use cq_program::{DONE, FAULT, Start, fail, order_in, status_of_order};
@@ -18,9 +20,9 @@ use std::thread::Threads;
 /// `errors`, and returns the exit status. On a terminal it also says, on standard error, for how long a command has worked that takes more
 /// than a second, and which cycle a `write` begins.
 ///
-/// It is proved that the exit status is `DONE`, `FAULT`, `NOT_UNDERSTOOD` or `NOTHING`. Which of them an outcome has, an
-/// error, or a command line that is not understood, is proved on private functions, here and in `cq_program`. What a command comes to
-/// over a real folder and real streams is tested.
+/// It is proved that the exit status is `DONE`, `FAULT`, `NOT_UNDERSTOOD` or `NOTHING`: `DONE` or `FAULT` for `log` and `race`, and for words
+/// that are no order the one that says why. Which of them an outcome or an error has is proved on private functions, here and in
+/// `cq_program`. What a command comes to over a real folder and real streams is tested.
 pub fn status<'a, R, E>(rt: &'a R, errors: &'a E, start: Start) -> u8
 where
     R: AllocGlobal
@@ -38,7 +40,8 @@ where
         + 'static,
     R::Reader: Send + Drop + 'static,
     E: Eprint,
-    ensures { IsStatus result }
+    ensures status { IsStatus result }
+    ensures order { EndsFor EndsWhole start.words result }
 {
     match order_in(rt, errors, &start) {
         Ok(order) => {
